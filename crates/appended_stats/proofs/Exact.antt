@@ -14,14 +14,14 @@ use Rattle.level_bounds.specs.Keys.{HaveDifferentCharacters}
 use Rattle.sql_meaning.specs.Databases.{AreCells, AreTables}
 use Rattle.sql_meaning.specs.Tables.{tables_of}
 use Rattle.sql_meaning.proofs.LoopFacts.{rows_are}
-use Rattle.stats_file.specs.declared.types.Pair.{Pair}
+use Rattle.stats_file.specs.declared.types.PairStats.{PairStats}
 use Rattle.stats_file.specs.declared.types.TableStats.{TableStats}
 use Rattle.table_stats.specs.Columns.{column_values, paired, value_of_row}
 use Rattle.table_stats.proofs.DatabaseColumns.{column_is, values_are}
 use Rattle.stats_file_of_query.specs.Pairs.{pair_in_cells, pair_in_table, pair_of_values}
 use Rattle.stats_file_of_query.proofs.SameValues.{pair_is}
-use Rattle.appended_stats.specs.Appended.{alone, pair_after, section_after, values_in}
-use Rattle.appended_stats.specs.Cells.{grown_by_cells, one_by_cells, pair_by_cells, section_by_cells}
+use Rattle.appended_stats.specs.Appended.{tables_of_rows, pair_after, section_after, values_in}
+use Rattle.appended_stats.specs.Cells.{grown_by_cells, section_after_by_cells, pair_by_cells, section_by_cells}
 use Rattle.appended_stats.specs.Grown.{grown_pair}
 use Rattle.appended_stats.proofs.SameRows.{grown_is}
 
@@ -64,39 +64,39 @@ module _ (texts : List (List ℕ)) (differ : HaveDifferentCharacters texts) (cel
     other : IsColumn texts cells.rows (kind_at joined) (cells_at joined)
     other = column_there joined has_joined
 
-    first_same : pair_in_cells texts cells accuracy filter joined ≡ pair_in_table (alone rows) accuracy 0 filter joined
+    first_same : pair_in_cells texts cells accuracy filter joined ≡ pair_in_table (tables_of_rows rows) accuracy 0 filter joined
     first_same =
         pair_is texts differ (kind_at filter) (kind_at joined) (cells_at filter) (cells_at joined) one.cells other.cells (one.height ∙ sym other.height) accuracy filter joined
         ∙ ap (λ (s : List Value). pair_of_values accuracy s (map (value_of_cell texts (kind_at joined)) (cells_at joined)) filter joined) (values_there filter has_filter)
         ∙ ap (λ (s : List Value). pair_of_values accuracy (values_in rows filter) s filter joined) (values_there joined has_joined)
 
-    more_same : (pair : Pair) → grown_pair (value_of_cell texts (kind_at filter)) accuracy (zip (cells_at filter) (cells_at joined)) pair
+    more_same : (pair : PairStats) → grown_pair (value_of_cell texts (kind_at filter)) accuracy (zip (cells_at filter) (cells_at joined)) pair
         ≡ grown_pair (value_of_row (values_in rows filter)) accuracy (paired (values_in rows filter) (values_in rows joined)) pair
     more_same pair =
         grown_is texts differ (kind_at filter) (kind_at joined) (cells_at filter) (cells_at joined) one.cells other.cells (one.height ∙ sym other.height) accuracy pair
         ∙ ap (λ (s : List Value). grown_pair (value_of_row s) accuracy (paired s (map (value_of_cell texts (kind_at joined)) (cells_at joined))) pair) (values_there filter has_filter)
         ∙ ap (λ (s : List Value). grown_pair (value_of_row (values_in rows filter)) accuracy (paired (values_in rows filter) s) pair) (values_there joined has_joined)
 
-  pub pair_same : (accuracy before : ℕ) (pair : Pair) → Exists pair.filter → Exists pair.joined → pair_by_cells texts cells accuracy before pair ≡ pair_after accuracy before rows pair
+  pub pair_same : (accuracy before : ℕ) (pair : PairStats) → Exists pair.filter → Exists pair.joined → pair_by_cells texts cells accuracy before pair ≡ pair_after accuracy before rows pair
   pair_same accuracy before pair has_filter has_joined = by (before == 0)
     where
       by : (b : Bool) → cond b (pair_in_cells texts cells accuracy pair.filter pair.joined) (grown_by_cells texts cells accuracy pair)
-          ≡ cond b (pair_in_table (alone rows) accuracy 0 pair.filter pair.joined)
+          ≡ cond b (pair_in_table (tables_of_rows rows) accuracy 0 pair.filter pair.joined)
           (grown_pair (value_of_row (values_in rows pair.filter)) accuracy (paired (values_in rows pair.filter) (values_in rows pair.joined)) pair)
       by true = first_same accuracy pair.filter pair.joined has_filter has_joined
       by false = more_same accuracy pair.filter pair.joined has_filter has_joined pair
 
-  abbrev HasColumns : Pair → Type 0
+  abbrev HasColumns : PairStats → Type 0
   HasColumns pair = Exists pair.filter × Exists pair.joined
 
-  pairs_same : (accuracy before : ℕ) (pairs : List Pair) → AllByRecursion HasColumns pairs
+  pairs_same : (accuracy before : ℕ) (pairs : List PairStats) → AllByRecursion HasColumns pairs
       → map (pair_by_cells texts cells accuracy before) pairs ≡ map (pair_after accuracy before rows) pairs
   pairs_same accuracy before [] all = refl
   pairs_same accuracy before (pair ∷ pairs) all =
-      ap (λ (p : Pair). p ∷ map (pair_by_cells texts cells accuracy before) pairs) (pair_same accuracy before pair all.0.0 all.0.1)
-      ∙ ap (λ (s : List Pair). pair_after accuracy before rows pair ∷ s) (pairs_same accuracy before pairs all.1)
+      ap (λ (p : PairStats). p ∷ map (pair_by_cells texts cells accuracy before) pairs) (pair_same accuracy before pair all.0.0 all.0.1)
+      ∙ ap (λ (s : List PairStats). pair_after accuracy before rows pair ∷ s) (pairs_same accuracy before pairs all.1)
 
-  section_parts : (table many many' : ℕ) (pairs pairs' : List Pair) → many ≡ many' → pairs ≡ pairs'
+  section_parts : (table many many' : ℕ) (pairs pairs' : List PairStats) → many ≡ many' → pairs ≡ pairs'
       → (let s : TableStats = record { table = table; rows = many; pairs = pairs } in s) ≡ record { table = table; rows = many'; pairs = pairs' }
   section_parts table many many' pairs pairs' h k = rw (h, k) refl
 
@@ -107,21 +107,21 @@ module _ (texts : List (List ℕ)) (differ : HaveDifferentCharacters texts) (cel
       (map (pair_after accuracy section.rows rows) section.pairs) (ap (λ n. section.rows + n) (sym as_many)) (pairs_same accuracy section.rows section.pairs all)
 
   module _ (accuracy table : ℕ) where
-    abbrev pub one_after : TableStats → TableStats
-    one_after section = cond (section.table == table) (section_after accuracy rows section) section
+    abbrev pub section_after_append : TableStats → TableStats
+    section_after_append section = cond (section.table == table) (section_after accuracy rows section) section
 
     abbrev pub HasColumnsWhere : TableStats → Type 0
     HasColumnsWhere section = section.table ≡ table → AllByRecursion HasColumns section.pairs
 
-    one_same : (section : TableStats) → HasColumnsWhere section → one_by_cells texts cells accuracy table section ≡ one_after section
-    one_same section has = elim (cases_Bool (section.table == table)) [
+    section_same_by_cells : (section : TableStats) → HasColumnsWhere section → section_after_by_cells texts cells accuracy table section ≡ section_after_append section
+    section_same_by_cells section has = elim (cases_Bool (section.table == table)) [
       | inl e ↦ (let its = section_same accuracy section (has (eqb-true section.table table e)) in rw e its)
       | inr e ↦ rw e refl
     ]
 
     pub sections_same : (sections : List TableStats) → AllByRecursion HasColumnsWhere sections
-        → map (one_by_cells texts cells accuracy table) sections ≡ map one_after sections
+        → map (section_after_by_cells texts cells accuracy table) sections ≡ map section_after_append sections
     sections_same [] all = refl
     sections_same (section ∷ sections) all =
-        ap (λ (s : TableStats). s ∷ map (one_by_cells texts cells accuracy table) sections) (one_same section all.0)
-        ∙ ap (λ (s : List TableStats). one_after section ∷ s) (sections_same sections all.1)
+        ap (λ (s : TableStats). s ∷ map (section_after_by_cells texts cells accuracy table) sections) (section_same_by_cells section all.0)
+        ∙ ap (λ (s : List TableStats). section_after_append section ∷ s) (sections_same sections all.1)

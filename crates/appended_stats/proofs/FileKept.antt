@@ -19,16 +19,16 @@ use Rattle.schema_types.specs.declared.types.Kind.TheVariants as kind
 use Rattle.schema_types.specs.declared.types.Schema.{Schema}
 use Rattle.schema_types.specs.declared.types.Table.{Table}
 use Rattle.sql_meaning.proofs.ColumnFacts.{column_at}
-use Rattle.stats_file.specs.declared.types.Pair.{Pair}
+use Rattle.stats_file.specs.declared.types.PairStats.{PairStats}
 use Rattle.stats_file.specs.declared.types.StatsFile.{StatsFile}
 use Rattle.stats_file.specs.declared.types.TableStats.{TableStats}
-use Rattle.stats_file.specs.Rules.{Agree, HaveSameFilterCounts, IsPair, IsSection, KeepsRules, StandsBefore}
+use Rattle.stats_file.specs.Rules.{Agree, HaveSameFilterCounts, IsPair, IsSection, KeepsRules, ComesBefore}
 use Rattle.stats_file_of_query.specs.Files.{no_table, table_at}
 use Rattle.stats_file_of_query.specs.Pairs.{pair_in_cells}
 use Rattle.stats_file_of_query.proofs.PairRules.{pairs_mapped}
 use Rattle.stats_file_of_query.proofs.Rules.{agree, pair_kept}
 use Rattle.appended_stats.specs.Appended.{file_after}
-use Rattle.appended_stats.specs.Cells.{grown_by_cells, one_by_cells, pair_by_cells, section_by_cells}
+use Rattle.appended_stats.specs.Cells.{grown_by_cells, section_after_by_cells, pair_by_cells, section_by_cells}
 use Rattle.appended_stats.specs.Conditions.{HasRoom, MayAppend}
 use Rattle.appended_stats.specs.Grown.{grown_pair}
 use Rattle.appended_stats.proofs.Exact.{HasColumnsWhere, sections_same}
@@ -40,10 +40,10 @@ module _ (texts : List (List ℕ)) (differ : HaveDifferentCharacters texts) (utf
   as_many : length cells.kinds ≡ length table.columns
   as_many = ap (λ s. length s) of.kinds ∙ length-map table.columns (λ (column : Column). column.kind)
 
-  pub has_filter : (n : ℕ) (pair : Pair) → IsPair table n pair → pair.filter < length cells.kinds
+  pub has_filter : (n : ℕ) (pair : PairStats) → IsPair table n pair → pair.filter < length cells.kinds
   has_filter n pair is = omega (arith, as_many, slice_get_within table.columns pair.filter is.filter is.filter_is)
 
-  pub has_joined : (n : ℕ) (pair : Pair) → IsPair table n pair → pair.joined < length cells.kinds
+  pub has_joined : (n : ℕ) (pair : PairStats) → IsPair table n pair → pair.joined < length cells.kinds
   has_joined n pair is = omega (arith, as_many, is.joined)
 
   column_there : (column : ℕ) → column < length cells.kinds → IsColumn texts cells.rows (kind_of_column cells column) (cells_of_column cells column)
@@ -56,13 +56,13 @@ module _ (texts : List (List ℕ)) (differ : HaveDifferentCharacters texts) (utf
   rows_many filter joined has_filter has_joined =
       omega (arith, length-zip (cells_of_column cells filter) (cells_of_column cells joined), as_high filter joined has_filter has_joined, (column_there filter has_filter).height)
 
-  abbrev after : ℕ → Pair → Pair
+  abbrev after : ℕ → PairStats → PairStats
   after n pair = pair_by_cells texts cells accuracy n pair
 
-  grown_after : (n : ℕ) (pair : Pair) → after (suc n) pair ≡ grown_by_cells texts cells accuracy pair
+  grown_after : (n : ℕ) (pair : PairStats) → after (suc n) pair ≡ grown_by_cells texts cells accuracy pair
   grown_after n pair = let e : eqb (suc n) 0 ≡ false = ne_eqb (suc n) 0 (λ same. omega (arith, same)) in rw e refl
 
-  kept_after : (n : ℕ) (pair : Pair) → IsPair table n pair → IsPair table (n + cells.rows) (after n pair)
+  kept_after : (n : ℕ) (pair : PairStats) → IsPair table n pair → IsPair table (n + cells.rows) (after n pair)
   kept_after zero pair is =
       let e : cells.rows ≡ 0 + cells.rows = omega arith in
       subst (λ m. IsPair table m (pair_in_cells texts cells accuracy pair.filter pair.joined)) e
@@ -73,11 +73,11 @@ module _ (texts : List (List ℕ)) (differ : HaveDifferentCharacters texts) (utf
       (subst (λ m. IsPair table (suc n + m) (grown_by_cells texts cells accuracy pair)) many
       (grown_kept (value_of_cell texts (kind_of_column cells pair.filter)) accuracy (rows_of_pair cells pair.filter pair.joined) table (suc n) pair (omega arith) is))
 
-  stays_before : (n : ℕ) (a b : Pair) → StandsBefore a b → StandsBefore (after n a) (after n b)
+  stays_before : (n : ℕ) (a b : PairStats) → ComesBefore a b → ComesBefore (after n a) (after n b)
   stays_before zero a b before = before
-  stays_before (suc n) a b before = subst (λ p. StandsBefore p (after (suc n) b)) (sym (grown_after n a)) (subst (λ p. StandsBefore (grown_by_cells texts cells accuracy a) p) (sym (grown_after n b)) before)
+  stays_before (suc n) a b before = subst (λ p. ComesBefore p (after (suc n) b)) (sym (grown_after n a)) (subst (λ p. ComesBefore (grown_by_cells texts cells accuracy a) p) (sym (grown_after n b)) before)
 
-  agree_grown : (n : ℕ) (a b : Pair) → IsPair table n a → IsPair table n b → Agree a b → Agree (grown_by_cells texts cells accuracy a) (grown_by_cells texts cells accuracy b)
+  agree_grown : (n : ℕ) (a b : PairStats) → IsPair table n a → IsPair table n b → Agree a b → Agree (grown_by_cells texts cells accuracy a) (grown_by_cells texts cells accuracy b)
   agree_grown n a b is_a is_b agreed =
       let f_a : a.filter < length cells.kinds = has_filter n a is_a in
       let f_b : b.filter < length cells.kinds = has_filter n b is_b in
@@ -93,24 +93,24 @@ module _ (texts : List (List ℕ)) (differ : HaveDifferentCharacters texts) (utf
             ∙ sym (columns_are (cells_of_column cells a.filter) (cells_of_column cells b.joined) (as_high a.filter b.joined f_a j_b)).0) a b (agreed.filter same));
       }
 
-  agree_after : (n : ℕ) (a b : Pair) → IsPair table n a → IsPair table n b → Agree a b → Agree (after n a) (after n b)
+  agree_after : (n : ℕ) (a b : PairStats) → IsPair table n a → IsPair table n b → Agree a b → Agree (after n a) (after n b)
   agree_after zero a b is_a is_b agreed =
       agree texts differ utf8 table cells of accuracy a.filter a.joined b.filter b.joined (has_filter 0 a is_a) (has_joined 0 a is_a) (has_filter 0 b is_b) (has_joined 0 b is_b)
   agree_after (suc n) a b is_a is_b agreed =
       subst (λ p. Agree p (after (suc n) b)) (sym (grown_after n a))
       (subst (λ p. Agree (grown_by_cells texts cells accuracy a) p) (sym (grown_after n b)) (agree_grown (suc n) a b is_a is_b agreed))
 
-  no_pair : Pair
+  no_pair : PairStats
   no_pair = record { filter = 0; joined = 0; whole = []; frequent = []; rest = []; cuts = []; nodes = [] }
 
-  pub pairs_kept : (n : ℕ) (pairs : List Pair) → All (IsPair table n) pairs → All (IsPair table (n + cells.rows)) (map (after n) pairs)
+  pub pairs_kept : (n : ℕ) (pairs : List PairStats) → All (IsPair table n) pairs → All (IsPair table (n + cells.rows)) (map (after n) pairs)
   pairs_kept n pairs are = All-map (IsPair table (n + cells.rows)) (after n) pairs (λ i d low. kept_after n (get_or pairs i d) (are i d low))
 
-  pub order_kept : (n : ℕ) (pairs : List Pair) → AllPairs StandsBefore pairs → AllPairs StandsBefore (map (after n) pairs)
+  pub order_kept : (n : ℕ) (pairs : List PairStats) → AllPairs ComesBefore pairs → AllPairs ComesBefore (map (after n) pairs)
   order_kept n pairs are =
-      pairs_mapped StandsBefore StandsBefore (after n) pairs no_pair are (λ i j before low stands. stays_before n (get_or pairs i no_pair) (get_or pairs j no_pair) stands)
+      pairs_mapped ComesBefore ComesBefore (after n) pairs no_pair are (λ i j before low stands. stays_before n (get_or pairs i no_pair) (get_or pairs j no_pair) stands)
 
-  pub agree_kept : (n : ℕ) (pairs : List Pair) → All (IsPair table n) pairs → AllPairs Agree pairs → AllPairs Agree (map (after n) pairs)
+  pub agree_kept : (n : ℕ) (pairs : List PairStats) → All (IsPair table n) pairs → AllPairs Agree pairs → AllPairs Agree (map (after n) pairs)
   agree_kept n pairs are agreed =
       pairs_mapped Agree Agree (after n) pairs no_pair agreed
       (λ i j before low one. agree_after n (get_or pairs i no_pair) (get_or pairs j no_pair) (are i no_pair (omega (arith, before, low))) (are j no_pair low) one)
@@ -135,7 +135,7 @@ module _ (schema : Schema) (file : StatsFile) (table : ℕ) (texts : List (List 
       }
 
   abbrev one : TableStats → TableStats
-  one section = one_by_cells texts cells file.accuracy table section
+  one section = section_after_by_cells texts cells file.accuracy table section
 
   one_section : (section : TableStats) → IsSection schema section → HasRoom table cells.rows section → IsSection schema (one section)
   one_section section is room = elim (cases_Bool (section.table == table)) [
@@ -166,10 +166,10 @@ module _ (schema : Schema) (file : StatsFile) (table : ℕ) (texts : List (List 
       (λ i d low its. columns_of (get_or file.tables i d) (may.rules.tables i d low) its)
     where
       columns_of : (section : TableStats) → IsSection schema section → section.table ≡ table
-          → AllByRecursion (λ (pair : Pair). (pair.filter < length cells.kinds) × (pair.joined < length cells.kinds)) section.pairs
+          → AllByRecursion (λ (pair : PairStats). (pair.filter < length cells.kinds) × (pair.joined < length cells.kinds)) section.pairs
       columns_of section is its =
           let of : AreCellsOf is.table texts cells = its_cells section is its in
-          recursion_from_All (λ (pair : Pair). (pair.filter < length cells.kinds) × (pair.joined < length cells.kinds)) section.pairs
+          recursion_from_All (λ (pair : PairStats). (pair.filter < length cells.kinds) × (pair.joined < length cells.kinds)) section.pairs
           (λ i d low. (
             has_filter texts may.differ may.utf8 is.table cells of file.accuracy section.rows (get_or section.pairs i d) (is.pairs i d low),
             has_joined texts may.differ may.utf8 is.table cells of file.accuracy section.rows (get_or section.pairs i d) (is.pairs i d low),
@@ -178,14 +178,14 @@ module _ (schema : Schema) (file : StatsFile) (table : ℕ) (texts : List (List 
   pub file_is : made ≡ file_after file table (rows_of_cells texts cells)
   file_is = rw (sections_same texts may.differ cells may.cells_are.columns file.accuracy table file.tables have_columns) refl
 
-  same_sections : (accuracy : ℕ) (sections : List TableStats) → accuracy ≡ file.accuracy → sections ≡ map (one_by_cells texts cells accuracy table) file.tables
+  same_sections : (accuracy : ℕ) (sections : List TableStats) → accuracy ≡ file.accuracy → sections ≡ map (section_after_by_cells texts cells accuracy table) file.tables
       → sections ≡ map one file.tables
-  same_sections accuracy sections is are = are ∙ ap (λ (a : ℕ). map (one_by_cells texts cells a table) file.tables) is
+  same_sections accuracy sections is are = are ∙ ap (λ (a : ℕ). map (section_after_by_cells texts cells a table) file.tables) is
 
-  pub file_made : (accuracy : ℕ) (sections : List TableStats) → accuracy ≡ file.accuracy → sections ≡ map (one_by_cells texts cells accuracy table) file.tables
+  pub file_made : (accuracy : ℕ) (sections : List TableStats) → accuracy ≡ file.accuracy → sections ≡ map (section_after_by_cells texts cells accuracy table) file.tables
       → (let f : StatsFile = record { accuracy = file.accuracy; tables = sections } in f) ≡ file_after file table (rows_of_cells texts cells)
   file_made accuracy sections is are = rw (same_sections accuracy sections is are) file_is
 
-  pub file_keeps : (accuracy : ℕ) (sections : List TableStats) → accuracy ≡ file.accuracy → sections ≡ map (one_by_cells texts cells accuracy table) file.tables
+  pub file_keeps : (accuracy : ℕ) (sections : List TableStats) → accuracy ≡ file.accuracy → sections ≡ map (section_after_by_cells texts cells accuracy table) file.tables
       → (let f : StatsFile = record { accuracy = file.accuracy; tables = sections } in KeepsRules schema f)
   file_keeps accuracy sections is are = rw (same_sections accuracy sections is are) made_keeps

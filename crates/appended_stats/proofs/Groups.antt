@@ -21,7 +21,7 @@ use Rattle.cond_stats.proofs.Members.{length-keys_where}
 use Rattle.cond_stats.proofs.Sums.{sum-cut_at}
 use Rattle.level_bounds.proofs.Lists.{map_both}
 use Rattle.degree_sequences.specs.Saturation.{saturated}
-use Rattle.appended_stats.specs.Grown.{list_of_any}
+use Rattle.appended_stats.specs.Grown.{list_for_any_of}
 use Rattle.appended_stats.proofs.Small.{all_small_degrees, saturated_small, small_degrees, small_maxima, small_maximum}
 use Rattle.appended_stats.proofs.Walks.{no_key_more, one_key_more}
 
@@ -162,7 +162,7 @@ module _ (groups : List (List ℕ)) (few : All (λ (keys : List ℕ). length key
 -- ---- the groups of the cells in `others`
 
 pub groups_are : (accuracy : ℕ) (rows : List (ℕ × ℕ)) (others : List ℕ) (groups : List (List ℕ)) → groups ≡ map (λ cell. keys_with cell rows) others
-    → list_of_groups accuracy groups ≡ list_of_any accuracy rows others
+    → list_of_groups accuracy groups ≡ list_for_any_of accuracy rows others
 groups_are accuracy rows others groups are =
     ap (list_of_groups accuracy) are
     ∙ ap (λ (s : List (List ℕ)). compressed accuracy (cut_at (maxima s) (greatest (map (λ (keys : List ℕ). length keys) (map (λ cell. keys_with cell rows) others)))))

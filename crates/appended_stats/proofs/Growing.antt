@@ -8,7 +8,7 @@ use Rattle.schema_types.specs.declared.types.Kind.{Kind}
 use Rattle.schema_types.specs.declared.types.Schema.{Schema}
 use Rattle.schema_types.specs.declared.types.Table.{Table}
 use Rattle.stats_file.specs.declared.types.Datum.{Datum}
-use Rattle.stats_file.specs.declared.types.Pair.{Pair}
+use Rattle.stats_file.specs.declared.types.PairStats.{PairStats}
 use Rattle.stats_file.specs.declared.types.StatsFile.{StatsFile}
 use Rattle.stats_file.specs.declared.types.TableStats.{TableStats}
 use Rattle.stats_file.specs.Rules.{IsPair, IsSection, IsHistogramOf}
@@ -25,7 +25,7 @@ nodes_small kd zero cuts nodes few is = λ i d low. absurd (omega (arith, low, a
 nodes_small kd (suc n) cuts nodes few is = λ i d low. omega (arith, (is.lists i d low).within, few)
 
 module _ (schema : Schema) (file : StatsFile) (table : ℕ) (texts : List (List ℕ)) (cells : Cells) (may : MayAppend schema file table texts cells) where
-  pair_may : (t : Table) (n : ℕ) (pair : Pair) → AreCellsOf t texts cells → n + cells.rows ≤ most_rows → IsPair t n pair → MayGrow cells n pair
+  pair_may : (t : Table) (n : ℕ) (pair : PairStats) → AreCellsOf t texts cells → n + cells.rows ≤ most_rows → IsPair t n pair → MayGrow cells n pair
   pair_may t n pair of room is = record {
     filter = has_filter texts may.differ may.utf8 t cells of file.accuracy n pair is;
     joined = has_joined texts may.differ may.utf8 t cells of file.accuracy n pair is;

@@ -10,7 +10,7 @@ use Rattle.std.proofs.lemmas.Slice.Zip.{length-zip}
 use Rattle.cond_stats.specs.Leaves.{in_node}
 use Rattle.cond_stats.specs.Lists.{compressed_degrees, greatest, keys_with, list_where, maxima, whole}
 use Rattle.cond_stats.specs.Rows.{filter_values, keys_where}
-use Rattle.cond_stats.proofs.Maxima.{IsFalling-maxima, greatest-le, greatest-le-sum}
+use Rattle.cond_stats.proofs.Maxima.{IsDescending-maxima, greatest-le, greatest-le-sum}
 use Rattle.cond_stats.proofs.Members.{length-keys_where}
 use Rattle.cond_stats.proofs.Sums.{sum-compressed_degrees, sum-cut_at}
 use Rattle.column_stats.specs.Nodes.{node_sizes}
@@ -19,19 +19,19 @@ use Rattle.csv_tables.specs.Values.{Value}
 use Rattle.degree_sequences.specs.ByRank.{rank_sum}
 use Rattle.degree_sequences.specs.Compression.{compressed}
 use Rattle.degree_sequences.specs.Degrees.{degree, degree_list}
-use Rattle.degree_sequences.specs.Falling.{IsFalling}
+use Rattle.degree_sequences.specs.Descending.{IsDescending}
 use Rattle.degree_sequences.specs.RunningSums.{cut_at}
-use Rattle.degree_sequences.proofs.ByRank.{IsFalling-rank_sum, sum-rank_sum}
+use Rattle.degree_sequences.proofs.ByRank.{IsDescending-rank_sum, sum-rank_sum}
 use Rattle.degree_sequences.proofs.CompressedLists.{sum-compressed}
-use Rattle.degree_sequences.proofs.DegreeLists.{IsFalling-degree_list, sum-degree_list}
-use Rattle.degree_sequences.proofs.Minima.{IsFalling-cut_at}
+use Rattle.degree_sequences.proofs.DegreeLists.{IsDescending-degree_list, sum-degree_list}
+use Rattle.degree_sequences.proofs.Minima.{IsDescending-cut_at}
 use Rattle.level_bounds.proofs.Lists.{map_both}
 use Rattle.piece_math.proofs.Cutting.{positive-cut_at}
 use Rattle.std.proofs.lemmas.List.FromFn.{length-map-range_with_len}
 use Rattle.stats_file.specs.Rules.{IsList}
 use Rattle.stats_file_of_query.proofs.Agreeing.{map-flat}
 use Rattle.stats_file_of_query.proofs.Lists.{is_compressed, where_listed}
-use Rattle.appended_stats.specs.Grown.{list_of_any, lists_of_nodes, lists_of_size, rank_sums}
+use Rattle.appended_stats.specs.Grown.{list_for_any_of, lists_of_nodes, lists_of_size, rank_sums}
 
 -- ---- two lists added rank by rank
 
@@ -42,7 +42,7 @@ positive_sum (x ∷ s) (y ∷ t) some also = (omega (arith, some.0), positive_su
 
 pub added_listed : (n m : ℕ) (s t : List ℕ) → IsList n s → IsList m t → IsList (n + m) (rank_sum s t)
 added_listed n m s t one other = record {
-  falls = IsFalling-rank_sum s t one.falls other.falls;
+  falls = IsDescending-rank_sum s t one.falls other.falls;
   positive = All-from_recursion (λ x. 0 < x) (rank_sum s t)
       (positive_sum s t (recursion_from_All (λ x. 0 < x) s one.positive) (recursion_from_All (λ x. 0 < x) t other.positive));
   within = omega (arith, sum-rank_sum s t, one.within, other.within);
@@ -62,7 +62,7 @@ sums_of_sums (list ∷ lists) (other ∷ others) =
 pub sums_many : (lists others : List (List ℕ)) → length lists ≡ 63 → length others ≡ 63 → length (rank_sums lists others) ≡ 63
 sums_many lists others many also = omega (arith, length-map (zip lists others) (λ (both : List ℕ × List ℕ). rank_sum both.0 both.1), length-zip lists others, many, also)
 
--- ---- `list_of_any`: one list for several values
+-- ---- `list_for_any_of`: one list for several values
 
 module _ (k : ℕ) (rows : List (ℕ × ℕ)) where
   abbrev column : List ℕ
@@ -71,16 +71,16 @@ module _ (k : ℕ) (rows : List (ℕ × ℕ)) where
   abbrev degrees : ℕ → List ℕ
   degrees value = degree_list (keys_with value rows)
 
-  pub falls : (values : List ℕ) → IsFalling (maxima (map degrees values))
-  falls values = IsFalling-maxima degrees (λ value. IsFalling-degree_list (keys_with value rows)) values
+  pub falls : (values : List ℕ) → IsDescending (maxima (map degrees values))
+  falls values = IsDescending-maxima degrees (λ value. IsDescending-degree_list (keys_with value rows)) values
 
-  pub sum-list_of_any : (values : List ℕ) → sum (list_of_any k rows values) ≡ greatest (map (degree column) values)
-  sum-list_of_any values =
+  pub sum-list_for_any_of : (values : List ℕ) → sum (list_for_any_of k rows values) ≡ greatest (map (degree column) values)
+  sum-list_for_any_of values =
       let s : List ℕ = maxima (map degrees values) in
       let n : ℕ = greatest (map (degree column) values) in
       omega (
         arith,
-        sum-compressed k (cut_at s n) (IsFalling-cut_at s n (falls values)),
+        sum-compressed k (cut_at s n) (IsDescending-cut_at s n (falls values)),
         sum-cut_at s n,
         greatest-le-sum degrees (degree column) (λ v. sym (sum-degree_list (keys_with v rows) ∙ length-keys_where (λ other. eqb other v) rows)) values,
       )
@@ -90,12 +90,12 @@ module _ (k : ℕ) (rows : List (ℕ × ℕ)) where
       greatest-le (degree column) values (length rows)
       (λ i d low. omega (arith, count_by-le-length (λ other. eqb other (get_or values i d)) column, length-map rows (λ (row : ℕ × ℕ). row.0)))
 
-  pub any_listed : (values : List ℕ) → IsList (length rows) (list_of_any k rows values)
+  pub any_listed : (values : List ℕ) → IsList (length rows) (list_for_any_of k rows values)
   any_listed values =
       let s : List ℕ = maxima (map degrees values) in
       let n : ℕ = greatest (map (degree column) values) in
-      is_compressed k (cut_at s n) (length rows) (IsFalling-cut_at s n (falls values)) (All-from_recursion (λ x. 0 < x) (cut_at s n) (positive-cut_at s n (falls values)))
-      (omega (arith, sum-list_of_any values, any_few values))
+      is_compressed k (cut_at s n) (length rows) (IsDescending-cut_at s n (falls values)) (All-from_recursion (λ x. 0 < x) (cut_at s n) (positive-cut_at s n (falls values)))
+      (omega (arith, sum-list_for_any_of values, any_few values))
 
   -- ---- the lists of nodes
 

@@ -25,7 +25,7 @@ use Rattle.degree_sequences.proofs.ByRank.{running_sum-rank_sum}
 use Rattle.degree_sequences.proofs.CompressedLists.{compressed-above, compressed_dominates}
 use Rattle.degree_sequences.proofs.Counting.{is_in}
 use Rattle.degree_sequences.proofs.DegreeLists.{degree_list_dominates, sum-degree_list}
-use Rattle.degree_sequences.proofs.Minima.{IsFalling-cut_at, running_sum-cut_at}
+use Rattle.degree_sequences.proofs.Minima.{IsDescending-cut_at, running_sum-cut_at}
 use Rattle.degree_sequences.proofs.RunningSums.{running_sum-le-sum}
 use Rattle.filtered_lists.specs.Standing.{value_in_row}
 use Rattle.level_bounds.proofs.Lists.{range_within}
@@ -33,17 +33,17 @@ use Rattle.relabelling_laws.specs.Relabelling.{AreEqualAlike}
 use Rattle.relabelling_laws.proofs.Dominated.{passing_dominated, rows_dominated}
 use Rattle.relabelling_laws.proofs.Rows.{columns_are, of_rows}
 use Rattle.stats_file.specs.declared.types.Datum.{Datum}
-use Rattle.stats_file.specs.declared.types.Pair.{Pair}
-use Rattle.table_stats.specs.Columns.{column_values, first_row, numbered, paired, value_of_row}
-use Rattle.table_stats.specs.Keys.{TellsValues}
+use Rattle.stats_file.specs.declared.types.PairStats.{PairStats}
+use Rattle.table_stats.specs.Columns.{column_values, first_row, as_first_rows, paired, value_of_row}
+use Rattle.table_stats.specs.Keys.{SeparatesValues}
 use Rattle.table_stats.proofs.ColumnRows.{height, number_at, number_below, number_has, numbers_are, same_number, value_at}
 use Rattle.table_stats.proofs.EqualValues.{alike_le, alike_on_right, equal_back, equal_chain, equal_itself, is_equal}
 use Rattle.table_stats.proofs.FirstRows.{equal_firsts, first_has, first_there, same_first}
 use Rattle.stats_file_of_query.specs.Data.{value_of}
 use Rattle.stats_file_of_query.specs.Standing.{leaf_cut as cut_at_place, is_value, leaf_of_value}
 use Rattle.stats_file_of_query.proofs.Stands.{numbered_pairs}
-use Rattle.appended_stats.specs.Appended.{alone, values_in}
-use Rattle.appended_stats.specs.Grown.{is_frequent, list_of_any, list_with, other_values}
+use Rattle.appended_stats.specs.Appended.{tables_of_rows, values_in}
+use Rattle.appended_stats.specs.Grown.{is_frequent, list_for_any_of, list_with, other_values}
 use Rattle.appended_stats.proofs.NewLists.{falls}
 
 -- ---- lists that are added rank by rank dominate both lists of keys together
@@ -61,7 +61,7 @@ rank_sum_dominates s t keys others one two picked apart =
 pub dominates_none : (s : List ℕ) → DominatesKeys s []
 dominates_none s picked apart = omega arith
 
--- ---- `list_of_any` of some values dominates the keys of each of these values
+-- ---- `list_for_any_of` of some values dominates the keys of each of these values
 
 any_above : (k : ℕ) (rows : List (ℕ × ℕ)) (values : List ℕ) (v : ℕ) → is_in values v ≡ true → (r : ℕ)
     → running_sum (degree_list (keys_with v rows)) r ≤ running_sum (cut_at (maxima (map (λ value. degree_list (keys_with value rows)) values)) (greatest (map (degree (filter_values rows)) values))) r
@@ -77,7 +77,7 @@ any_above k rows values v inside r =
       greatest-above (degree (filter_values rows)) values v inside,
     )
 
-pub any_dominates : (k : ℕ) (rows : List (ℕ × ℕ)) (values : List ℕ) (v : ℕ) → is_in values v ≡ true → DominatesKeys (list_of_any k rows values) (keys_with v rows)
+pub any_dominates : (k : ℕ) (rows : List (ℕ × ℕ)) (values : List ℕ) (v : ℕ) → is_in values v ≡ true → DominatesKeys (list_for_any_of k rows values) (keys_with v rows)
 any_dominates k rows values v inside picked apart =
     let s : List ℕ = maxima (map (λ value. degree_list (keys_with value rows)) values) in
     let n : ℕ = greatest (map (degree (filter_values rows)) values) in
@@ -85,7 +85,7 @@ any_dominates k rows values v inside picked apart =
       arith,
       degree_list_dominates (keys_with v rows) picked apart,
       any_above k rows values v inside (length picked),
-      compressed-above k (cut_at s n) (IsFalling-cut_at s n (falls k rows values)) (length picked),
+      compressed-above k (cut_at s n) (IsDescending-cut_at s n (falls k rows values)) (length picked),
     )
 
 degree-filtered : (p : ℕ → Bool) (v : ℕ) → p v ≡ true → (column : List ℕ) → degree (filter p column) v ≡ degree column v
@@ -98,7 +98,7 @@ degree-filtered p v passes (x ∷ column) = elim (cases_Bool (p x)) [
 ]
 
 others_dominate : (k : ℕ) (rows : List (ℕ × ℕ)) (p : ℕ → Bool) (v : ℕ) → p v ≡ true
-    → DominatesKeys (list_of_any k rows (different (filter p (filter_values rows)))) (keys_with v rows)
+    → DominatesKeys (list_for_any_of k rows (different (filter p (filter_values rows)))) (keys_with v rows)
 others_dominate k rows p v passes = elim (cases_Bool (is_in (different (filter p (filter_values rows))) v)) [
   | inl inside ↦ any_dominates k rows (different (filter p (filter_values rows))) v inside
   | inr missing ↦ (λ picked apart.
@@ -139,13 +139,13 @@ module _ (new : List Row) (k filter_column joined : ℕ) where
   of_row n = value_of_row filters n
 
   abbrev its : ℕ → Value
-  its row = value_in_row (alone new) 0 filter_column row
+  its row = value_in_row (tables_of_rows new) 0 filter_column row
 
   abbrev number : ℕ → ℕ
-  number row = number_at (alone new) 0 filter_column row
+  number row = number_at (tables_of_rows new) 0 filter_column row
 
   abbrev joined_number : ℕ → ℕ
-  joined_number row = number_at (alone new) 0 joined row
+  joined_number row = number_at (tables_of_rows new) 0 joined row
 
   below : (row : ℕ) → Contains rows row → row < many
   below row has = omega (arith, (range_within 0 many row has).1)
@@ -156,38 +156,38 @@ module _ (new : List Row) (k filter_column joined : ℕ) where
 
   passing_are : (test : Value → Bool) → IsAlike test → keys_where (λ n. test (of_row n)) pairs ≡ map joined_number (filter (λ row. test (its row)) rows)
   passing_are test alike =
-      ap (keys_where (λ n. test (of_row n))) (numbered_pairs (alone new) 0 filter_column joined)
+      ap (keys_where (λ n. test (of_row n))) (numbered_pairs (tables_of_rows new) 0 filter_column joined)
       ∙ of_rows number joined_number rows (λ row. test (its row)) (λ n. test (of_row n))
-      (λ row has. alike (of_row (number row)) (its row) (number_has (alone new) 0 filter_column row (below row has)))
+      (λ row has. alike (of_row (number row)) (its row) (number_has (tables_of_rows new) 0 filter_column row (below row has)))
 
   all_are : joined_keys pairs ≡ map joined_number rows
   all_are =
-      (columns_are (numbered filters) (numbered keys)
-      (omega (arith, length-map filters (first_row filters), length-map keys (first_row keys), height (alone new) 0 filter_column, height (alone new) 0 joined))).1
-      ∙ numbers_are (alone new) 0 joined
+      (columns_are (as_first_rows filters) (as_first_rows keys)
+      (omega (arith, length-map filters (first_row filters), length-map keys (first_row keys), height (tables_of_rows new) 0 filter_column, height (tables_of_rows new) 0 joined))).1
+      ∙ numbers_are (tables_of_rows new) 0 joined
 
   -- the number of a value is the row number of the first row that has this value
   number_tells : (value : Value) (row : ℕ) → row < many → eqb (number row) (first_row filters value) ≡ is_equal (its row) value
   number_tells value row low = elim (cases_Bool (is_equal (its row) value)) [
     | inl e ↦ eq-eqb (number row) (first_row filters value) (same_first filters (its row) value e) ∙ sym e
-    | inr e ↦ ne_eqb (number row) (first_row filters value) (λ same. false≢true (sym e ∙ equal_firsts filters (its row) value (number_below (alone new) 0 filter_column row low) same)) ∙ sym e
+    | inr e ↦ ne_eqb (number row) (first_row filters value) (λ same. false≢true (sym e ∙ equal_firsts filters (its row) value (number_below (tables_of_rows new) 0 filter_column row low) same)) ∙ sym e
   ]
 
   with_are : (value : Value) → keys_with (first_row filters value) pairs ≡ map joined_number (filter (λ row. is_equal (its row) value) rows)
   with_are value =
-      ap (keys_where (λ other. eqb other (first_row filters value))) (numbered_pairs (alone new) 0 filter_column joined)
+      ap (keys_where (λ other. eqb other (first_row filters value))) (numbered_pairs (tables_of_rows new) 0 filter_column joined)
       ∙ of_rows number joined_number rows (λ row. is_equal (its row) value) (λ other. eqb other (first_row filters value)) (λ row has. number_tells value row (below row has))
 
   -- ---- domination, for any keys that are equal exactly if the values of the joined column are equal
 
-  module _ (key : ℕ → ℕ) (tells : TellsValues (alone new) 0 joined key) where
+  module _ (key : ℕ → ℕ) (tells : SeparatesValues (tables_of_rows new) 0 joined key) where
     are_alike : AreEqualAlike joined_number key rows
     are_alike row other has also =
         let low : row < many = below row has in
         let low_too : other < many = below other also in (
           (λ same. (tells row other low low_too).1
-              (equal_firsts keys (value_in_row (alone new) 0 joined row) (value_in_row (alone new) 0 joined other) (number_below (alone new) 0 joined row low) same)),
-          (λ same. same_number (alone new) 0 joined row other ((tells row other low low_too).0 same)),
+              (equal_firsts keys (value_in_row (tables_of_rows new) 0 joined row) (value_in_row (tables_of_rows new) 0 joined other) (number_below (tables_of_rows new) 0 joined row low) same)),
+          (λ same. same_number (tables_of_rows new) 0 joined row other ((tells row other low low_too).0 same)),
         )
 
     pub whole_dominates : DominatesKeys (whole k pairs) (map key rows)
@@ -201,9 +201,9 @@ module _ (new : List Row) (k filter_column joined : ℕ) where
         (subst (DominatesKeys made) (passing_are test alike) (compressed_dominates k (keys_where (λ n. test (of_row n)) pairs)))
 
     pub rest_dominates : (frequent : List (Datum × List ℕ)) (value : Value) → is_frequent frequent value ≡ false
-        → DominatesKeys (list_of_any k pairs (other_values of_row pairs frequent)) (map key (filter (λ row. is_equal (its row) value) rows))
+        → DominatesKeys (list_for_any_of k pairs (other_values of_row pairs frequent)) (map key (filter (λ row. is_equal (its row) value) rows))
     rest_dominates frequent value rare =
-        let made : List ℕ = list_of_any k pairs (other_values of_row pairs frequent) in
+        let made : List ℕ = list_for_any_of k pairs (other_values of_row pairs frequent) in
         let n : ℕ = first_row filters value in
         elim (cases_lt n (length filters)) [
           | inl there ↦ (let other : not (is_frequent frequent (of_row n)) ≡ true = ap not (frequent_alike frequent (of_row n) value (first_has filters value there) ∙ rare) in
@@ -221,7 +221,7 @@ module _ (new : List Row) (k filter_column joined : ℕ) where
 
         never : (row : ℕ) → row < many → length filters ≤ first_row filters value → is_equal (its row) value ≡ false
         never row low past = elim (cases_Bool (is_equal (its row) value)) [
-          | inl e ↦ absurd (omega (arith, past, number_below (alone new) 0 filter_column row low, same_first filters (its row) value e))
+          | inl e ↦ absurd (omega (arith, past, number_below (tables_of_rows new) 0 filter_column row low, same_first filters (its row) value e))
           | inr e ↦ e
         ]
 
@@ -230,7 +230,7 @@ module _ (new : List Row) (k filter_column joined : ℕ) where
 pub value_alike : (value : Datum) (a b : Value) → is_equal a b ≡ true → is_value a value ≡ is_value b value
 value_alike value a b same = ap is_eq (alike_on_right a b same (value_of value))
 
-pub leaf_alike : (pair : Pair) (a b : Value) → is_equal a b ≡ true → leaf_of_value pair a ≡ leaf_of_value pair b
+pub leaf_alike : (pair : PairStats) (a b : Value) → is_equal a b ≡ true → leaf_of_value pair a ≡ leaf_of_value pair b
 leaf_alike pair a b same =
     ap (λ (p : ℕ → Bool). last_place p (range_with_len 0 (length pair.cuts)))
     (fun_ext (λ (leaf : ℕ). alike_le (cut_at_place pair leaf) (cut_at_place pair leaf) a b (equal_itself (cut_at_place pair leaf)) same))

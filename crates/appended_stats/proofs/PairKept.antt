@@ -20,14 +20,14 @@ use Rattle.schema_types.specs.declared.types.Kind.{Kind}
 use Rattle.schema_types.specs.declared.types.Table.{Table}
 use Rattle.stats_file.specs.declared.types.Datum.{Datum}
 use Rattle.stats_file.specs.declared.types.Datum.TheVariants as datum
-use Rattle.stats_file.specs.declared.types.Pair.{Pair}
+use Rattle.stats_file.specs.declared.types.PairStats.{PairStats}
 use Rattle.stats_file.specs.Rules.{Agree, AreFrequent, HaveSameFilterCounts, IsList, IsOfKind, IsPair, IsHistogram, IsHistogramOf}
 use Rattle.stats_file_of_query.specs.Data.{value_of}
 use Rattle.stats_file_of_query.specs.Standing.{is_value, leaf_of_value}
 use Rattle.stats_file_of_query.proofs.Agreeing.{whole_same}
 use Rattle.stats_file_of_query.proofs.Lists.{where_listed, whole_listed}
-use Rattle.appended_stats.specs.Grown.{grown_pair, is_frequent, list_of_any, list_with, lists_of_nodes, other_values, rank_sums, with_new_rows}
-use Rattle.appended_stats.proofs.NewLists.{added_listed, all_added_listed, any_listed, node_counts, nodes_listed, nodes_many, sum-list_of_any, sums_many, sums_of_sums}
+use Rattle.appended_stats.specs.Grown.{grown_pair, is_frequent, list_for_any_of, list_with, lists_of_nodes, other_values, rank_sums, with_new_rows}
+use Rattle.appended_stats.proofs.NewLists.{added_listed, all_added_listed, any_listed, node_counts, nodes_listed, nodes_many, sum-list_for_any_of, sums_many, sums_of_sums}
 
 pub nodes_all : (kd : Kind) (n : ℕ) (cuts : List Datum) (nodes : List (List ℕ)) → 0 < n → IsHistogramOf kd n cuts nodes → length nodes ≡ 63
 nodes_all kd zero cuts nodes some is = absurd (omega (arith, some))
@@ -79,7 +79,7 @@ module _ (of_row : ℕ → Value) (k : ℕ) (rows : List (ℕ × ℕ)) where
       subst (λ m. IsHistogramOf kd m cuts (rank_sums nodes (lists_of_nodes leaf k rows))) e
       (subst (λ m. IsHistogram kd m cuts (rank_sums nodes (lists_of_nodes leaf k rows))) (sym e) (some_tree kd (suc n) cuts nodes leaf is))
 
-  pub grown_kept : (table : Table) (n : ℕ) (pair : Pair) → 0 < n → IsPair table n pair → IsPair table (n + new) (grown_pair of_row k rows pair)
+  pub grown_kept : (table : Table) (n : ℕ) (pair : PairStats) → 0 < n → IsPair table n pair → IsPair table (n + new) (grown_pair of_row k rows pair)
   grown_kept table n pair some is = record {
     filter = is.filter;
     filter_is = is.filter_is;
@@ -87,7 +87,7 @@ module _ (of_row : ℕ → Value) (k : ℕ) (rows : List (ℕ × ℕ)) where
     whole = added_listed n new pair.whole (whole k rows) is.whole (whole_listed k new rows (omega arith));
     all_rows = omega (arith, sum-rank_sum pair.whole (whole k rows), is.all_rows, sum-whole k rows);
     frequent = frequent_kept is.filter.kind n pair.frequent is.frequent;
-    rest = added_listed n new pair.rest (list_of_any k rows (other_values of_row rows pair.frequent)) is.rest (any_listed k rows (other_values of_row rows pair.frequent));
+    rest = added_listed n new pair.rest (list_for_any_of k rows (other_values of_row rows pair.frequent)) is.rest (any_listed k rows (other_values of_row rows pair.frequent));
     tree = tree_kept is.filter.kind n pair.cuts pair.nodes (λ m. leaf_of_value pair (of_row m)) some is.tree;
   }
 
@@ -121,7 +121,7 @@ any_by_value : (value : Value) (frequent : List (Datum × List ℕ)) → is_freq
 any_by_value value [] = refl
 any_by_value value (f ∷ frequent) = rw (any_by_value value frequent) refl
 
-module _ (of_row : ℕ → Value) (k : ℕ) (rows others : List (ℕ × ℕ)) (same : filter_values rows ≡ filter_values others) (a b : Pair) (agreed : HaveSameFilterCounts a b) where
+module _ (of_row : ℕ → Value) (k : ℕ) (rows others : List (ℕ × ℕ)) (same : filter_values rows ≡ filter_values others) (a b : PairStats) (agreed : HaveSameFilterCounts a b) where
   -- only the filter column is used, so the counts of two pairs with the same filter column are equal
   abbrev count_of : List ℕ → Datum → ℕ
   count_of column value = count_by (λ n. is_value (of_row n) value) column
@@ -146,11 +146,11 @@ module _ (of_row : ℕ → Value) (k : ℕ) (rows others : List (ℕ × ℕ)) (s
       kept [] = refl
       kept (n ∷ ns) = rw (any_by_value (of_row n) frequent, kept ns) refl
 
-  rest_total : (pairs : List (ℕ × ℕ)) (pair : Pair) → sum (grown_pair of_row k pairs pair).rest
+  rest_total : (pairs : List (ℕ × ℕ)) (pair : PairStats) → sum (grown_pair of_row k pairs pair).rest
       ≡ sum pair.rest + greatest (map (degree (filter_values pairs)) (others_by (values_of pair.frequent) (filter_values pairs)))
   rest_total pairs pair =
-      sum-rank_sum pair.rest (list_of_any k pairs (other_values of_row pairs pair.frequent))
-      ∙ ap (λ n. sum pair.rest + n) (sum-list_of_any k pairs (other_values of_row pairs pair.frequent)
+      sum-rank_sum pair.rest (list_for_any_of k pairs (other_values of_row pairs pair.frequent))
+      ∙ ap (λ n. sum pair.rest + n) (sum-list_for_any_of k pairs (other_values of_row pairs pair.frequent)
       ∙ ap (λ (s : List ℕ). greatest (map (degree (filter_values pairs)) s)) (others_are pairs pair.frequent))
 
   abbrev leaf_by : List Datum → ℕ → ℕ
@@ -159,7 +159,7 @@ module _ (of_row : ℕ → Value) (k : ℕ) (rows others : List (ℕ × ℕ)) (s
   abbrev counts_by : List Datum → List ℕ → List ℕ
   counts_by cuts column = flat_map (λ size. map (λ i. count_by (λ n. in_node size (size * i) (leaf_by cuts n)) column) (range_with_len 0 (32 / size))) node_sizes
 
-  node_totals : (pairs : List (ℕ × ℕ)) (pair : Pair) → map sum (grown_pair of_row k pairs pair).nodes
+  node_totals : (pairs : List (ℕ × ℕ)) (pair : PairStats) → map sum (grown_pair of_row k pairs pair).nodes
       ≡ map (λ (both : ℕ × ℕ). both.0 + both.1) (zip (map sum pair.nodes) (counts_by pair.cuts (filter_values pairs)))
   node_totals pairs pair =
       sums_of_sums pair.nodes (lists_of_nodes (leaf_by pair.cuts) k pairs)

@@ -20,14 +20,14 @@ use Rattle.degree_sequences.specs.Degrees.{degree_list}
 use Rattle.relabelling_laws.proofs.Rows.{columns_are}
 use Rattle.sql_meaning.specs.Databases.{AreCells}
 use Rattle.stats_file.specs.declared.types.Datum.{Datum}
-use Rattle.stats_file.specs.declared.types.Pair.{Pair}
+use Rattle.stats_file.specs.declared.types.PairStats.{PairStats}
 use Rattle.stats_file.specs.Rules.{IsList}
 use Rattle.stats_file_of_query.specs.Standing.{leaf_of_value}
 use Rattle.stats_file_of_query.proofs.Made.{are_its, its_cells, its_height, its_kind}
 use Rattle.stats_file_of_query.proofs.SameValues.{same_parts}
 use Rattle.appended_stats.specs.Cells.{grown_by_cells}
 use Rattle.appended_stats.specs.Conditions.{MayGrow}
-use Rattle.appended_stats.specs.Grown.{grown_pair, list_of_any, lists_of_nodes, other_values, rank_sums, with_new_rows}
+use Rattle.appended_stats.specs.Grown.{grown_pair, list_for_any_of, lists_of_nodes, other_values, rank_sums, with_new_rows}
 use Rattle.appended_stats.proofs.NewLists.{any_listed, nodes_listed, nodes_many}
 
 -- the code puts the rows' leaves beside their keys once. So the list of a node is made without the rows' values
@@ -45,14 +45,14 @@ nodes_by_leaf k f column joined =
     (fun_ext (λ (size : ℕ). ap (λ (node : ℕ → List ℕ). map node (range_with_len 0 (32 / size)))
     (fun_ext (λ (i : ℕ). ap (λ (s : List ℕ). compressed k (degree_list s)) (by_leaf (λ leaf. in_node size (size * i) leaf) f column joined)))))
 
-pub record AreRead (texts : List (List ℕ)) (cells : Cells) (pair : Pair) (kd : Kind) (values keys : List ℕ) : Type 0 where
+pub record AreRead (texts : List (List ℕ)) (cells : Cells) (pair : PairStats) (kd : Kind) (values keys : List ℕ) : Type 0 where
   pub are : AreCells texts cells
   pub may : MayGrow cells 1 pair
   pub kind_is : kind_of_column cells pair.filter ≡ kd
   pub values_are : values ≡ cells_of_column cells pair.filter
   pub keys_are : keys ≡ cells_of_column cells pair.joined
 
-pub are_read : (texts : List (List ℕ)) {cells : Cells} {pair : Pair} {kd : Kind} {values column keys joined : List ℕ} → AreCells texts cells → MayGrow cells 1 pair
+pub are_read : (texts : List (List ℕ)) {cells : Cells} {pair : PairStats} {kd : Kind} {values column keys joined : List ℕ} → AreCells texts cells → MayGrow cells 1 pair
     → slice_get cells.kinds pair.filter ≡ Some kd → slice_get cells.columns pair.filter ≡ Some column → values ≡ column → slice_get cells.columns pair.joined ≡ Some joined → keys ≡ joined
     → AreRead texts cells pair kd values keys
 are_read texts {cells} {pair} {kd} {values} {column} {keys} {joined} are may kind_at column_at values_are joined_at keys_are = record {
@@ -63,7 +63,7 @@ are_read texts {cells} {pair} {kd} {values} {column} {keys} {joined} are may kin
   keys_are = its_cells texts cells are pair.joined may.joined joined keys joined_at keys_are;
 }
 
-module _ {texts : List (List ℕ)} {cells : Cells} {pair : Pair} {kd : Kind} {values keys : List ℕ} (is : AreRead texts cells pair kd values keys) where
+module _ {texts : List (List ℕ)} {cells : Cells} {pair : PairStats} {kd : Kind} {values keys : List ℕ} (is : AreRead texts cells pair kd values keys) where
   pub all_cells : All (IsCell texts kd) values
   all_cells = are_its texts cells is.are pair.filter is.may.filter kd values is.kind_is is.values_are
 
@@ -95,7 +95,7 @@ module _ {texts : List (List ℕ)} {cells : Cells} {pair : Pair} {kd : Kind} {va
     abbrev of_cell : ℕ → Value
     of_cell cell = value_of_cell texts kd cell
 
-    pub rest_small : (others : List ℕ) (list : List ℕ) → list ≡ list_of_any k rows others → sum list < 2 ^ 64
+    pub rest_small : (others : List ℕ) (list : List ℕ) → list ≡ list_for_any_of k rows others → sum list < 2 ^ 64
     rest_small others list made = omega (arith, ap sum made, (any_listed k rows others).within, rows_few)
 
     abbrev leaf : ℕ → ℕ
@@ -122,16 +122,16 @@ module _ {texts : List (List ℕ)} {cells : Cells} {pair : Pair} {kd : Kind} {va
         (λ i d low. omega (arith, (nodes_listed k rows leaf i d low).within, rows_few))
 
     pub pair_made : (all rest w o : List ℕ) (frequent : List (Datum × List ℕ)) (leaves : List ℕ) (lists read own nodes : List (List ℕ)) (often : List (Datum × List ℕ))
-        → w ≡ compressed_degrees k keys → all ≡ rank_sum pair.whole w → often ≡ pair.frequent → o ≡ list_of_any k rows (other_values of_cell rows often) → rest ≡ rank_sum pair.rest o
+        → w ≡ compressed_degrees k keys → all ≡ rank_sum pair.whole w → often ≡ pair.frequent → o ≡ list_for_any_of k rows (other_values of_cell rows often) → rest ≡ rank_sum pair.rest o
         → leaves ≡ map leaf values → lists ≡ lists_of_nodes (λ l. l) k (zip leaves keys) → read ≡ lists → own ≡ pair.nodes → nodes ≡ rank_sums own read
         → frequent ≡ map (with_new_rows of_cell k rows) pair.frequent
-        → (let p : Pair = record { filter = pair.filter; joined = pair.joined; whole = all; frequent = frequent; rest = rest; cuts = pair.cuts; nodes = nodes } in p) ≡ grown_by_cells texts cells k pair
+        → (let p : PairStats = record { filter = pair.filter; joined = pair.joined; whole = all; frequent = frequent; rest = rest; cuts = pair.cuts; nodes = nodes } in p) ≡ grown_by_cells texts cells k pair
     pair_made all rest w o frequent leaves lists read own nodes often w_is all_is often_is o_is rest_is leaves_are lists_are read_is own_is nodes_is frequent_is =
         let second : keys ≡ joined_keys rows = sym (columns_are values keys (sym as_high)).1 in
         same_parts pair.filter pair.joined all (grown_pair of_cell k rows pair).whole rest (grown_pair of_cell k rows pair).rest frequent (grown_pair of_cell k rows pair).frequent pair.cuts pair.cuts
         nodes (grown_pair of_cell k rows pair).nodes
         (all_is ∙ ap (rank_sum pair.whole) (w_is ∙ ap (compressed_degrees k) second)) frequent_is
-        (rest_is ∙ ap (rank_sum pair.rest) (o_is ∙ ap (λ (f : List (Datum × List ℕ)). list_of_any k rows (other_values of_cell rows f)) often_is)) refl
+        (rest_is ∙ ap (rank_sum pair.rest) (o_is ∙ ap (λ (f : List (Datum × List ℕ)). list_for_any_of k rows (other_values of_cell rows f)) often_is)) refl
         (nodes_is ∙ ap (λ (s : List (List ℕ)). rank_sums s read) own_is ∙ ap (rank_sums pair.nodes) (read_is ∙ nodes_are leaves lists leaves_are lists_are))
         ∙ ap (λ (x : Kind). grown_pair (value_of_cell texts x) k rows pair) (sym is.kind_is)
         ∙ ap (λ (s : List ℕ). grown_pair (value_of_cell texts (kind_of_column cells pair.filter)) k (zip s keys) pair) is.values_are

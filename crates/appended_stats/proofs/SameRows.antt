@@ -23,14 +23,14 @@ use Rattle.relabelling_laws.proofs.Mapped.{All-different, degree-mapped, differe
 use Rattle.relabelling_laws.proofs.Rows.{columns_are, whole_is}
 use Rattle.relabelling_laws.proofs.RowsMapped.{All-zip, OfRow, degrees-mapped, zip-renamed}
 use Rattle.stats_file.specs.declared.types.Datum.{Datum}
-use Rattle.stats_file.specs.declared.types.Pair.{Pair}
-use Rattle.table_stats.specs.Columns.{numbered, paired, value_of_row}
+use Rattle.stats_file.specs.declared.types.PairStats.{PairStats}
+use Rattle.table_stats.specs.Columns.{as_first_rows, paired, value_of_row}
 use Rattle.table_stats.proofs.CellColumns.{cell_values, number_of, numbers_of_cells, one_to_one}
 use Rattle.table_stats.proofs.EqualValues.{equal_itself, is_equal}
 use Rattle.table_stats.proofs.FirstRows.{first_has, first_there}
 use Rattle.stats_file_of_query.specs.Standing.{is_value, leaf_of_value}
 use Rattle.stats_file_of_query.proofs.SameValues.{same_parts}
-use Rattle.appended_stats.specs.Grown.{grown_pair, is_frequent, list_of_any, lists_of_nodes, lists_of_size, other_values, rank_sums, with_new_rows}
+use Rattle.appended_stats.specs.Grown.{grown_pair, is_frequent, list_for_any_of, lists_of_nodes, lists_of_size, other_values, rank_sums, with_new_rows}
 
 abbrev with_list : Datum × List ℕ → List ℕ → Datum × List ℕ
 with_list found s = (found.0, s)
@@ -63,7 +63,7 @@ module _ (texts : List (List ℕ)) (differ : HaveDifferentCharacters texts) (kin
 
   rows_are : paired filters keys ≡ rows
   rows_are =
-      ap (λ (s : List ℕ). zip s (numbered keys)) (numbers_of_cells texts differ kind column are_column)
+      ap (λ (s : List ℕ). zip s (as_first_rows keys)) (numbers_of_cells texts differ kind column are_column)
       ∙ ap (λ (s : List ℕ). zip (map row_of column) s) (numbers_of_cells texts differ other joined are_joined)
 
   as_high : length (map row_of column) ≡ length (map key_of joined)
@@ -148,7 +148,7 @@ module _ (texts : List (List ℕ)) (differ : HaveDifferentCharacters texts) (kin
         ∙ ap different (filter-mapped (Contains column) row_of (λ cell. is_other (of_cell cell)) (λ n. is_other (of_row n)) (λ cell has. ap is_other (same_value cell has)) column (its_own column))
         ∙ different-mapped (Contains column) row_of (keeps row_of column apart) cells_of_others inside
 
-    list_same : (values : List ℕ) → AllByRecursion (Contains column) values → list_of_any accuracy rows (map row_of values) ≡ list_of_any accuracy cells values
+    list_same : (values : List ℕ) → AllByRecursion (Contains column) values → list_for_any_of accuracy rows (map row_of values) ≡ list_for_any_of accuracy cells values
     list_same values all =
         ap (λ (s : List (List ℕ)). compressed accuracy (cut_at (maxima s) (greatest (map (degree (filter_values rows)) (map row_of values)))))
         (map-mapped (Contains column) row_of (λ v. degree_list (keys_with v cells)) (λ v. degree_list (keys_with v rows))
@@ -158,23 +158,23 @@ module _ (texts : List (List ℕ)) (differ : HaveDifferentCharacters texts) (kin
         ∙ map-mapped (Contains column) row_of (degree column) (degree (map row_of column)) (degree-mapped (Contains column) row_of (keeps row_of column apart) column (its_own column)) values all
         ∙ ap (λ (c : List ℕ). map (degree c) values) (sym first_of_cells))
 
-    rest_same : list_of_any accuracy rows (other_values of_row rows frequent) ≡ list_of_any accuracy cells (other_values of_cell cells frequent)
+    rest_same : list_for_any_of accuracy rows (other_values of_row rows frequent) ≡ list_for_any_of accuracy cells (other_values of_cell cells frequent)
     rest_same =
-        ap (list_of_any accuracy rows) others_same
+        ap (list_for_any_of accuracy rows) others_same
         ∙ list_same (different cells_of_others) (All-different (Contains column) cells_of_others inside)
-        ∙ ap (λ (s : List ℕ). list_of_any accuracy cells (different (filter (λ cell. is_other (of_cell cell)) s))) (sym first_of_cells)
+        ∙ ap (λ (s : List ℕ). list_for_any_of accuracy cells (different (filter (λ cell. is_other (of_cell cell)) s))) (sym first_of_cells)
 
   -- ---- the pair
 
-  grown_same : (pair : Pair) → grown_pair of_row accuracy rows pair ≡ grown_pair of_cell accuracy cells pair
+  grown_same : (pair : PairStats) → grown_pair of_row accuracy rows pair ≡ grown_pair of_cell accuracy cells pair
   grown_same pair =
       same_parts pair.filter pair.joined (rank_sum pair.whole (whole accuracy rows)) (rank_sum pair.whole (whole accuracy cells))
-      (rank_sum pair.rest (list_of_any accuracy rows (other_values of_row rows pair.frequent))) (rank_sum pair.rest (list_of_any accuracy cells (other_values of_cell cells pair.frequent)))
+      (rank_sum pair.rest (list_for_any_of accuracy rows (other_values of_row rows pair.frequent))) (rank_sum pair.rest (list_for_any_of accuracy cells (other_values of_cell cells pair.frequent)))
       (map (with_new_rows of_row accuracy rows) pair.frequent) (map (with_new_rows of_cell accuracy cells) pair.frequent) pair.cuts pair.cuts
       (rank_sums pair.nodes (lists_of_nodes (λ n. leaf_of_value pair (of_row n)) accuracy rows))
       (rank_sums pair.nodes (lists_of_nodes (λ cell. leaf_of_value pair (of_cell cell)) accuracy cells))
       (ap (rank_sum pair.whole) whole_same) (frequent_same pair.frequent) (ap (rank_sum pair.rest) (rest_same pair.frequent)) refl
       (ap (rank_sums pair.nodes) (nodes_same (leaf_of_value pair)))
 
-  pub grown_is : (pair : Pair) → grown_pair of_cell accuracy cells pair ≡ grown_pair (value_of_row filters) accuracy (paired filters keys) pair
+  pub grown_is : (pair : PairStats) → grown_pair of_cell accuracy cells pair ≡ grown_pair (value_of_row filters) accuracy (paired filters keys) pair
   grown_is pair = sym (ap (λ (s : List (ℕ × ℕ)). grown_pair of_row accuracy s pair) rows_are ∙ grown_same pair)

@@ -4,13 +4,13 @@ use Rattle.std.specs.List.{All}
 use Rattle.std.proofs.lemmas.Bool.{eq-eqb, ne_eqb}
 use Rattle.csv_tables.specs.declared.types.Cells.{Cells}
 use Rattle.stats_file.specs.declared.types.TableStats.{TableStats}
-use Rattle.appended_stats.specs.Cells.{one_by_cells, section_by_cells}
+use Rattle.appended_stats.specs.Cells.{section_after_by_cells, section_by_cells}
 use Rattle.appended_stats.specs.Conditions.{MayGrowWhere, SectionMayGrow}
 use Rattle.appended_stats.proofs.Walks.{one_changed, one_kept, read_all, read_twice}
 
 module _ (texts : List (List ℕ)) (cells : Cells) (accuracy table : ℕ) (sections ys : List TableStats) (i : ℕ) (low : i < length sections) where
   abbrev pub one : TableStats → TableStats
-  one section = one_by_cells texts cells accuracy table section
+  one section = section_after_by_cells texts cells accuracy table section
 
   abbrev pub ArePassed : ℕ → List TableStats → Type 0
   ArePassed n changed = changed ≡ map one (take n sections) ++ drop n sections

@@ -27,12 +27,12 @@ use Rattle.schema_types.specs.declared.types.Kind.{Kind}
 use Rattle.schema_types.specs.declared.types.Table.{Table}
 use Rattle.sql_meaning.specs.Tables.{Tables, row_counts}
 use Rattle.stats_file.specs.declared.types.Datum.{Datum}
-use Rattle.stats_file.specs.declared.types.Pair.{Pair}
+use Rattle.stats_file.specs.declared.types.PairStats.{PairStats}
 use Rattle.stats_file.specs.declared.types.StatsFile.{StatsFile}
 use Rattle.stats_file.specs.declared.types.TableStats.{TableStats}
 use Rattle.stats_file.specs.Rules.{IsPair, IsSection, IsHistogram, IsHistogramOf, KeepsRules}
-use Rattle.table_stats.specs.Columns.{first_row, numbered, paired, value_of_row}
-use Rattle.table_stats.specs.Keys.{TellsValues}
+use Rattle.table_stats.specs.Columns.{first_row, as_first_rows, paired, value_of_row}
+use Rattle.table_stats.specs.Keys.{SeparatesValues}
 use Rattle.table_stats.proofs.ColumnRows.{height}
 use Rattle.table_stats.proofs.EqualValues.{equal_back, equal_chain, is_equal}
 use Rattle.table_stats.proofs.FewerRows.{PassesBoth, all_in_range, fewer_dominated}
@@ -41,9 +41,9 @@ use Rattle.stats_file_of_query.specs.Data.{value_of}
 use Rattle.stats_file_of_query.specs.Pairs.{pair_in_table}
 use Rattle.stats_file_of_query.specs.Standing.{PairStandsFor, SectionStandsFor, StandsFor, is_in_node, is_value, leaf_of_value, list_of_node, list_of_value, section_of}
 use Rattle.stats_file_of_query.proofs.Stands.{pair_stands, seconds}
-use Rattle.appended_stats.specs.Appended.{alone, file_after, pair_after, section_after, values_in}
+use Rattle.appended_stats.specs.Appended.{tables_of_rows, file_after, pair_after, section_after, values_in}
 use Rattle.appended_stats.specs.Conditions.{HasNewRows}
-use Rattle.appended_stats.specs.Grown.{grown_pair, is_frequent, list_of_any, list_with, lists_of_nodes, lists_of_size, other_values, rank_sums, with_new_rows}
+use Rattle.appended_stats.specs.Grown.{grown_pair, is_frequent, list_for_any_of, list_with, lists_of_nodes, lists_of_size, other_values, rank_sums, with_new_rows}
 use Rattle.appended_stats.proofs.NewLists.{nodes_many}
 use Rattle.appended_stats.proofs.NewRows.{leaf_alike, rank_sum_dominates, rest_dominates, value_alike, where_dominates, whole_dominates}
 
@@ -175,41 +175,41 @@ module _ (tables after : Tables) (entry : ℕ) (new : List Row) (are : after ent
   old_value : (column row : ℕ) → row < n → value_in_row after entry column row ≡ value_in_row tables entry column row
   old_value column row low = ap (λ (r : Row). get_or r column (Int (pos 0))) (ap (λ (s : List Row). get_or s row no_row) are ∙ front (tables entry) new row low)
 
-  new_value : (column row : ℕ) → value_in_row after entry column (n + row) ≡ value_in_row (alone new) 0 column row
+  new_value : (column row : ℕ) → value_in_row after entry column (n + row) ≡ value_in_row (tables_of_rows new) 0 column row
   new_value column row = ap (λ (r : Row). get_or r column (Int (pos 0))) (ap (λ (s : List Row). get_or s (n + row) no_row) are ∙ back (tables entry) new row)
 
-  module _ (key : ℕ → ℕ) (joined : ℕ) (tells : TellsValues after entry joined key) where
+  module _ (key : ℕ → ℕ) (joined : ℕ) (tells : SeparatesValues after entry joined key) where
     abbrev new_key : ℕ → ℕ
     new_key row = key (n + row)
 
-    pub tells_before : TellsValues tables entry joined key
+    pub tells_before : SeparatesValues tables entry joined key
     tells_before row other low also =
         let both = tells row other (omega (arith, low, count_is)) (omega (arith, also, count_is)) in
         let same : is_equal (value_in_row after entry joined row) (value_in_row after entry joined other) ≡ is_equal (value_in_row tables entry joined row) (value_in_row tables entry joined other) =
         ap (λ (v : Value). is_equal v (value_in_row after entry joined other)) (old_value joined row low) ∙ ap (is_equal (value_in_row tables entry joined row)) (old_value joined other also) in
         ((λ e. sym same ∙ both.0 e), (λ e. both.1 (same ∙ e)))
 
-    tells_new : TellsValues (alone new) 0 joined new_key
+    tells_new : SeparatesValues (tables_of_rows new) 0 joined new_key
     tells_new row other low also =
         let both = tells (n + row) (n + other) (omega (arith, low, count_is)) (omega (arith, also, count_is)) in
-        let same : is_equal (value_in_row after entry joined (n + row)) (value_in_row after entry joined (n + other)) ≡ is_equal (value_in_row (alone new) 0 joined row) (value_in_row (alone new) 0 joined other) =
-        ap (λ (v : Value). is_equal v (value_in_row after entry joined (n + other))) (new_value joined row) ∙ ap (is_equal (value_in_row (alone new) 0 joined row)) (new_value joined other) in
+        let same : is_equal (value_in_row after entry joined (n + row)) (value_in_row after entry joined (n + other)) ≡ is_equal (value_in_row (tables_of_rows new) 0 joined row) (value_in_row (tables_of_rows new) 0 joined other) =
+        ap (λ (v : Value). is_equal v (value_in_row after entry joined (n + other))) (new_value joined row) ∙ ap (is_equal (value_in_row (tables_of_rows new) 0 joined row)) (new_value joined other) in
         ((λ e. sym same ∙ both.0 e), (λ e. both.1 (same ∙ e)))
 
     both_dominated : (column : ℕ) (test : Value → Bool) (s t : List ℕ)
         → DominatesKeys s (map key (filter (λ row. test (value_in_row tables entry column row)) (range_with_len 0 n)))
-        → DominatesKeys t (map new_key (filter (λ row. test (value_in_row (alone new) 0 column row)) (range_with_len 0 m)))
+        → DominatesKeys t (map new_key (filter (λ row. test (value_in_row (tables_of_rows new) 0 column row)) (range_with_len 0 m)))
         → DominatesKeys (rank_sum s t) (map key (rows_where after entry (λ row. test (value_in_row after entry column row))))
     both_dominated column test s t one two =
         let its : ℕ → Bool = λ row. test (value_in_row after entry column row) in
         let told : ℕ → Bool = λ row. test (value_in_row tables entry column row) in
-        let later : ℕ → Bool = λ row. test (value_in_row (alone new) 0 column row) in
+        let later : ℕ → Bool = λ row. test (value_in_row (tables_of_rows new) 0 column row) in
         subst (DominatesKeys (rank_sum s t))
         (sym (ap (λ c. map key (filter its (range_with_len 0 c))) count_is
         ∙ keys_of_both n m its told later key (λ row low. ap test (old_value column row low)) (λ row low. ap test (new_value column row))))
         (rank_sum_dominates s t (map key (filter told (range_with_len 0 n))) (map new_key (filter later (range_with_len 0 m))) one two)
 
-    module _ (k : ℕ) (pair : Pair) (nodes_are : length pair.nodes ≡ 63) (is_joined : pair.joined ≡ joined) (stood : PairStandsFor pair tables entry key) where
+    module _ (k : ℕ) (pair : PairStats) (nodes_are : length pair.nodes ≡ 63) (is_joined : pair.joined ≡ joined) (stood : PairStandsFor pair tables entry key) where
       abbrev filters : List Value
       filters = values_in new pair.filter
 
@@ -219,34 +219,34 @@ module _ (tables after : Tables) (entry : ℕ) (new : List Row) (are : after ent
       abbrev of_row : ℕ → Value
       of_row i = value_of_row filters i
 
-      abbrev grown : Pair
+      abbrev grown : PairStats
       grown = grown_pair of_row k pairs pair
 
       pairs_many : length pairs ≡ m
       pairs_many =
           omega (
             arith,
-            length-zip (numbered filters) (numbered (values_in new joined)),
+            length-zip (as_first_rows filters) (as_first_rows (values_in new joined)),
             length-map filters (first_row filters),
             length-map (values_in new joined) (first_row (values_in new joined)),
-            height (alone new) 0 pair.filter,
-            height (alone new) 0 joined,
+            height (tables_of_rows new) 0 pair.filter,
+            height (tables_of_rows new) 0 joined,
           )
 
       value_stands : (value : Value) → DominatesKeys (list_of_value grown value) (map key (rows_where after entry (has_value after entry pair.filter value)))
       value_stands value =
           let test : Datum → Bool = λ found. is_value value found in
           let grow : Datum → List ℕ = λ found. list_with of_row k pairs found in
-          let more : List ℕ = list_of_any k pairs (other_values of_row pairs pair.frequent) in
+          let more : List ℕ = list_for_any_of k pairs (other_values of_row pairs pair.frequent) in
           let found : Option (Datum × List ℕ) = find (λ (one : Datum × List ℕ). is_value value one.0) pair.frequent in
-          let rows : List ℕ = map new_key (filter (λ row. is_equal (value_in_row (alone new) 0 pair.filter row) value) (range_with_len 0 m)) in
+          let rows : List ℕ = map new_key (filter (λ row. is_equal (value_in_row (tables_of_rows new) 0 pair.filter row) value) (range_with_len 0 m)) in
           subst (λ (s : List ℕ). DominatesKeys s (map key (rows_where after entry (has_value after entry pair.filter value)))) (sym (look_up test grow pair.frequent pair.rest more))
           (both_dominated pair.filter (λ v. is_equal v value) (list_of_value pair value) (its_more test grow found more) (stood.value value)
           (more_holds test grow (λ s. DominatesKeys s rows) pair.frequent more
-          (λ one passes. fewer_dominated new_key (λ row. is_equal (value_in_row (alone new) 0 pair.filter row) value) (λ row. is_value (value_in_row (alone new) 0 pair.filter row) one)
+          (λ one passes. fewer_dominated new_key (λ row. is_equal (value_in_row (tables_of_rows new) 0 pair.filter row) value) (λ row. is_value (value_in_row (tables_of_rows new) 0 pair.filter row) one)
           (grow one) (range_with_len 0 m)
-          (all_in_range (PassesBoth new_key (λ row. is_equal (value_in_row (alone new) 0 pair.filter row) value) (λ row. is_value (value_in_row (alone new) 0 pair.filter row) one)) 0 m
-          (λ row low has. equal_chain (value_of one) value (value_in_row (alone new) 0 pair.filter row) passes (equal_back (value_in_row (alone new) 0 pair.filter row) value has)))
+          (all_in_range (PassesBoth new_key (λ row. is_equal (value_in_row (tables_of_rows new) 0 pair.filter row) value) (λ row. is_value (value_in_row (tables_of_rows new) 0 pair.filter row) one)) 0 m
+          (λ row low has. equal_chain (value_of one) value (value_in_row (tables_of_rows new) 0 pair.filter row) passes (equal_back (value_in_row (tables_of_rows new) 0 pair.filter row) value has)))
           (where_dominates new k pair.filter joined new_key tells_new (λ v. is_value v one) (value_alike one)))
           (λ rare. rest_dominates new k pair.filter joined new_key tells_new pair.frequent value rare)))
 

@@ -10,37 +10,37 @@ use Rattle.schema_types.specs.declared.types.Schema.{Schema}
 use Rattle.schema_types.specs.declared.types.Table.{Table}
 use Rattle.sql_meaning.specs.Tables.{Tables, row_counts}
 use Rattle.stats_file.specs.declared.types.Datum.{Datum}
-use Rattle.stats_file.specs.declared.types.Pair.{Pair}
+use Rattle.stats_file.specs.declared.types.PairStats.{PairStats}
 use Rattle.stats_file.specs.declared.types.StatsFile.{StatsFile}
 use Rattle.stats_file.specs.declared.types.TableStats.{TableStats}
 use Rattle.stats_file.specs.Rules.{IsPair, IsSection, IsHistogramOf, KeepsRules}
 use Rattle.table_stats.specs.Columns.{paired, value_of_row}
-use Rattle.table_stats.specs.Keys.{TellsValues}
+use Rattle.table_stats.specs.Keys.{SeparatesValues}
 use Rattle.stats_file_of_query.specs.Needs.{table_of}
 use Rattle.stats_file_of_query.specs.Pairs.{pair_in_table}
 use Rattle.stats_file_of_query.specs.Standing.{PairStandsFor, SectionStandsFor, StandsFor, section_of}
 use Rattle.stats_file_of_query.proofs.Finding.{found_in}
 use Rattle.stats_file_of_query.proofs.Stands.{pair_stands}
-use Rattle.appended_stats.specs.Appended.{alone, file_after, pair_after, section_after, values_in}
+use Rattle.appended_stats.specs.Appended.{tables_of_rows, file_after, pair_after, section_after, values_in}
 use Rattle.appended_stats.specs.Conditions.{HasNewRows}
 use Rattle.appended_stats.specs.Grown.{grown_pair}
 use Rattle.appended_stats.proofs.PairKept.{nodes_all}
 use Rattle.appended_stats.proofs.Stands.{count_is, grown_stands, tells_before}
 
--- it doesn't matter to which entry the rows of a pair belong. `alone` makes tables in which every entry has these rows
-pair_moved : (pair : Pair) (tables : Tables) (entry : ℕ) (key : ℕ → ℕ) → PairStandsFor pair (alone (tables entry)) 0 key → PairStandsFor pair tables entry key
+-- it doesn't matter to which entry the rows of a pair belong. `tables_of_rows` makes tables in which every entry has these rows
+pair_moved : (pair : PairStats) (tables : Tables) (entry : ℕ) (key : ℕ → ℕ) → PairStandsFor pair (tables_of_rows (tables entry)) 0 key → PairStandsFor pair tables entry key
 pair_moved pair tables entry key stands = record { rows = stands.rows; whole = stands.whole; value = stands.value; node = stands.node }
 
-pair_back : (pair : Pair) (tables : Tables) (entry : ℕ) (key : ℕ → ℕ) → PairStandsFor pair tables entry key → PairStandsFor pair (alone (tables entry)) 0 key
+pair_back : (pair : PairStats) (tables : Tables) (entry : ℕ) (key : ℕ → ℕ) → PairStandsFor pair tables entry key → PairStandsFor pair (tables_of_rows (tables entry)) 0 key
 pair_back pair tables entry key stands = record { rows = stands.rows; whole = stands.whole; value = stands.value; node = stands.node }
 
-section_moved : (section : TableStats) (tables : Tables) (entry : ℕ) → SectionStandsFor section (alone (tables entry)) 0 → SectionStandsFor section tables entry
+section_moved : (section : TableStats) (tables : Tables) (entry : ℕ) → SectionStandsFor section (tables_of_rows (tables entry)) 0 → SectionStandsFor section tables entry
 section_moved section tables entry stands = record {
   rows = stands.rows;
   pairs = λ i d low key tells. pair_moved (get_or section.pairs i d) tables entry key (stands.pairs i d low key tells);
 }
 
-section_back : (section : TableStats) (tables : Tables) (entry : ℕ) → SectionStandsFor section tables entry → SectionStandsFor section (alone (tables entry)) 0
+section_back : (section : TableStats) (tables : Tables) (entry : ℕ) → SectionStandsFor section tables entry → SectionStandsFor section (tables_of_rows (tables entry)) 0
 section_back section tables entry stands = record {
   rows = stands.rows;
   pairs = λ i d low key tells. pair_back (get_or section.pairs i d) tables entry key (stands.pairs i d low key tells);
@@ -53,19 +53,19 @@ none_there (x ∷ xs) none = absurd (omega (arith, none))
 -- ---- a section
 
 module _ (tables after : Tables) (entry : ℕ) (new : List Row) (are : after entry ≡ tables entry ++ new) (k : ℕ) (table : Table) where
-  pair_still : (before : ℕ) (pair : Pair) → before ≡ row_counts tables entry → IsPair table before pair
-      → ((key : ℕ → ℕ) → TellsValues tables entry pair.joined key → PairStandsFor pair tables entry key)
-      → (key : ℕ → ℕ) → TellsValues after entry (pair_after k before new pair).joined key → PairStandsFor (pair_after k before new pair) after entry key
+  pair_still : (before : ℕ) (pair : PairStats) → before ≡ row_counts tables entry → IsPair table before pair
+      → ((key : ℕ → ℕ) → SeparatesValues tables entry pair.joined key → PairStandsFor pair tables entry key)
+      → (key : ℕ → ℕ) → SeparatesValues after entry (pair_after k before new pair).joined key → PairStandsFor (pair_after k before new pair) after entry key
   pair_still zero pair none is stood key tells =
       let alone_now : after entry ≡ new = are ∙ ap (λ (s : List Row). s ++ new) (none_there (tables entry) (sym none)) in
-      subst (λ (rows : List Row). PairStandsFor (pair_in_table (alone rows) k 0 pair.filter pair.joined) after entry key) alone_now
-      (pair_moved (pair_in_table (alone (after entry)) k 0 pair.filter pair.joined) after entry key (pair_stands (alone (after entry)) k 0 pair.filter pair.joined key tells))
+      subst (λ (rows : List Row). PairStandsFor (pair_in_table (tables_of_rows rows) k 0 pair.filter pair.joined) after entry key) alone_now
+      (pair_moved (pair_in_table (tables_of_rows (after entry)) k 0 pair.filter pair.joined) after entry key (pair_stands (tables_of_rows (after entry)) k 0 pair.filter pair.joined key tells))
   pair_still (suc n) pair some is stood key tells =
       let e : eqb (suc n) 0 ≡ false = ne_eqb (suc n) 0 (λ same. omega (arith, same)) in
-      let grown : Pair = grown_pair (value_of_row (values_in new pair.filter)) k (paired (values_in new pair.filter) (values_in new pair.joined)) pair in
+      let grown : PairStats = grown_pair (value_of_row (values_in new pair.filter)) k (paired (values_in new pair.filter) (values_in new pair.joined)) pair in
       let its : pair_after k (suc n) new pair ≡ grown = rw e refl in
-      let told : TellsValues after entry pair.joined key = subst (λ (p : Pair). TellsValues after entry p.joined key) its tells in
-      subst (λ (p : Pair). PairStandsFor p after entry key) (sym its)
+      let told : SeparatesValues after entry pair.joined key = subst (λ (p : PairStats). SeparatesValues after entry p.joined key) its tells in
+      subst (λ (p : PairStats). PairStandsFor p after entry key) (sym its)
       (grown_stands tables after entry new are key pair.joined told k pair (nodes_all is.filter.kind (suc n) pair.cuts pair.nodes (omega arith) is.tree) refl
       (stood key (tells_before tables after entry new are key pair.joined told)))
 
@@ -73,7 +73,7 @@ module _ (tables after : Tables) (entry : ℕ) (new : List Row) (are : after ent
       → SectionStandsFor (section_after k new section) after entry
   section_still schema section is same stands = record {
     rows = ap (λ r. r + length new) stands.rows ∙ sym (count_is tables after entry new are);
-    pairs = All-map (λ (pair : Pair). (key : ℕ → ℕ) → TellsValues after entry pair.joined key → PairStandsFor pair after entry key) (pair_after k section.rows new) section.pairs
+    pairs = All-map (λ (pair : PairStats). (key : ℕ → ℕ) → SeparatesValues after entry pair.joined key → PairStandsFor pair after entry key) (pair_after k section.rows new) section.pairs
         (λ i d low. pair_still section.rows (get_or section.pairs i d) stands.rows
         (subst (λ t. IsPair t section.rows (get_or section.pairs i d)) same (is.pairs i d low)) (stands.pairs i d low));
   }
@@ -81,22 +81,22 @@ module _ (tables after : Tables) (entry : ℕ) (new : List Row) (are : after ent
 -- ---- a file
 
 module _ (file : StatsFile) (table : ℕ) (new : List Row) where
-  abbrev one : TableStats → TableStats
-  one section = cond (section.table == table) (section_after file.accuracy new section) section
+  abbrev section_or_appended : TableStats → TableStats
+  section_or_appended section = cond (section.table == table) (section_after file.accuracy new section) section
 
-  its_table : (section : TableStats) → (one section).table ≡ section.table
+  its_table : (section : TableStats) → (section_or_appended section).table ≡ section.table
   its_table section = elim (cases_Bool (section.table == table)) [ inl e ↦ rw e refl | inr e ↦ rw e refl ]
 
-  -- `one` is the function that the append applies to each section
-  found_before : (sections : List TableStats) (t : ℕ) (section : TableStats) → find (λ (s : TableStats). s.table == t) (map one sections) ≡ Some section
-      → (old : TableStats) × (find (λ (s : TableStats). s.table == t) sections ≡ Some old) × (section ≡ one old)
+  -- `section_or_appended` is the function that the append applies to each section
+  found_before : (sections : List TableStats) (t : ℕ) (section : TableStats) → find (λ (s : TableStats). s.table == t) (map section_or_appended sections) ≡ Some section
+      → (old : TableStats) × (find (λ (s : TableStats). s.table == t) sections ≡ Some old) × (section ≡ section_or_appended old)
   found_before [] t section none = absurd (cc none)
   found_before (s ∷ sections) t section found = elim (cases_Bool (s.table == t)) [
-    | inl e ↦ (let here : ((one s).table == t) ≡ true = ap (λ (x : ℕ). x == t) (its_table s) ∙ e in
-        let is : Some (one s) ≡ Some section = rw here at found in
-        (s, rw e refl, sym (some_same (one s) section is)))
-    | inr e ↦ (let here : ((one s).table == t) ≡ false = ap (λ (x : ℕ). x == t) (its_table s) ∙ e in
-        let later : find (λ (x : TableStats). x.table == t) (map one sections) ≡ Some section = rw here at found in
+    | inl e ↦ (let here : ((section_or_appended s).table == t) ≡ true = ap (λ (x : ℕ). x == t) (its_table s) ∙ e in
+        let is : Some (section_or_appended s) ≡ Some section = rw here at found in
+        (s, rw e refl, sym (some_same (section_or_appended s) section is)))
+    | inr e ↦ (let here : ((section_or_appended s).table == t) ≡ false = ap (λ (x : ℕ). x == t) (its_table s) ∙ e in
+        let later : find (λ (x : TableStats). x.table == t) (map section_or_appended sections) ≡ Some section = rw here at found in
         let rest = found_before sections t section later in
         (rest.0, rw e rest.1, rest.2))
   ]
@@ -121,6 +121,6 @@ module _ (file : StatsFile) (table : ℕ) (new : List Row) where
         | inr e ↦ (let same : (table_of query entry == table) ≡ false = ap (λ t. t == table) (sym its) ∙ e in
             let as_before : after entry ≡ tables entry = has entry low ∙ ap (λ (b : Bool). cond b (tables entry ++ new) (tables entry)) same in
             let still : SectionStandsFor old.0 after entry =
-            section_moved old.0 after entry (subst (λ (rows : List Row). SectionStandsFor old.0 (alone rows) 0) (sym as_before) (section_back old.0 tables entry before)) in
+            section_moved old.0 after entry (subst (λ (rows : List Row). SectionStandsFor old.0 (tables_of_rows rows) 0) (sym as_before) (section_back old.0 tables entry before)) in
             rw e still)
       ])

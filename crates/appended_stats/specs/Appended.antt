@@ -3,7 +3,7 @@ use Rattle.std.specs.Prelude.{ℕ, ◌+◌, ◌==◌, if◌then◌else◌, List,
 use Rattle.csv_tables.specs.Rows.{Row}
 use Rattle.csv_tables.specs.Values.{Value}
 use Rattle.sql_meaning.specs.Tables.{Tables}
-use Rattle.stats_file.specs.declared.types.Pair.{Pair}
+use Rattle.stats_file.specs.declared.types.PairStats.{PairStats}
 use Rattle.stats_file.specs.declared.types.StatsFile.{StatsFile}
 use Rattle.stats_file.specs.declared.types.TableStats.{TableStats}
 use Rattle.table_stats.specs.Columns.{column_values, paired, value_of_row}
@@ -11,17 +11,17 @@ use Rattle.stats_file_of_query.specs.Pairs.{pair_in_table}
 use Rattle.appended_stats.specs.Grown.{grown_pair}
 
 -- the tables in which each entry has these rows
-abbrev pub alone : List Row → Tables
-alone rows entry = rows
+abbrev pub tables_of_rows : List Row → Tables
+tables_of_rows rows entry = rows
 
 -- the values of these rows in a column
 abbrev pub values_in : List Row → ℕ → List Value
-values_in rows column = column_values (alone rows) 0 column
+values_in rows column = column_values (tables_of_rows rows) 0 column
 
 -- a pair after the append, if its table had `before` rows. If `before` is 0, the pair is made from the new rows alone
-abbrev pub pair_after : ℕ → ℕ → List Row → Pair → Pair
+abbrev pub pair_after : ℕ → ℕ → List Row → PairStats → PairStats
 pair_after accuracy before rows pair =
-    if before == 0 then pair_in_table (alone rows) accuracy 0 pair.filter pair.joined
+    if before == 0 then pair_in_table (tables_of_rows rows) accuracy 0 pair.filter pair.joined
     else grown_pair (value_of_row (values_in rows pair.filter)) accuracy (paired (values_in rows pair.filter) (values_in rows pair.joined)) pair
 
 -- the file's section for the table that gets the rows, as it is after the append

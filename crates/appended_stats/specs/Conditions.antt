@@ -10,7 +10,7 @@ use Rattle.query_types.specs.declared.types.Query.{Query}
 use Rattle.schema_types.specs.declared.types.Schema.{Schema}
 use Rattle.sql_meaning.specs.Tables.{Tables}
 use Rattle.stats_file.specs.declared.types.Datum.{Datum}
-use Rattle.stats_file.specs.declared.types.Pair.{Pair}
+use Rattle.stats_file.specs.declared.types.PairStats.{PairStats}
 use Rattle.stats_file.specs.declared.types.StatsFile.{StatsFile}
 use Rattle.stats_file.specs.declared.types.TableStats.{TableStats}
 use Rattle.stats_file.specs.Rules.{KeepsRules}
@@ -32,7 +32,7 @@ pub record MayAppend (schema : Schema) (file : StatsFile) (table : ℕ) (texts :
 
 -- when a pair may grow: the cells have its two columns and fewer than 2^32 rows. The pair has at most 32 cuts, and the sum of each of its lists is
 -- below 2^32. If its table had rows, the pair has 63 nodes
-pub record MayGrow (cells : Cells) (before : ℕ) (pair : Pair) : Type 0 where
+pub record MayGrow (cells : Cells) (before : ℕ) (pair : PairStats) : Type 0 where
   pub filter : pair.filter < length cells.kinds
   pub joined : pair.joined < length cells.kinds
   pub rows : cells.rows < 2 ^ 32

@@ -1,7 +1,7 @@
 -- Pairs of worked examples, and what they are after an append.
 use Rattle.std.specs.Prelude.{ℕ, List, [], ◌∷◌}
 use Rattle.csv_tables.specs.Rows.{Row}
-use Rattle.stats_file.specs.declared.types.Pair.{Pair}
+use Rattle.stats_file.specs.declared.types.PairStats.{PairStats}
 use Rattle.stats_file_of_query.specs.Examples.{rows_of}
 use Rattle.stats_file_of_query.specs.Pairs.{pair_in_table}
 use Rattle.appended_stats.specs.Appended.{pair_after}
@@ -11,16 +11,16 @@ abbrev pub new_rows : List ℕ → List Row
 new_rows column = rows_of column 0
 
 -- the pair that has this column as its filter column and as its joined column
-abbrev pub of_itself : List ℕ → Pair
+abbrev pub of_itself : List ℕ → PairStats
 of_itself column = pair_in_table (rows_of column) 1 0 0 0
 
-abbrev pub of_six : Pair
-of_six = of_itself (1 ∷ 1 ∷ 1 ∷ 2 ∷ 2 ∷ 3 ∷ [])
+abbrev pub pair_of_six_rows : PairStats
+pair_of_six_rows = of_itself (1 ∷ 1 ∷ 1 ∷ 2 ∷ 2 ∷ 3 ∷ [])
 
 -- the pair of the column 1, 1, 1, 2, 2, 3 after 1 and 4 were appended
-abbrev pub of_eight : Pair
-of_eight = pair_after 1 6 (new_rows (1 ∷ 4 ∷ [])) of_six
+abbrev pub pair_of_eight_rows : PairStats
+pair_of_eight_rows = pair_after 1 6 (new_rows (1 ∷ 4 ∷ [])) pair_of_six_rows
 
 -- the pair of the column 1, 2, 3 after 99 was appended
-abbrev pub of_four : Pair
-of_four = pair_after 1 3 (new_rows (99 ∷ [])) (of_itself (1 ∷ 2 ∷ 3 ∷ []))
+abbrev pub pair_of_four_rows : PairStats
+pair_of_four_rows = pair_after 1 3 (new_rows (99 ∷ [])) (of_itself (1 ∷ 2 ∷ 3 ∷ []))

@@ -12,7 +12,7 @@ use Rattle.degree_sequences.specs.Compression.{compressed}
 use Rattle.degree_sequences.specs.Degrees.{degree, degree_list, different}
 use Rattle.degree_sequences.specs.RunningSums.{cut_at}
 use Rattle.stats_file.specs.declared.types.Datum.{Datum}
-use Rattle.stats_file.specs.declared.types.Pair.{Pair}
+use Rattle.stats_file.specs.declared.types.PairStats.{PairStats}
 use Rattle.stats_file_of_query.specs.Standing.{is_value, leaf_of_value}
 
 -- ---- the lists of the new rows
@@ -31,8 +31,8 @@ other_values value_of rows frequent = different (filter (λ n. not (is_frequent 
 
 -- one list for all of these values: the rank-wise maximum of their degree lists, cut at the number of rows of the most frequent of them, and
 -- compressed. If `values` are all values of a column that aren't frequent, this list is the rest list of cond_stats
-abbrev pub list_of_any : ℕ → List (ℕ × ℕ) → List ℕ → List ℕ
-list_of_any accuracy rows values =
+abbrev pub list_for_any_of : ℕ → List (ℕ × ℕ) → List ℕ → List ℕ
+list_for_any_of accuracy rows values =
     compressed accuracy (cut_at (maxima (map (λ value. degree_list (keys_with value rows)) values)) (greatest (map (degree (filter_values rows)) values)))
 
 -- for each node of a size, the list of the new rows whose leaf lies in it; then these lists for all sizes, in the order of a pair's nodes
@@ -53,13 +53,13 @@ rank_sums lists others = map (λ (both : List ℕ × List ℕ). rank_sum both.0 
 
 -- a pair after new rows: the cuts and the frequent values stay. New values that aren't frequent count in the rest list, and the old cuts say in which
 -- leaf a value lies
-abbrev pub grown_pair : (ℕ → Value) → ℕ → List (ℕ × ℕ) → Pair → Pair
+abbrev pub grown_pair : (ℕ → Value) → ℕ → List (ℕ × ℕ) → PairStats → PairStats
 grown_pair value_of accuracy rows pair = record {
   filter = pair.filter;
   joined = pair.joined;
   whole = rank_sum pair.whole (whole accuracy rows);
   frequent = map (with_new_rows value_of accuracy rows) pair.frequent;
-  rest = rank_sum pair.rest (list_of_any accuracy rows (other_values value_of rows pair.frequent));
+  rest = rank_sum pair.rest (list_for_any_of accuracy rows (other_values value_of rows pair.frequent));
   cuts = pair.cuts;
   nodes = rank_sums pair.nodes (lists_of_nodes (λ n. leaf_of_value pair (value_of n)) accuracy rows);
 }

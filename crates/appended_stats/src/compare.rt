@@ -10,7 +10,7 @@ ghost use Rattle.appended_stats.specs.Grown.{is_frequent};
 use csv_tables::{Pool, compare_texts, value_of};
 use piece_math::Pieces;
 use schema_types::Kind;
-use stats_file::{Datum, Pair};
+use stats_file::{Datum, PairStats};
 use std::cmp::Ordering;
 
 // How a value compares with the value of a cell: numbers by size, texts by code points, and a number is less than every text.
@@ -56,7 +56,7 @@ pub(crate) fn is_frequent(frequent: &[(Datum, Pieces)], pool: &Pool, kind: Kind,
 }
 
 /// The leaf of the value of a cell, by the cuts of a pair.
-pub(crate) fn leaf_of(pair: &Pair, pool: &Pool, kind: Kind, cell: u64) -> u8
+pub(crate) fn leaf_of_cell(pair: &PairStats, pool: &Pool, kind: Kind, cell: u64) -> u8
     requires cell { IsCell pool.now kind cell }
     requires cuts { length pair.now.cuts ≤ 32 }
     ensures leaf { result ≡ leaf_of_value pair.now (value_of_cell pool.now kind cell) }

@@ -4,7 +4,7 @@ ghost use Rattle.csv_tables.specs.Cells.{rows_of_cells};
 ghost use Rattle.sql_meaning.specs.Databases.{AreCells};
 ghost use Rattle.stats_file.specs.Rules.{KeepsRules};
 ghost use Rattle.appended_stats.specs.Appended.{file_after};
-ghost use Rattle.appended_stats.specs.Cells.{one_by_cells, pair_by_cells, section_by_cells};
+ghost use Rattle.appended_stats.specs.Cells.{section_after_by_cells, pair_by_cells, section_by_cells};
 ghost use Rattle.appended_stats.specs.Conditions.{MayAppend, MayGrow, MayGrowWhere, SectionMayGrow};
 
 use crate::pair::pair_after;
@@ -13,12 +13,12 @@ use csv_tables::{Cells, Pool};
 use limits::Accuracy;
 use piece_math::Pieces;
 use schema_types::Schema;
-use stats_file::{Pair, StatsFile, TableStats};
+use stats_file::{PairStats, StatsFile, TableStats};
 use std::alloc::Global;
 
 // A placeholder for a pair while the pair is changed. It takes no memory.
-fn no_pair(alloc: Global) -> Pair {
-    Pair {
+fn no_pair(alloc: Global) -> PairStats {
+    PairStats {
         filter: 0,
         joined: 0,
         whole: Pieces::empty(alloc),
@@ -32,12 +32,12 @@ fn no_pair(alloc: Global) -> Pair {
 // The pairs of a section after the append. Its table had `before` rows.
 fn pairs_after(
     alloc: Global,
-    pairs: Seq<Pair>,
+    pairs: Seq<PairStats>,
     before: u32,
     pool: &Pool,
     cells: &Cells,
     accuracy: Accuracy,
-) -> Result<Seq<Pair>, NoMemory>
+) -> Result<Seq<PairStats>, NoMemory>
     requires cells { AreCells pool.now cells.now }
     requires pairs { All (MayGrow cells.now before) pairs }
     ensures { IfOk result (λ after. after ≡ map (pair_by_cells pool.now cells.now accuracy before) pairs) }
@@ -83,7 +83,7 @@ fn sections_after(
 ) -> Result<Seq<TableStats>, NoMemory>
     requires cells { AreCells pool.now cells.now }
     requires sections { All (MayGrowWhere table cells.now) sections }
-    ensures { IfOk result (λ after. after ≡ map (one_by_cells pool.now cells.now accuracy table) sections) }
+    ensures { IfOk result (λ after. after ≡ map (section_after_by_cells pool.now cells.now accuracy table) sections) }
 {
     let mut after = sections;
     for i in 0..after.len() {

@@ -14,7 +14,7 @@ ghost use Rattle.cond_stats.specs.Rows.{filter_values};
 ghost use Rattle.stats_file_of_query.specs.Standing.{SectionStandsFor, StandsFor};
 ghost use Rattle.appended_stats.specs.Appended.{file_after, section_after};
 ghost use Rattle.appended_stats.specs.Conditions.{HasNewRows};
-ghost use Rattle.appended_stats.specs.Grown.{list_of_any};
+ghost use Rattle.appended_stats.specs.Grown.{list_for_any_of};
 
 /// If a section stands for the rows of a table, the section after the append stands for these rows with the new ones after them.
 pub fn sections_still_stand()
@@ -31,8 +31,8 @@ pub fn files_still_stand()
         → StandsFor query (file_after file table rows) after }
 {}
 
-/// The rest list of a column is `list_of_any` for the column's values that aren't frequent. An append adds a list to the rest list, and this list is
-/// `list_of_any` too: for the values of the new rows that aren't frequent.
-pub fn the_rest_list_is_one_of_them()
-    ensures { (accuracy : ℕ) (rows : List (ℕ × ℕ)) → rest accuracy rows ≡ list_of_any accuracy rows (remaining (filter_values rows)) }
+/// The rest list of a column is `list_for_any_of` for the column's values that aren't frequent. An append adds a list to the rest list, and this list is
+/// `list_for_any_of` too: for the values of the new rows that aren't frequent.
+pub fn the_rest_list_is_for_any_value()
+    ensures { (accuracy : ℕ) (rows : List (ℕ × ℕ)) → rest accuracy rows ≡ list_for_any_of accuracy rows (remaining (filter_values rows)) }
 {}

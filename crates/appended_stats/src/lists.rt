@@ -18,7 +18,7 @@ use stats_file::Datum;
 use std::alloc::Global;
 
 /// Adds two lists rank by rank. Each list sums to less than 2^64.
-pub(crate) fn added(list: &Pieces, other: &Pieces) -> Result<Pieces, NoMemory>
+pub(crate) fn sum_by_rank(list: &Pieces, other: &Pieces) -> Result<Pieces, NoMemory>
     requires list { sum list.now < 2 ^ 64 }
     requires other { sum other.now < 2 ^ 64 }
     ensures { IfOk result (λ added. added ≡ rank_sum list.now other.now) }
@@ -90,7 +90,7 @@ pub(crate) fn grown_frequent(
     let mut grown = frequent;
     for i in 0..grown.len() {
         let more = list_with(alloc, pool, kind, cells, joined, &grown.get(i).0, accuracy)?;
-        let list = added(&grown.get(i).1, &more)?;
+        let list = sum_by_rank(&grown.get(i).1, &more)?;
         // A placeholder lies here until the value goes back with its new list.
         let (value, _) = grown.replace(i, (Datum::Int(0), Pieces::empty(alloc)));
         let _ = grown.replace(i, (value, list));

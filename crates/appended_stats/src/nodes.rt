@@ -8,21 +8,21 @@ ghost use Rattle.cond_stats.specs.Rows.{keys_where};
 ghost use Rattle.stats_file_of_query.specs.Standing.{leaf_of_value};
 ghost use Rattle.appended_stats.specs.Grown.{lists_of_nodes, lists_of_size, rank_sums};
 
-use crate::compare::leaf_of;
-use crate::lists::added;
+use crate::compare::leaf_of_cell;
+use crate::lists::sum_by_rank;
 use base_io::{NoMemory, Seq};
 use cond_stats::whole_list;
 use csv_tables::Pool;
 use limits::Accuracy;
 use piece_math::Pieces;
 use schema_types::Kind;
-use stats_file::Pair;
+use stats_file::PairStats;
 use std::alloc::Global;
 
 /// The leaf of the value of each cell, by the cuts of a pair.
 pub(crate) fn leaves(
     alloc: Global,
-    pair: &Pair,
+    pair: &PairStats,
     pool: &Pool,
     kind: Kind,
     cells: &[u64],
@@ -34,7 +34,7 @@ pub(crate) fn leaves(
 {
     let mut leaves = Vec::with_capacity(alloc, cells.len())?;
     for cell in cells {
-        leaves.push(leaf_of(pair, pool, kind, *cell))?;
+        leaves.push(leaf_of_cell(pair, pool, kind, *cell))?;
     }
     Ok(leaves)
 }
@@ -101,7 +101,7 @@ pub(crate) fn lists_of_nodes(
 }
 
 /// Adds, rank by rank, each of `lists` and the list at the same place in `others`.
-pub(crate) fn all_added(
+pub(crate) fn sums_by_rank(
     alloc: Global,
     lists: &[Pieces],
     others: &[Pieces],
@@ -113,7 +113,7 @@ pub(crate) fn all_added(
 {
     let mut sums = Seq::new(alloc);
     for (i, list) in lists.iter().enumerate() {
-        sums.push(added(list, &others[i])?)?;
+        sums.push(sum_by_rank(list, &others[i])?)?;
     }
     Ok(sums)
 }

@@ -6,25 +6,25 @@ ghost use Rattle.stats_file_of_query.specs.Pairs.{pair_in_cells};
 ghost use Rattle.appended_stats.specs.Cells.{grown_by_cells, pair_by_cells};
 ghost use Rattle.appended_stats.specs.Conditions.{MayGrow};
 
-use crate::lists::{added, grown_frequent};
-use crate::nodes::{all_added, leaves, lists_of_nodes};
+use crate::lists::{grown_frequent, sum_by_rank};
+use crate::nodes::{leaves, lists_of_nodes, sums_by_rank};
 use crate::rest::list_of_others;
 use base_io::NoMemory;
 use cond_stats::whole_list;
 use csv_tables::{Cells, Pool};
 use limits::Accuracy;
-use stats_file::Pair;
+use stats_file::PairStats;
 use stats_file_of_query::pair_of_columns;
 use std::alloc::Global;
 
 // The pair after the append, if its table had rows before.
 fn grown_pair(
     alloc: Global,
-    pair: Pair,
+    pair: PairStats,
     pool: &Pool,
     cells: &Cells,
     accuracy: Accuracy,
-) -> Result<Pair, NoMemory>
+) -> Result<PairStats, NoMemory>
     requires cells { AreCells pool.now cells.now }
     requires pair { MayGrow cells.now 1 pair }
     ensures { IfOk result (λ grown. grown ≡ grown_by_cells pool.now cells.now accuracy pair) }
@@ -32,7 +32,7 @@ fn grown_pair(
     let kind = *cells.kinds.get(pair.filter as usize);
     let values = cells.columns.get(pair.filter as usize).as_slice();
     let keys = cells.columns.get(pair.joined as usize).as_slice();
-    let whole = added(&pair.whole, &whole_list(alloc, keys, accuracy)?)?;
+    let whole = sum_by_rank(&pair.whole, &whole_list(alloc, keys, accuracy)?)?;
     let others = list_of_others(
         alloc,
         pool,
@@ -42,11 +42,11 @@ fn grown_pair(
         pair.frequent.as_slice(),
         accuracy,
     )?;
-    let rest = added(&pair.rest, &others)?;
+    let rest = sum_by_rank(&pair.rest, &others)?;
     let leaves = leaves(alloc, &pair, pool, kind, values)?;
     let more = lists_of_nodes(alloc, leaves.as_slice(), keys, accuracy)?;
-    let nodes = all_added(alloc, pair.nodes.as_slice(), more.as_slice())?;
-    let Pair {
+    let nodes = sums_by_rank(alloc, pair.nodes.as_slice(), more.as_slice())?;
+    let PairStats {
         filter,
         joined,
         frequent,
@@ -54,7 +54,7 @@ fn grown_pair(
         ..
     } = pair;
     let frequent = grown_frequent(alloc, frequent, pool, kind, values, keys, accuracy)?;
-    Ok(Pair {
+    Ok(PairStats {
         filter,
         joined,
         whole,
@@ -68,12 +68,12 @@ fn grown_pair(
 /// The pair after the append, if its table had `before` rows. If `before` is 0, the pair is made from the new rows alone.
 pub(crate) fn pair_after(
     alloc: Global,
-    pair: Pair,
+    pair: PairStats,
     before: u32,
     pool: &Pool,
     cells: &Cells,
     accuracy: Accuracy,
-) -> Result<Pair, NoMemory>
+) -> Result<PairStats, NoMemory>
     requires cells { AreCells pool.now cells.now }
     requires pair { MayGrow cells.now before pair }
     ensures { IfOk result (λ after. after ≡ pair_by_cells pool.now cells.now accuracy before pair) }

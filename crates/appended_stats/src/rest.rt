@@ -6,7 +6,7 @@ ghost use Rattle.cond_stats.specs.Lists.{greatest, keys_with, maxima};
 ghost use Rattle.degree_sequences.specs.Compression.{compressed};
 ghost use Rattle.degree_sequences.specs.Degrees.{degree_list, different};
 ghost use Rattle.degree_sequences.specs.RunningSums.{cut_at};
-ghost use Rattle.appended_stats.specs.Grown.{is_frequent, list_of_any, other_values};
+ghost use Rattle.appended_stats.specs.Grown.{is_frequent, list_for_any_of, other_values};
 
 use crate::compare::is_frequent;
 use base_io::{NoMemory, Seq};
@@ -124,7 +124,7 @@ pub(crate) fn list_of_others(
     requires cells { All (IsCell pool.now kind) cells.now }
     requires joined { length joined.now ≡ length cells.now }
     requires rows { length cells.now < 2 ^ 32 }
-    ensures list { IfOk result (λ list. list ≡ list_of_any accuracy (zip cells.now joined.now)
+    ensures list { IfOk result (λ list. list ≡ list_for_any_of accuracy (zip cells.now joined.now)
         (other_values (value_of_cell pool.now kind) (zip cells.now joined.now) frequent.now)) }
 {
     let others = other_cells(alloc, pool, kind, cells, frequent)?;

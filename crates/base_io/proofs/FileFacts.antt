@@ -3,7 +3,7 @@ use Rattle.std.proofs.Common.{◌≡◌, ℕ, ◌+◌, ◌≤◌, List, ◌++◌
 use Rattle.std.proofs.lemmas.Grind.{common_steps}
 use Rattle.std.proofs.lemmas.List.{take-take, take-append-le}
 use Rattle.std.proofs.Math.Seq.{take-add, take-append-add}
-use Rattle.base_io.specs.Files.{Files, told, ReadsAt, FileAnswer, Nothing, Absent, Present, MayHaveRead, IsFront}
+use Rattle.base_io.specs.Files.{Files, answer_about, ReadsAt, FileAnswer, Unknown, Absent, Present, MayHaveRead, IsFront}
 
 pub block_kept : (items grown into after rest : List ℕ) (at n len : ℕ) → at ≡ length items → take at grown ≡ items → n ≤ length into → at + n ≤ len
     → take (at + n) (take len ((take at grown ++ (into ++ after)) ++ rest)) ≡ items ++ take n into
@@ -22,13 +22,13 @@ front_of all items into n le first more =
     ∙ sym (take-add (length items) n all) ∙ ap (λ k. take k all) (sym long)
 
 pub front_more : (file : FileAnswer) (items into : List ℕ) (n : ℕ) → n ≤ length into → IsFront file items → MayHaveRead file (length items) n into → IsFront file (items ++ take n into)
-front_more Nothing items into n le front gives = tt
+front_more Unknown items into n le front gives = tt
 front_more Absent items into n le front gives = absurd gives
 front_more (Present all) items into n le front gives = front_of all items into n le front gives.same
 
 -- `now` and `before` are the files of one store at two moments, and they are equal
 pub front_more_since : (before now : Option Files) (name items into : List ℕ) (place n : ℕ) → now ≡ before → place ≡ length items
-    → ReadsAt (told now name) place (Ok n) into → IsFront (told before name) items → IsFront (told before name) (items ++ take n into)
+    → ReadsAt (answer_about now name) place (Ok n) into → IsFront (answer_about before name) items → IsFront (answer_about before name) (items ++ take n into)
 front_more_since before now name items into place n same at reads front =
-    let gives : MayHaveRead (told now name) (length items) n into = rw (← at) reads.1 in
-    front_more (told before name) items into n reads.0 front (rw (← same) gives)
+    let gives : MayHaveRead (answer_about now name) (length items) n into = rw (← at) reads.1 in
+    front_more (answer_about before name) items into n reads.0 front (rw (← same) gives)

@@ -1,11 +1,11 @@
--- If steps that write come one after another, the promises `Wrote` or `Put` of the steps give this promise for all of them together.
+-- If steps that write come one after another, the promises `Wrote` or `WroteBuffered` of the steps give this promise for all of them together.
 use Rattle.std.proofs.Common.{◌≡◌, ℕ, ◌+◌, ◌<◌, ◌≤◌, List, [], ◌++◌, take, drop, length, get_or, Option, Result, Ok, Err, ap, sym, ◌∙◌, append_assoc, append-nil, subst, arith}
 use Rattle.std.specs.Prelude.{OnOk, OnErr}
 use Rattle.std.specs.List.{flat_map}
 use Rattle.base_io.specs.Causes.{Rose}
 use Rattle.base_io.specs.Devices.{Growth}
 use Rattle.base_io.specs.Sinks.{appended, GrewByPrefix, TookBut}
-use Rattle.base_io.specs.Writes.{Put, Wrote}
+use Rattle.base_io.specs.Writes.{WroteBuffered, Wrote}
 use Rattle.base_io.specs.declared.errors.Failed.{Failed}
 use Rattle.base_io.proofs.BufferFacts.{cut_next, cut_off, parts_more, took_next, went_on}
 use Rattle.base_io.proofs.CountFacts.{later_then_rose}
@@ -56,7 +56,7 @@ wrote_part_cut {X} {t0} {t1} {t2} {f0} {f1} {f2} {e} f items i d lt took le h = 
 
 -- ---- through a buffer
 
-pub put_none : (t : Option (List ℕ)) (f : ℕ) (w : List ℕ) → Put (between t t f f) w w [] (Ok tt)
+pub put_none : (t : Option (List ℕ)) (f : ℕ) (w : List ℕ) → WroteBuffered (between t t f f) w w [] (Ok tt)
 put_none t f w = record {
   ok = record { front = []; whole = sym (append-nil w); grew = sym (appended-nil t) };
   prefix = prefix_of_none t (w ++ []);
@@ -64,14 +64,14 @@ put_none t f w = record {
   failed = tt;
 }
 
-pub put_as : {g : Growth} {w w' a : List ℕ} {r : Written} (b : List ℕ) → a ≡ b → Put g w w' a r → Put g w w' b r
-put_as {g} {w} {w'} {a} {r} b e h = subst (λ (x : List ℕ). Put g w w' x r) e h
+pub put_as : {g : Growth} {w w' a : List ℕ} {r : Written} (b : List ℕ) → a ≡ b → WroteBuffered g w w' a r → WroteBuffered g w w' b r
+put_as {g} {w} {w'} {a} {r} b e h = subst (λ (x : List ℕ). WroteBuffered g w w' x r) e h
 
-pub put_err : {g : Growth} {w w' a : List ℕ} {x y : Failed} {r : Written} → r ≡ Err y → Put g w w' a (Err x) → Put g w w' a r
-put_err {g} {w} {w'} {a} {x} {y} {r} e h = subst (λ (v : Written). Put g w w' a v) (sym e) (record { ok = tt; prefix = h.prefix; later = h.later; failed = h.failed })
+pub put_err : {g : Growth} {w w' a : List ℕ} {x y : Failed} {r : Written} → r ≡ Err y → WroteBuffered g w w' a (Err x) → WroteBuffered g w w' a r
+put_err {g} {w} {w'} {a} {x} {y} {r} e h = subst (λ (v : Written). WroteBuffered g w w' a v) (sym e) (record { ok = tt; prefix = h.prefix; later = h.later; failed = h.failed })
 
-pub put_then : {t0 t1 t2 : Option (List ℕ)} {f0 f1 f2 : ℕ} {w0 w1 w2 a b : List ℕ} {u : Unit {0}} {r : Written} → Put (between t0 t1 f0 f1) w0 w1 a (Ok u)
-    → Put (between t1 t2 f1 f2) w1 w2 b r → Put (between t0 t2 f0 f2) w0 w2 (a ++ b) r
+pub put_then : {t0 t1 t2 : Option (List ℕ)} {f0 f1 f2 : ℕ} {w0 w1 w2 a b : List ℕ} {u : Unit {0}} {r : Written} → WroteBuffered (between t0 t1 f0 f1) w0 w1 a (Ok u)
+    → WroteBuffered (between t1 t2 f1 f2) w1 w2 b r → WroteBuffered (between t0 t2 f0 f2) w0 w2 (a ++ b) r
 put_then {t0} {t1} {t2} {f0} {f1} {f2} {w0} {w1} {w2} {a} {b} {u} {r} h k = record {
   ok = where_ok r (TookBut t1 t2 w2 (w1 ++ b)) (TookBut t0 t2 w2 (w0 ++ (a ++ b)))
       (λ took. subst (TookBut t0 t2 w2) (append_assoc w0 a b) (took_next t0 t1 t2 w1 w2 (w0 ++ a) b h.ok took)) k.ok;
@@ -80,19 +80,19 @@ put_then {t0} {t1} {t2} {f0} {f1} {f2} {w0} {w1} {w2} {a} {b} {u} {r} h k = reco
   failed = rose_earlier f0 f1 f2 r h.later k.failed;
 }
 
-pub put_cut : {t0 t1 : Option (List ℕ)} {f0 f1 : ℕ} {w0 w1 a : List ℕ} {x : Failed} (b : List ℕ) → Put (between t0 t1 f0 f1) w0 w1 a (Err x)
-    → Put (between t0 t1 f0 f1) w0 w1 (a ++ b) (Err x)
-put_cut {t0} {t1} {f0} {f1} {w0} {w1} {a} {x} b h = record {
+pub put_failed : {t0 t1 : Option (List ℕ)} {f0 f1 : ℕ} {w0 w1 a : List ℕ} {x : Failed} (b : List ℕ) → WroteBuffered (between t0 t1 f0 f1) w0 w1 a (Err x)
+    → WroteBuffered (between t0 t1 f0 f1) w0 w1 (a ++ b) (Err x)
+put_failed {t0} {t1} {f0} {f1} {w0} {w1} {a} {x} b h = record {
   ok = tt;
   prefix = subst (GrewByPrefix t0 t1) (append_assoc w0 a b) (prefix_of_first t0 t1 (w0 ++ a) b h.prefix);
   later = h.later;
   failed = h.failed;
 }
 
-pub put_cut_next : {t0 t1 t2 : Option (List ℕ)} {f0 f1 f2 : ℕ} {w0 w1 w2 done next : List ℕ} {u : Unit {0}} {x : Failed} (left all : List ℕ) → done ++ (next ++ left) ≡ all
-    → Put (between t0 t1 f0 f1) w0 w1 done (Ok u) → Put (between t1 t2 f1 f2) w1 w2 next (Err x) → Put (between t0 t2 f0 f2) w0 w2 all (Err x)
-put_cut_next {t0} {t1} {t2} {f0} {f1} {f2} {w0} {w1} {w2} {done} {next} {u} {x} left all whole h k =
-    put_as all (append_assoc done next left ∙ whole) (put_cut {a = done ++ next} left (put_then h k))
+pub put_failed_next : {t0 t1 t2 : Option (List ℕ)} {f0 f1 f2 : ℕ} {w0 w1 w2 done next : List ℕ} {u : Unit {0}} {x : Failed} (left all : List ℕ) → done ++ (next ++ left) ≡ all
+    → WroteBuffered (between t0 t1 f0 f1) w0 w1 done (Ok u) → WroteBuffered (between t1 t2 f1 f2) w1 w2 next (Err x) → WroteBuffered (between t0 t2 f0 f2) w0 w2 all (Err x)
+put_failed_next {t0} {t1} {t2} {f0} {f1} {f2} {w0} {w1} {w2} {done} {next} {u} {x} left all whole h k =
+    put_as all (append_assoc done next left ∙ whole) (put_failed {a = done ++ next} left (put_then h k))
 
 -- ---- items that are written one after another
 
@@ -102,30 +102,30 @@ parts_whole f parts i d lt =
     sym (append_assoc (flat_map f (take i parts)) (f (get_or parts i d)) (flat_map f (drop (i + 1) parts))) ∙ parts_split f parts i d lt
 
 pub put_part : {X : Type 0} {t0 t1 t2 : Option (List ℕ)} {f0 f1 f2 : ℕ} {w0 w1 w2 : List ℕ} {u v : Unit {0}} (f : X → List ℕ) (items : List X) (i : ℕ) (d : X)
-    → i < length items → Put (between t0 t1 f0 f1) w0 w1 (flat_map f (take i items)) (Ok u) → Put (between t1 t2 f1 f2) w1 w2 (f (get_or items i d)) (Ok v)
-    → Put (between t0 t2 f0 f2) w0 w2 (flat_map f (take (i + 1) items)) (Ok tt)
+    → i < length items → WroteBuffered (between t0 t1 f0 f1) w0 w1 (flat_map f (take i items)) (Ok u) → WroteBuffered (between t1 t2 f1 f2) w1 w2 (f (get_or items i d)) (Ok v)
+    → WroteBuffered (between t0 t2 f0 f2) w0 w2 (flat_map f (take (i + 1) items)) (Ok tt)
 put_part f items i d lt h k = put_as (flat_map f (take (i + 1) items)) (parts_more f items i d lt) (put_then h k)
 
-pub put_part_cut : {X : Type 0} {t0 t1 t2 : Option (List ℕ)} {f0 f1 f2 : ℕ} {w0 w1 w2 : List ℕ} {u : Unit {0}} {e : Failed} (f : X → List ℕ) (items : List X) (i : ℕ) (d : X)
-    → i < length items → Put (between t0 t1 f0 f1) w0 w1 (flat_map f (take i items)) (Ok u) → Put (between t1 t2 f1 f2) w1 w2 (f (get_or items i d)) (Err e)
-    → Put (between t0 t2 f0 f2) w0 w2 (flat_map f items) (Err e)
-put_part_cut f items i d lt h k = put_cut_next (flat_map f (drop (i + 1) items)) (flat_map f items) (parts_whole f items i d lt) h k
+pub put_part_failed : {X : Type 0} {t0 t1 t2 : Option (List ℕ)} {f0 f1 f2 : ℕ} {w0 w1 w2 : List ℕ} {u : Unit {0}} {e : Failed} (f : X → List ℕ) (items : List X) (i : ℕ) (d : X)
+    → i < length items → WroteBuffered (between t0 t1 f0 f1) w0 w1 (flat_map f (take i items)) (Ok u) → WroteBuffered (between t1 t2 f1 f2) w1 w2 (f (get_or items i d)) (Err e)
+    → WroteBuffered (between t0 t2 f0 f2) w0 w2 (flat_map f items) (Err e)
+put_part_failed f items i d lt h k = put_failed_next (flat_map f (drop (i + 1) items)) (flat_map f items) (parts_whole f items i d lt) h k
 
--- `put_item` and `put_item_cut` are `put_part` and `put_part_cut` with names for the item (`x`) and for its text (`text`)
+-- `put_item` and `put_item_failed` are `put_part` and `put_part_failed` with names for the item (`x`) and for its text (`text`)
 pub put_item : {X : Type 0} {t0 t1 t2 : Option (List ℕ)} {f0 f1 f2 : ℕ} {w0 w1 w2 text : List ℕ} {u v : Unit {0}} (f : X → List ℕ) (items : List X) (i : ℕ) (x : X)
-    → i < length items → x ≡ get_or items i x → text ≡ f x → Put (between t0 t1 f0 f1) w0 w1 (flat_map f (take i items)) (Ok u) → Put (between t1 t2 f1 f2) w1 w2 text (Ok v)
-    → Put (between t0 t2 f0 f2) w0 w2 (flat_map f (take (i + 1) items)) (Ok tt)
+    → i < length items → x ≡ get_or items i x → text ≡ f x → WroteBuffered (between t0 t1 f0 f1) w0 w1 (flat_map f (take i items)) (Ok u) → WroteBuffered (between t1 t2 f1 f2) w1 w2 text (Ok v)
+    → WroteBuffered (between t0 t2 f0 f2) w0 w2 (flat_map f (take (i + 1) items)) (Ok tt)
 put_item f items i x lt at' is h k = put_part f items i x lt h (put_as (f (get_or items i x)) (is ∙ ap f at') k)
 
-pub put_item_cut : {X : Type 0} {t0 t1 t2 : Option (List ℕ)} {f0 f1 f2 : ℕ} {w0 w1 w2 text : List ℕ} {u : Unit {0}} {e : Failed} (f : X → List ℕ) (items : List X) (i : ℕ) (x : X)
-    → i < length items → x ≡ get_or items i x → text ≡ f x → Put (between t0 t1 f0 f1) w0 w1 (flat_map f (take i items)) (Ok u) → Put (between t1 t2 f1 f2) w1 w2 text (Err e)
-    → Put (between t0 t2 f0 f2) w0 w2 (flat_map f items) (Err e)
-put_item_cut f items i x lt at' is h k = put_part_cut f items i x lt h (put_as (f (get_or items i x)) (is ∙ ap f at') k)
+pub put_item_failed : {X : Type 0} {t0 t1 t2 : Option (List ℕ)} {f0 f1 f2 : ℕ} {w0 w1 w2 text : List ℕ} {u : Unit {0}} {e : Failed} (f : X → List ℕ) (items : List X) (i : ℕ) (x : X)
+    → i < length items → x ≡ get_or items i x → text ≡ f x → WroteBuffered (between t0 t1 f0 f1) w0 w1 (flat_map f (take i items)) (Ok u) → WroteBuffered (between t1 t2 f1 f2) w1 w2 text (Err e)
+    → WroteBuffered (between t0 t2 f0 f2) w0 w2 (flat_map f items) (Err e)
+put_item_failed f items i x lt at' is h k = put_part_failed f items i x lt h (put_as (f (get_or items i x)) (is ∙ ap f at') k)
 
 -- ---- the waiting bytes go on to the sink
 
 pub put_past : {t0 t1 t2 : Option (List ℕ)} {f0 f1 f2 : ℕ} {w w' text : List ℕ} {u : Unit {0}} {r : Written} → w' ≡ [] → Wrote (between t0 t1 f0 f1) w (Ok u)
-    → Wrote (between t1 t2 f1 f2) text r → Put (between t0 t2 f0 f2) w w' text r
+    → Wrote (between t1 t2 f1 f2) text r → WroteBuffered (between t0 t2 f0 f2) w w' text r
 put_past {t0} {t1} {t2} {f0} {f1} {f2} {w} {w'} {text} {u} {r} empty h k =
     let both : Wrote (between t0 t2 f0 f2) (w ++ text) r = wrote_then h k in
     record {
@@ -137,10 +137,10 @@ put_past {t0} {t1} {t2} {f0} {f1} {f2} {w} {w'} {text} {u} {r} empty h k =
     }
 
 pub put_stuck : {t0 t1 : Option (List ℕ)} {f0 f1 : ℕ} {w w' : List ℕ} {x : Failed} (text : List ℕ) → Wrote (between t0 t1 f0 f1) w (Err x)
-    → Put (between t0 t1 f0 f1) w w' text (Err x)
+    → WroteBuffered (between t0 t1 f0 f1) w w' text (Err x)
 put_stuck {t0} {t1} {f0} {f1} {w} {w'} {x} text h = record { ok = tt; prefix = prefix_of_first t0 t1 w text h.prefix; later = h.later; failed = h.failed }
 
-pub flushed : {t0 t1 t2 : Option (List ℕ)} {f0 f1 f2 : ℕ} {w0 w1 a : List ℕ} {u : Unit {0}} {r : Written} → w0 ≡ [] → Put (between t0 t1 f0 f1) w0 w1 a (Ok u)
+pub flushed : {t0 t1 t2 : Option (List ℕ)} {f0 f1 f2 : ℕ} {w0 w1 a : List ℕ} {u : Unit {0}} {r : Written} → w0 ≡ [] → WroteBuffered (between t0 t1 f0 f1) w0 w1 a (Ok u)
     → Wrote (between t1 t2 f1 f2) w1 r → Wrote (between t0 t2 f0 f2) a r
 flushed {t0} {t1} {t2} {f0} {f1} {f2} {w0} {w1} {a} {u} {r} empty h k =
     let took : TookBut t0 t1 w1 a = subst (λ (w : List ℕ). TookBut t0 t1 w1 (w ++ a)) empty h.ok in
@@ -151,7 +151,7 @@ flushed {t0} {t1} {t2} {f0} {f1} {f2} {w0} {w1} {a} {u} {r} empty h k =
       failed = rose_earlier f0 f1 f2 r h.later k.failed;
     }
 
-pub wrote_err : {t0 t1 : Option (List ℕ)} {f0 f1 : ℕ} {w0 w1 a : List ℕ} {x y : Failed} {r : Written} → w0 ≡ [] → r ≡ Err y → Put (between t0 t1 f0 f1) w0 w1 a (Err x)
+pub wrote_err : {t0 t1 : Option (List ℕ)} {f0 f1 : ℕ} {w0 w1 a : List ℕ} {x y : Failed} {r : Written} → w0 ≡ [] → r ≡ Err y → WroteBuffered (between t0 t1 f0 f1) w0 w1 a (Err x)
     → Wrote (between t0 t1 f0 f1) a r
 wrote_err {t0} {t1} {f0} {f1} {w0} {w1} {a} {x} {y} {r} empty e h =
     wrote_failed e (record { ok = tt; prefix = subst (λ (w : List ℕ). GrewByPrefix t0 t1 (w ++ a)) empty h.prefix; later = h.later; failed = h.failed })

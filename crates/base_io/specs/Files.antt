@@ -17,17 +17,17 @@ file_of (file ∷ rest) name = if bytes_eq file.0 name then Some file.1 else fil
 
 -- what a store tells about a name: nothing, that there is no file of this name, or the file's bytes
 pub data FileAnswer : Type 0 where
-  Nothing : FileAnswer
+  Unknown : FileAnswer
   Absent : FileAnswer
   Present : List ℕ → FileAnswer
 
-abbrev pub told_file : Option (List ℕ) → FileAnswer
-told_file None = Absent
-told_file (Some bytes) = Present bytes
+abbrev pub answer_of_contents : Option (List ℕ) → FileAnswer
+answer_of_contents None = Absent
+answer_of_contents (Some bytes) = Present bytes
 
-abbrev pub told : Option Files → List ℕ → FileAnswer
-told None name = Nothing
-told (Some files) name = told_file (file_of files name)
+abbrev pub answer_about : Option Files → List ℕ → FileAnswer
+answer_about None name = Unknown
+answer_about (Some files) name = answer_of_contents (file_of files name)
 
 -- `count` bytes of a file, from the offset `place` on, are at the front of a buffer. `count` is 0 exactly if this offset is the file's end or past it
 pub record Fills (bytes : List ℕ) (place count : ℕ) (into : List ℕ) : Type 0 where
@@ -37,13 +37,13 @@ pub record Fills (bytes : List ℕ) (place count : ℕ) (into : List ℕ) : Type
 
 -- a read may have answered Ok with this many bytes; a read of an absent file never answers Ok, not even with 0 bytes
 abbrev pub MayHaveRead : FileAnswer → ℕ → ℕ → List ℕ → Type 0
-MayHaveRead Nothing place count into = ⊤
+MayHaveRead Unknown place count into = ⊤
 MayHaveRead Absent place count into = ⊥
 MayHaveRead (Present bytes) place count into = Fills bytes place count into
 
 -- the store tells its files, and the name is not among them
 abbrev pub IsAbsent : FileAnswer → Type 0
-IsAbsent Nothing = ⊥
+IsAbsent Unknown = ⊥
 IsAbsent Absent = ⊤
 IsAbsent (Present bytes) = ⊥
 
@@ -55,13 +55,13 @@ ReadsAt file place (Err store.Failed) into = ⊤
 
 -- these may be all bytes of the file
 abbrev pub IsWhole : FileAnswer → List ℕ → Type 0
-IsWhole Nothing bytes = ⊤
+IsWhole Unknown bytes = ⊤
 IsWhole Absent bytes = ⊥
 IsWhole (Present all) bytes = bytes ≡ all
 
 -- the file may have more than `limit` bytes
 abbrev pub IsLonger : FileAnswer → ℕ → Type 0
-IsLonger Nothing limit = ⊤
+IsLonger Unknown limit = ⊤
 IsLonger Absent limit = ⊥
 IsLonger (Present all) limit = limit < length all
 
@@ -75,6 +75,6 @@ ReadsFile file limit (Err read.NoMemory) = ⊤
 
 -- these may be the first bytes of the file. If the file is absent, there are no bytes
 abbrev pub IsFront : FileAnswer → List ℕ → Type 0
-IsFront Nothing bytes = ⊤
+IsFront Unknown bytes = ⊤
 IsFront Absent bytes = bytes ≡ []
 IsFront (Present all) bytes = bytes ≡ take (length bytes) all

@@ -15,7 +15,7 @@ pub record Wrote (sink : Growth) (text : List ℕ) (result : Result (Unit {0}) F
 
 -- the same promise for a step that writes through a buffer. `waiting` are the bytes that wait in the buffer before the step, and `left` the bytes
 -- that wait after it
-pub record Put (sink : Growth) (waiting left text : List ℕ) (result : Result (Unit {0}) Failed) : Type 0 where
+pub record WroteBuffered (sink : Growth) (waiting left text : List ℕ) (result : Result (Unit {0}) Failed) : Type 0 where
   pub ok : OnOk result (TookBut sink.taken_before sink.taken_after left (waiting ++ text))
   pub prefix : GrewByPrefix sink.taken_before sink.taken_after (waiting ++ text)
   pub later : sink.faults_before ≤ sink.faults_after

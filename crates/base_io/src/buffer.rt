@@ -2,7 +2,7 @@
 ghost use Rattle.std.specs.Prelude.{◌≡◌, ◌≤◌, ◌+◌, ◌++◌, [], length, OnOk};
 ghost use Rattle.std.specs.List.{flat_map};
 ghost use Rattle.base_io.specs.Devices.{growth};
-ghost use Rattle.base_io.specs.Writes.{Put, Wrote};
+ghost use Rattle.base_io.specs.Writes.{WroteBuffered, Wrote};
 
 use crate::{Failed, Sink, write_all};
 use std::marker::Model;
@@ -62,7 +62,7 @@ impl Buffer {
     /// Adds bytes. If the buffer has no room for them, it first hands its waiting bytes to the sink. If there are more bytes than the whole buffer
     /// takes, they go straight to the sink.
     pub fn put<N: Sink>(&mut self, sink: &mut N, bytes: &[u8]) -> Result<(), Failed>
-        ensures { Put (growth N.taken N.faults sink.old sink.new) self.old self.new bytes.now result }
+        ensures { WroteBuffered (growth N.taken N.faults sink.old sink.new) self.old self.new bytes.now result }
     {
         if bytes.len() <= ROOM - self.used {
             self.keep(bytes);
@@ -79,7 +79,7 @@ impl Buffer {
 
     /// Adds the bytes of several parts, in order.
     pub fn put_parts<N: Sink>(&mut self, sink: &mut N, parts: &[&[u8]]) -> Result<(), Failed>
-        ensures { Put (growth N.taken N.faults sink.old sink.new) self.old self.new (flat_map (λ part. part.now) parts.now) result }
+        ensures { WroteBuffered (growth N.taken N.faults sink.old sink.new) self.old self.new (flat_map (λ part. part.now) parts.now) result }
     {
         'parts: for part in parts {
             self.put(sink, part)?;

@@ -4,8 +4,8 @@
 //! The first stage of a query reads each file whole, with `read_file`. The last stage writes its texts with `write_all` and
 //! `write_parts`.
 //!
-//! Callers cite `told` (what a store tells about a name) and `ReadsFile` (what reading a file answers). About sinks they cite `appended` and
-//! `GrewByPrefix` (what a sink took), `Wrote` and `Put` (what is true after a step that writes). `Rose` says that a count of faults rose. Contracts
+//! Callers cite `answer_about` (what a store tells about a name) and `ReadsFile` (what reading a file answers). About sinks they cite `appended` and
+//! `GrewByPrefix` (what a sink took), `Wrote` and `WroteBuffered` (what is true after a step that writes). `Rose` says that a count of faults rose. Contracts
 //! see `Seq` as the list of its items, `Boxed` as its value and `Name` as its bytes.
 #![tactic(auto)]
 

@@ -1,6 +1,6 @@
 ghost use Rattle.std.specs.Prelude.{◌≡◌, ◌<◌, ◌≤◌, ◌+◌, ◌-◌, ◌||◌, ◌&&◌, nat_eq, nat_lt, [], min, if◌then◌else◌, is_err, IfOk, OnErr, length, take, Some};
 ghost use Rattle.base_io.specs.Causes.{Rose, one_more};
-ghost use Rattle.base_io.specs.Planned.{is_listed};
+ghost use Rattle.base_io.specs.FailingCalls.{is_failing_call};
 ghost use Rattle.base_io.specs.Sinks.{appended};
 
 use crate::{Failed, NoMemory, Seq, Sink};
@@ -76,7 +76,7 @@ impl Sink for MemSink {
         // counted.
         ensures calls { self.new.calls ≡ one_more self.old.calls }
         ensures fail_at { self.new.fail_at ≡ self.old.fail_at }
-        ensures fails { is_err result ≡ (is_listed self.new.calls self.old.fail_at
+        ensures fails { is_err result ≡ (is_failing_call self.new.calls self.old.fail_at
             || (nat_eq self.old.room 0 && nat_lt 0 (length bytes.now))) }
         ensures most { IfOk result (λ n. n ≡ min self.old.room (length bytes.now)) }
         ensures room { IfOk result (λ n. self.new.room + n ≡ self.old.room) }

@@ -1,8 +1,8 @@
 ghost use Rattle.std.specs.Prelude.{◌≡◌, ◌<◌, ◌≤◌, ◌-◌, min, if◌then◌else◌, length, option_map, IfOk, List, Some, ℕ, IsErrOf};
 ghost use Rattle.limits.specs.Profile.{most_file};
 ghost use Rattle.base_io.specs.Causes.{Rose, one_more};
-ghost use Rattle.base_io.specs.Files.{file_of, Fills, ReadsAt, told};
-ghost use Rattle.base_io.specs.Planned.{has_failed, is_listed};
+ghost use Rattle.base_io.specs.Files.{file_of, Fills, ReadsAt, answer_about};
+ghost use Rattle.base_io.specs.FailingCalls.{has_failed, is_failing_call};
 
 use crate::{Name, Seq, Store, StoreError};
 
@@ -76,7 +76,7 @@ impl Store for MemStore {
     fn read_at(&mut self, name: &str, at: u64, into: &mut [u8]) -> Result<usize, StoreError>
         requires place { at ≤ most_file }
         requires room { 0 < length into.old }
-        ensures read { ReadsAt (told (Some self.old.files) name.now) at result into.new }
+        ensures read { ReadsAt (answer_about (Some self.old.files) name.now) at result into.new }
         ensures files { Some self.new.files ≡ Some self.old.files }
         ensures later { self.old.faults ≤ self.new.faults }
         ensures later_misses { self.old.misses ≤ self.new.misses }
@@ -92,9 +92,9 @@ impl Store for MemStore {
         // Exactly the calls whose numbers are in `fail_at` fail, and each failure is counted.
         ensures calls { self.new.calls ≡ one_more self.old.calls }
         ensures fail_at { self.new.fail_at ≡ self.old.fail_at }
-        ensures fails { has_failed result ≡ is_listed self.new.calls self.old.fail_at }
+        ensures fails { has_failed result ≡ is_failing_call self.new.calls self.old.fail_at }
         ensures faults { self.new.faults
-            ≡ (if is_listed self.new.calls self.old.fail_at then one_more self.old.faults else self.old.faults) }
+            ≡ (if is_failing_call self.new.calls self.old.fail_at then one_more self.old.faults else self.old.faults) }
     {
         self.calls = self.calls.saturating_add(1);
         if self.fail_at.as_slice().contains(&self.calls) {

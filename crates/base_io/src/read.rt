@@ -2,7 +2,7 @@
 ghost use Rattle.std.specs.Prelude.{◌≡◌, ◌≤◌, IsErrOf};
 ghost use Rattle.limits.specs.Profile.{most_file};
 ghost use Rattle.base_io.specs.Causes.{Rose, one_more};
-ghost use Rattle.base_io.specs.Files.{ReadsFile, told};
+ghost use Rattle.base_io.specs.Files.{ReadsFile, answer_about};
 
 use crate::{ReadError, Seq, Store, StoreError};
 use std::alloc::Global;
@@ -23,7 +23,7 @@ pub fn read_file<S: Store>(
     requires { limit ≤ most_file }
 
     // The whole file, or the error that fits what the store tells about the name.
-    ensures read { ReadsFile (told (S.files store.old) name.now) limit result }
+    ensures read { ReadsFile (answer_about (S.files store.old) name.now) limit result }
     ensures files { S.files store.new ≡ S.files store.old }
     ensures later { S.faults store.old ≤ S.faults store.new }
     ensures later_misses { S.misses store.old ≤ S.misses store.new }

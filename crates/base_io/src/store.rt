@@ -2,7 +2,7 @@
 ghost use Rattle.std.specs.Prelude.{◌≡◌, ◌<◌, ◌≤◌, ℕ, Option, length, IsErrOf};
 ghost use Rattle.limits.specs.Profile.{most_file};
 ghost use Rattle.base_io.specs.Causes.{Rose, one_more};
-ghost use Rattle.base_io.specs.Files.{Files, ReadsAt, told};
+ghost use Rattle.base_io.specs.Files.{Files, ReadsAt, answer_about};
 
 use crate::StoreError;
 
@@ -24,7 +24,7 @@ pub trait Store {
     fn read_at(&mut self, name: &str, at: u64, into: &mut [u8]) -> Result<usize, StoreError>
         requires place { at ≤ most_file }
         requires room { 0 < length into.old }
-        ensures read { ReadsAt (told (files self.old) name.now) at result into.new }
+        ensures read { ReadsAt (answer_about (files self.old) name.now) at result into.new }
         ensures files { files self.new ≡ files self.old }
 
         // Neither count decreases.

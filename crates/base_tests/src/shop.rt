@@ -34,9 +34,9 @@ fn lines_of(bytes: &[u8]) -> usize {
 }
 
 // For each file: how many lines and bytes it has, and whether it begins and ends as it should.
-fn looks(alloc: Global, number: u32) -> Result<Vec<(usize, usize, bool)>, NoMemory> {
+fn summaries(alloc: Global, number: u32) -> Result<Vec<(usize, usize, bool)>, NoMemory> {
     let store = demo_store(alloc, number)?;
-    let mut looks = Vec::new(alloc);
+    let mut summaries = Vec::new(alloc);
     for (file, (front, end)) in store
         .files
         .as_slice()
@@ -45,16 +45,16 @@ fn looks(alloc: Global, number: u32) -> Result<Vec<(usize, usize, bool)>, NoMemo
     {
         let bytes = file.1.as_slice();
         let fits = bytes.starts_with(front) && bytes.ends_with(end);
-        looks.push((lines_of(bytes), bytes.len(), fits))?;
+        summaries.push((lines_of(bytes), bytes.len(), fits))?;
     }
-    Ok(looks)
+    Ok(summaries)
 }
 
 #[test]
 fn the_shop_of_number_seven(rt: HostRuntime) -> Result<(), Fail> {
-    let looks = looks(rt.alloc(), 7)?;
+    let summaries = summaries(rt.alloc(), 7)?;
     assert_eq!(rt;
-        looks.as_slice(),
+        summaries.as_slice(),
         [
             (4, 313, true),
             (5, 207, true),

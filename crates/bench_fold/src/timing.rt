@@ -1,5 +1,5 @@
 //! Measures how long the bounds of a query take. Each call computes them several times and keeps the least time.
-ghost use Rattle.bound_fold.specs.Sets.{SetIsListed};
+ghost use Rattle.bound_fold.specs.Sets.{SetHasBounds};
 ghost use Rattle.set_bounds.specs.AllSets.{first_entries};
 
 use crate::queries::Query;
@@ -45,7 +45,7 @@ fn not_listed() -> io::Error {
 }
 
 fn bound_once(rt: &impl Clock, alloc: Global, query: &Query, subset: EntrySet) -> io::Result<Timing>
-    requires { SetIsListed query.now.lists query.now.parts.equalities subset }
+    requires { SetHasBounds query.now.lists query.now.parts.equalities subset }
 {
     let start = Instant::now(rt)?;
     let bound = set_bound(alloc, &query.parts, subset, &query.lists).map_err(out_of_memory)?;
@@ -81,7 +81,7 @@ fn sum_of(bounds: &[u128]) -> u128 {
 }
 
 fn sets_once(rt: &impl Clock, alloc: Global, query: &Query) -> io::Result<Timing>
-    requires { SetIsListed query.now.lists query.now.parts.equalities (first_entries 12) }
+    requires { SetHasBounds query.now.lists query.now.parts.equalities (first_entries 12) }
 {
     let start = Instant::now(rt)?;
     let bounds = bounds_of_sets(alloc, &query.parts, &query.lists, 12).map_err(out_of_memory)?;

@@ -21,7 +21,7 @@ use Rattle.reserve_plan.proofs.Roomy.{less_buffers, less_room}
 use Rattle.sql_meaning.specs.Answers.{conjuncts_of}
 use Rattle.sql_meaning.specs.Choices.{extended, IsChoiceOf}
 use Rattle.sql_meaning.specs.Conditions.{cond_holds}
-use Rattle.sql_meaning.specs.Databases.{AreCells, IsAskable, IsColumnOf, IsColumnOfKind, IsDatabaseOf}
+use Rattle.sql_meaning.specs.Databases.{AreCells, IsWellTyped, IsColumnOf, IsColumnOfKind, IsDatabaseOf}
 use Rattle.sql_meaning.specs.Levels.{all_hold, completed_hold, passes_own, row_in, Conjunct}
 use Rattle.sql_meaning.specs.Tables.{row_counts, tables_of}
 use Rattle.sql_meaning.proofs.LoopFacts.{rows_are}
@@ -34,15 +34,15 @@ use Rattle.hash_join.specs.Levels.{listed_level, list_level_sizes}
 use Rattle.hash_join.proofs.AllLevels.{next_joined, placed_joined}
 use Rattle.join_steps.proofs.ListedRows.{scan_below, below}
 use Rattle.join_steps.proofs.WholeScans.{weaker}
-use Rattle.bench_joins.specs.Tables.{compared, join_of, repeated, table_of, tables_of_two, AreNumbers}
+use Rattle.bench_joins.specs.Tables.{compared, join_of, each_repeated, table_of, tables_of_two, AreNumbers}
 
 -- ---- how many rows have a key
 
 -- if only numbers from a to below a + m pass a test, at most a + m - s of the numbers from s on pass it
-in_stretch : (p : ℕ → Bool) (a m : ℕ) → ((x : ℕ) → p x ≡ true → (a ≤ x) × (x < a + m)) → (n s : ℕ) → a ≤ s → length (filter p (range_with_len s n)) ≤ a + m - s
-in_stretch p a m near zero s low = omega arith
-in_stretch p a m near (suc n) s low =
-    let rest : length (filter p (range_with_len (s + 1) n)) ≤ a + m - (s + 1) = in_stretch p a m near n (s + 1) (omega arith) in
+in_key_range : (p : ℕ → Bool) (a m : ℕ) → ((x : ℕ) → p x ≡ true → (a ≤ x) × (x < a + m)) → (n s : ℕ) → a ≤ s → length (filter p (range_with_len s n)) ≤ a + m - s
+in_key_range p a m near zero s low = omega arith
+in_key_range p a m near (suc n) s low =
+    let rest : length (filter p (range_with_len (s + 1) n)) ≤ a + m - (s + 1) = in_key_range p a m near n (s + 1) (omega arith) in
     elim (cases_Bool (p s)) [
       | inl hit ↦ (let there = near s hit in
           let is : length (filter p (range_with_len s (suc n))) ≡ suc (length (filter p (range_with_len (s + 1) n))) = rw hit refl in
@@ -58,10 +58,10 @@ before_stretch p a m near (suc n) s = elim (cases_lt s a) [
     | inr miss ↦ (let is : length (filter p (range_with_len s (suc n))) ≡ length (filter p (range_with_len (s + 1) n)) = rw miss refl in
         let rest : length (filter p (range_with_len (s + 1) n)) ≤ m = before_stretch p a m near n (s + 1) in omega (arith, is, rest))
   ]
-  | inr high ↦ (let rest : length (filter p (range_with_len s (suc n))) ≤ a + m - s = in_stretch p a m near (suc n) s high in omega (arith, rest))
+  | inr high ↦ (let rest : length (filter p (range_with_len s (suc n))) ≤ a + m - s = in_key_range p a m near (suc n) s high in omega (arith, rest))
 ]
 
--- if a row of `repeated` has a key, its row number is from key * times to below key * times + times
+-- if a row of `each_repeated` has a key, its row number is from key * times to below key * times + times
 in_key : (key times row : ℕ) → 0 < times → eqb (row / times) key ≡ true → (key * times ≤ row) × (row < key * times + times)
 in_key key times row some hit =
     let same : row / times ≡ key = eqb-true (row / times) key hit in
@@ -74,7 +74,7 @@ filter_agree_on : (p q : ℕ → Bool) (xs : List ℕ) → AllByRecursion (λ x.
 filter_agree_on p q [] same = refl
 filter_agree_on p q (x ∷ xs) same = rw (same.0, filter_agree_on p q xs same.1) refl
 
-repeated_at : (rows times row : ℕ) → row < rows → get_or (repeated rows times) row 0 ≡ row / times
+repeated_at : (rows times row : ℕ) → row < rows → get_or (each_repeated rows times) row 0 ≡ row / times
 repeated_at rows times row low =
     get_or-map (λ r. r / times) (range_with_len 0 rows) row 0 0 (omega (arith, length-range_with_len 0 rows))
     ∙ ap (λ (r : ℕ). r / times) (get_or-range_with_len 0 rows row 0 low ∙ omega arith)
@@ -95,9 +95,9 @@ filtered_twice p q (x ∷ xs) =
     ]
 
 -- of any part of the rows, at most `times` rows have the key
-few_keys : (rows times key : ℕ) (own : ℕ → Bool) → 0 < times → length (filter (λ row. eqb (get_or (repeated rows times) row 0) key) (filter own (range_with_len 0 rows))) ≤ times
+few_keys : (rows times key : ℕ) (own : ℕ → Bool) → 0 < times → length (filter (λ row. eqb (get_or (each_repeated rows times) row 0) key) (filter own (range_with_len 0 rows))) ≤ times
 few_keys rows times key own some =
-    let p : ℕ → Bool = λ row. eqb (get_or (repeated rows times) row 0) key in
+    let p : ℕ → Bool = λ row. eqb (get_or (each_repeated rows times) row 0) key in
     let q : ℕ → Bool = λ row. eqb (row / times) key in
     let same : filter p (range_with_len 0 rows) ≡ filter q (range_with_len 0 rows) =
     filter_agree_on p q (range_with_len 0 rows) (weaker (λ x. x < rows) (λ x. p x ≡ q x) (λ x low. ap (λ (n : ℕ). eqb n key) (repeated_at rows times x low)) (range_with_len 0 rows) (below 0 rows rows (omega arith))) in
@@ -168,7 +168,7 @@ nothing_asked (x ∷ xs) = (tt, nothing_asked xs)
 
 module _ (left right times : ℕ) (values : Option Op) (lk lv rv : List ℕ) (are_lk : AreNumbers left lk) (are_lv : AreNumbers left lv) (are_rv : AreNumbers right rv) (some : 0 < times) (few_right : right ≤ 4000000) (few_left : left ≤ 4000000) where
   abbrev db : Database
-  db = tables_of_two (table_of left lk lv) (table_of right (repeated right times) rv)
+  db = tables_of_two (table_of left lk lv) (table_of right (each_repeated right times) rv)
 
   abbrev q : Query
   q = join_of values
@@ -195,10 +195,10 @@ module _ (left right times : ℕ) (values : Option Op) (lk lv rv : List ℕ) (ar
   is_number from (suc (suc column)) low within = absurd (omega arith)
   is_number (suc (suc from)) column low within = absurd (omega arith)
 
-  askable : (o : Op) (column : ℕ) → column < 2 → IsAskable db (compared o column)
+  askable : (o : Op) (column : ℕ) → column < 2 → IsWellTyped db (compared o column)
   askable o column within = can_ask db o (operand.Column (col 0 column)) (operand.Column (col 1 column)) (record { text = false; left_kind = is_number 0 column (omega arith) within; right_kind = is_number 1 column (omega arith) within })
 
-  all_askable : (values : Option Op) → AllByRecursion (IsAskable db) (join_of values).conjuncts
+  all_askable : (values : Option Op) → AllByRecursion (IsWellTyped db) (join_of values).conjuncts
   all_askable (Some o) = (askable op.Eq 0 (omega arith), (askable o 1 (omega arith), tt))
   all_askable None = (askable op.Eq 0 (omega arith), tt)
 
@@ -209,7 +209,7 @@ module _ (left right times : ℕ) (values : Option Op) (lk lv rv : List ℕ) (ar
   quotient_low : (x : ℕ) → x < right → x / times < 2 ^ 64
   quotient_low x low = let whole : x / times * times + x % times ≡ x = div-add-mod' x times in let at_least : x / times ≤ x / times * times = le_product (x / times) times some in omega (arith, whole, at_least)
 
-  are_rk : AreNumbers right (repeated right times)
+  are_rk : AreNumbers right (each_repeated right times)
   are_rk = record {
     long = length-map (range_with_len 0 right) (λ row. row / times) ∙ length-range_with_len 0 right;
     small = All-map (λ cell. cell < 2 ^ 64) (λ row. row / times) (range_with_len 0 right) (All-from_recursion (λ row. row / times < 2 ^ 64) (range_with_len 0 right) (weaker (λ x. x < right) (λ x. x / times < 2 ^ 64) quotient_low (range_with_len 0 right) (below 0 right right (omega arith))));
@@ -234,8 +234,8 @@ module _ (left right times : ℕ) (values : Option Op) (lk lv rv : List ℕ) (ar
       slots = All-from_recursion (λ slot. slot < 2) (0 ∷ 1 ∷ []) (omega arith, (omega arith, tt));
     };
     few_rows = few_at;
-    one_place = λ i j low high same. same;
-    conjuncts = All-from_recursion (IsAskable db) q.conjuncts (all_askable values);
+    same_slot = λ i j low high same. same;
+    conjuncts = All-from_recursion (IsWellTyped db) q.conjuncts (all_askable values);
     outputs = All-from_recursion (λ out. IsColumnOf db out.column) q.select tt;
   }
 
@@ -267,7 +267,7 @@ module _ (left right times : ℕ) (values : Option Op) (lk lv rv : List ℕ) (ar
       omega (arith, ap (λ (s : List (List ℕ)). length s) next, few_all, at_most_one (length (scan_of q db 0)) (length above) some_above, first_scan)
 
   -- a right row that is joined with a left row has the left row's key
-  has_key : (x row : ℕ) → x < row_counts (tables_of db) 0 → row < row_counts (tables_of db) 1 → completed_hold conjuncts (0 ∷ []) 1 (x ∷ row ∷ []) ≡ true → eqb (get_or (repeated right times) row 0) (get_or lk x 0) ≡ true
+  has_key : (x row : ℕ) → x < row_counts (tables_of db) 0 → row < row_counts (tables_of db) 1 → completed_hold conjuncts (0 ∷ []) 1 (x ∷ row ∷ []) ≡ true → eqb (get_or (each_repeated right times) row 0) (get_or lk x 0) ≡ true
   has_key x row low_x low_row hit =
       let row_of : ℕ → ℕ = row_in (0 ∷ 1 ∷ []) (x ∷ row ∷ []) in
       let a : ColumnRef = col 0 0 in
@@ -286,10 +286,10 @@ module _ (left right times : ℕ) (values : Option Op) (lk lv rv : List ℕ) (ar
   below_choice (x ∷ y ∷ choice) p = absurd p.1
   below_choice (x ∷ []) p =
       few_enough (length (filter (completed_hold conjuncts (0 ∷ []) 1) (map (λ row. (x ∷ []) ++ row ∷ []) (scan_of q db 1))))
-      (length (filter (λ row. eqb (get_or (repeated right times) row 0) (get_or lk x 0)) (scan_of q db 1))) times
-      (few_below (completed_hold conjuncts (0 ∷ []) 1) (λ row. eqb (get_or (repeated right times) row 0) (get_or lk x 0)) (λ row. row < row_counts (tables_of db) 1) (x ∷ []) (λ row low hit. has_key x row p.0 low hit)
+      (length (filter (λ row. eqb (get_or (each_repeated right times) row 0) (get_or lk x 0)) (scan_of q db 1))) times
+      (few_below (completed_hold conjuncts (0 ∷ []) 1) (λ row. eqb (get_or (each_repeated right times) row 0) (get_or lk x 0)) (λ row. row < row_counts (tables_of db) 1) (x ∷ []) (λ row low hit. has_key x row p.0 low hit)
       (scan_of q db 1) (recursion_from_All (λ row. row < row_counts (tables_of db) 1) (scan_of q db 1) (scan_below conjuncts (row_counts (tables_of db)) 1 (scan_of q db 1) (of_scans 1 0 (omega arith)))))
-      (subst (λ (n : ℕ). length (filter (λ row. eqb (get_or (repeated right times) row 0) (get_or lk x 0)) (filter (passes_own conjuncts 1) (range_with_len 0 n))) ≤ times) (sym (rows_are db 1))
+      (subst (λ (n : ℕ). length (filter (λ row. eqb (get_or (each_repeated right times) row 0) (get_or lk x 0)) (filter (passes_own conjuncts 1) (range_with_len 0 n))) ≤ times) (sym (rows_are db 1))
       (few_keys right times (get_or lk x 0) (passes_own conjuncts 1) some))
 
   pub second_level : length (listed_level q db (scan_of q db) order 2) ≤ times * left

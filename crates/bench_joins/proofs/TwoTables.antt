@@ -13,14 +13,14 @@ use Rattle.sql_meaning.specs.Databases.{IsDatabaseOf}
 use Rattle.sql_meaning.specs.Tables.{tables_of}
 use Rattle.join_steps.specs.Lists.{list_sizes, scans_of, IsOrderOf}
 use Rattle.hash_join.specs.Levels.{list_level_sizes}
-use Rattle.bench_joins.specs.Tables.{join_of, repeated, table_of, tables_of_two, AreTwo}
+use Rattle.bench_joins.specs.Tables.{join_of, each_repeated, table_of, tables_of_two, AreTwo}
 use Rattle.bench_joins.proofs.FewRows.{fits, has_lists, has_rooms, is_order, small}
 
 module _ (left right times : ℕ) (values : Option Op) (query : Query) (db : Database) (is_query : query ≡ join_of values) (two : AreTwo left right times db) (some : 0 < times) (few_right : right ≤ 4000000) (few_left : left ≤ 4000000) where
-  whole : db ≡ tables_of_two (table_of left two.is_first.keys two.is_first.values) (table_of right (repeated right times) two.is_second.values)
+  whole : db ≡ tables_of_two (table_of left two.is_first.keys two.is_first.values) (table_of right (each_repeated right times) two.is_second.values)
   whole = two.is ∙ ap (λ (c : Cells). tables_of_two c two.second) two.is_first.is ∙ ap (λ (c : Cells). tables_of_two (table_of left two.is_first.keys two.is_first.values) c) two.is_second.is
 
-  moved : (P : Query → Database → Type 0) → P (join_of values) (tables_of_two (table_of left two.is_first.keys two.is_first.values) (table_of right (repeated right times) two.is_second.values)) → P query db
+  moved : (P : Query → Database → Type 0) → P (join_of values) (tables_of_two (table_of left two.is_first.keys two.is_first.values) (table_of right (each_repeated right times) two.is_second.values)) → P query db
   moved P here = subst (λ (q : Query). P q db) (sym is_query) (subst (λ (d : Database). P (join_of values) d) (sym whole) here)
 
   pub two_fit : IsDatabaseOf query db

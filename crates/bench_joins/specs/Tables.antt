@@ -33,8 +33,8 @@ abbrev pub table_of : ℕ → List ℕ → List ℕ → Cells
 table_of rows keys values = record { kinds = kind.Int ∷ kind.Int ∷ []; columns = keys ∷ values ∷ []; rows = rows }
 
 -- `rows` numbers: 0 `times` times, then 1 `times` times, and so on
-abbrev pub repeated : ℕ → ℕ → List ℕ
-repeated rows times = map (λ row. row / times) (range_with_len 0 rows)
+abbrev pub each_repeated : ℕ → ℕ → List ℕ
+each_repeated rows times = map (λ row. row / times) (range_with_len 0 rows)
 
 abbrev pub tables_of_two : Cells → Cells → Database
 tables_of_two left right = record { pool = []; cells = left ∷ right ∷ []; slots = 0 ∷ 1 ∷ [] }
@@ -52,10 +52,10 @@ pub record IsTable (rows : ℕ) (cells : Cells) : Type 0 where
   pub are_keys : AreNumbers rows keys
   pub are_values : AreNumbers rows values
 
--- a table whose keys are `repeated rows times`
+-- a table whose keys are `each_repeated rows times`
 pub record HasRepeated (rows times : ℕ) (cells : Cells) : Type 0 where
   pub values : List ℕ
-  pub is : cells ≡ table_of rows (repeated rows times) values
+  pub is : cells ≡ table_of rows (each_repeated rows times) values
   pub are_values : AreNumbers rows values
 
 -- two tables of these sizes; the right table has each key at most `times` times

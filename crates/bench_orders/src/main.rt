@@ -16,17 +16,17 @@ use std::{env, io};
 
 // What is chosen.
 #[derive(Clone, Copy)]
-enum Wanted {
+enum PlanKind {
     Order,
     Tree,
 }
 
-impl Wanted {
+impl PlanKind {
     // How many times the choice is made when it is timed.
     fn rounds(self) -> u32 {
         match self {
-            Wanted::Order => 50,
-            Wanted::Tree => 10,
+            PlanKind::Order => 50,
+            PlanKind::Tree => 10,
         }
     }
 }
@@ -46,7 +46,7 @@ fn bounds_of(alloc: Global, step: u64, limit: u64) -> Result<Vec<u128>, AllocErr
 // Makes the choice once, and drops the answer.
 fn choose_once(
     alloc: Global,
-    wanted: Wanted,
+    wanted: PlanKind,
     bounds: &Seq<u128>,
     scans: &Seq<u64>,
 ) -> io::Result<()>
@@ -54,10 +54,10 @@ fn choose_once(
     requires bounds { length bounds.now ≡ 4096 }
 {
     match wanted {
-        Wanted::Order => {
+        PlanKind::Order => {
             let _plan = orders::chosen(alloc, bounds, scans)?;
         }
-        Wanted::Tree => {
+        PlanKind::Tree => {
             let _plan = trees::chosen(alloc, bounds, scans)?;
         }
     }
@@ -67,7 +67,7 @@ fn choose_once(
 // The least time of a choice, in nanoseconds.
 fn measure(
     rt: &HostRuntime,
-    wanted: Wanted,
+    wanted: PlanKind,
     bounds: &Seq<u128>,
     scans: &Seq<u64>,
 ) -> io::Result<u128>
@@ -86,7 +86,7 @@ fn measure(
 // Writes the choice for each kind of bounds, and its time if `is_timed`.
 fn write_choices(
     rt: &HostRuntime,
-    wanted: Wanted,
+    wanted: PlanKind,
     scans: &Seq<u64>,
     is_timed: bool,
 ) -> io::Result<()>
@@ -99,8 +99,8 @@ fn write_choices(
     ] {
         let bounds = Seq::from_vec(bounds_of(rt.alloc(), step, limit)?);
         match wanted {
-            Wanted::Order => orders::write(rt, name, &bounds, scans)?,
-            Wanted::Tree => trees::write(rt, name, &bounds, scans)?,
+            PlanKind::Order => orders::write(rt, name, &bounds, scans)?,
+            PlanKind::Tree => trees::write(rt, name, &bounds, scans)?,
         }
         if is_timed {
             let nanoseconds = measure(rt, wanted, &bounds, scans)?;
@@ -114,6 +114,6 @@ fn main(rt: HostRuntime) -> io::Result<()> {
     let is_timed = env::args(&rt)?.count() > 1;
     let alloc = rt.alloc();
     let scans = Seq::from_vec(vec![in alloc; 1000; 12]?);
-    write_choices(&rt, Wanted::Order, &scans, is_timed)?;
-    write_choices(&rt, Wanted::Tree, &scans, is_timed)
+    write_choices(&rt, PlanKind::Order, &scans, is_timed)?;
+    write_choices(&rt, PlanKind::Tree, &scans, is_timed)
 }

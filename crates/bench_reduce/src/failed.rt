@@ -1,6 +1,6 @@
 //! Why nothing was measured.
 use base_io::NoMemory;
-use outcomes::Ending;
+use outcomes::Failure;
 use schema_types::SchemaError;
 use sql_parse::QueryError;
 use std::alloc::AllocError;
@@ -34,8 +34,8 @@ impl From<QueryError> for Failed {
     }
 }
 
-impl From<Ending> for Failed {
-    fn from(_: Ending) -> Self {
+impl From<Failure> for Failed {
+    fn from(_: Failure) -> Self {
         Failed
     }
 }

@@ -9,5 +9,5 @@ pub mod Listing
 pub mod Made
 pub mod Forest
 pub mod Among
-pub mod Planting
+pub mod TreesSoFar
 pub mod Tested

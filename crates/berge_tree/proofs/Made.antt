@@ -13,7 +13,7 @@ use Rattle.berge_tree.specs.declared.columns.Column.{Column}
 use Rattle.berge_tree.specs.Trees.{Classes, Members, one_member, and_member}
 use Rattle.berge_tree.specs.Equalities.{place, same_place, merged, classes_from, class_of, places_of, HasNoCycle}
 use Rattle.berge_tree.specs.Rooted.{class_columns, member_places, member_entries, AreItsColumns, AreItsOthers, FollowsBelow, FollowsWithin}
-use Rattle.berge_tree.specs.Walk.{is_before, Ascend, AreColumnsOf, is_above, is_at, is_other, joined_members, members_with, classes_with, walked, HaveOthers}
+use Rattle.berge_tree.specs.Walk.{is_before, Ascend, AreColumnsOf, is_above, is_column_below, is_other_of_class, joined_members, members_with, classes_with, walked, HaveOthers}
 use Rattle.berge_tree.proofs.NoCycle.{same_place-true}
 use Rattle.berge_tree.proofs.Joining.{keeps, joins}
 use Rattle.berge_tree.proofs.Steps.{same_place-is, none_some, IsReached, avoided, step}
@@ -171,47 +171,47 @@ above_not None c e = refl
 above_not (Some a) c e = elim (cases_Bool (eqb a c)) [ inl t ↦ absurd (e (ap (λ (n : ℕ). Some n) (eqb-true a c t))) | inr n ↦ n ]
 
 module _ (es : List Edge) (nc : HasNoCycle (class_of es)) (differ : Differ es) (columns : List Column) (are : AreColumnsOf es columns) where
-  at_some : (y : ℕ) (above : Option ℕ) (c : Column) → Contains (filter (is_at y above) columns) c → Contains columns c × (c.place.entry ≡ y) × (above ≢ Some c.place.column)
+  at_some : (y : ℕ) (above : Option ℕ) (c : Column) → Contains (filter (is_column_below y above) columns) c → Contains columns c × (c.place.entry ≡ y) × (above ≢ Some c.place.column)
   at_some y above c k =
-      let g : Contains columns c × (is_at y above c ≡ true) = filter_some (is_at y above) columns c k in
+      let g : Contains columns c × (is_column_below y above c ≡ true) = filter_some (is_column_below y above) columns c k in
       let t : (eqb c.place.entry y ≡ true) × (not (is_above above c.place.column) ≡ true) = and_parts (eqb c.place.entry y) (not (is_above above c.place.column)) g.1 in
       (g.0, eqb-true c.place.entry y t.0, above_false above c.place.column (not-true (is_above above c.place.column) t.1))
 
-  at_all : (y : ℕ) (above : Option ℕ) (p : Place) → Contains (places_of es) p → p.entry ≡ y → above ≢ Some p.column → Has (filter (is_at y above) columns) p
+  at_all : (y : ℕ) (above : Option ℕ) (p : Place) → Contains (places_of es) p → p.entry ≡ y → above ≢ Some p.column → Has (filter (is_column_below y above) columns) p
   at_all y above p k at off =
       let h : Has columns p = are.all p k in (
         h.0,
-        filter_in (is_at y above) columns h.0 h.1
+        filter_in (is_column_below y above) columns h.0 h.1
             (and_from (eqb h.0.place.entry y) (not (is_above above h.0.place.column)) (eq-eqb h.0.place.entry y (ap (λ (u : Place). u.entry) h.2 ∙ at))
             (not_from_false (is_above above h.0.place.column) (above_not above h.0.place.column (λ is. off (is ∙ ap (λ (u : Place). Some u.column) h.2))))),
         h.2,
       )
 
-  its_columns : (y : ℕ) (above : Option ℕ) → AreItsColumns es y above (map (λ (c : Column). c.place.column) (filter (is_at y above) columns))
+  its_columns : (y : ℕ) (above : Option ℕ) → AreItsColumns es y above (map (λ (c : Column). c.place.column) (filter (is_column_below y above) columns))
   its_columns y above = record {
-    ascending = columns_increase y (filter (is_at y above) columns) (filter_ascend (is_at y above) columns are.ascend)
-        (all_columns (λ c. c.place.entry ≡ y) (filter (is_at y above) columns) (λ c k. (at_some y above c k).1));
+    ascending = columns_increase y (filter (is_column_below y above) columns) (filter_ascend (is_column_below y above) columns are.ascend)
+        (all_columns (λ c. c.place.entry ≡ y) (filter (is_column_below y above) columns) (λ c k. (at_some y above c k).1));
     some = λ n k.
-        let c : (c : Column) × Contains (filter (is_at y above) columns) c × (c.place.column ≡ n) = of_number (filter (is_at y above) columns) n k in
+        let c : (c : Column) × Contains (filter (is_column_below y above) columns) c × (c.place.column ≡ n) = of_number (filter (is_column_below y above) columns) n k in
         let g : Contains columns c.0 × (c.0.place.entry ≡ y) × (above ≢ Some c.0.place.column) = at_some y above c.0 c.1 in
         (subst (Contains (places_of es)) (by_parts c.0.place (place y n) g.1 c.2) (are.named c.0 g.0).0, subst (λ m. above ≢ Some m) c.2 g.2);
-    all = λ n k off. number_in (filter (is_at y above) columns) (place y n) (at_all y above (place y n) k refl off);
+    all = λ n k off. number_in (filter (is_column_below y above) columns) (place y n) (at_all y above (place y n) k refl off);
   }
 
-  other_some : (c d : Column) → Contains columns c → Contains (filter (is_other c) columns) d → Contains columns d × (class_of es c.place ≡ class_of es d.place) × (d.place ≢ c.place)
+  other_some : (c d : Column) → Contains columns c → Contains (filter (is_other_of_class c) columns) d → Contains columns d × (class_of es c.place ≡ class_of es d.place) × (d.place ≢ c.place)
   other_some c d c_in k =
-      let g : Contains columns d × (is_other c d ≡ true) = filter_some (is_other c) columns d k in
+      let g : Contains columns d × (is_other_of_class c d ≡ true) = filter_some (is_other_of_class c) columns d k in
       let t : (same_place c.class d.class ≡ true) × (not (same_place c.place d.place) ≡ true) = and_parts (same_place c.class d.class) (not (same_place c.place d.place)) g.1 in (
         g.0,
         sym (are.named c c_in).1 ∙ same_place-true c.class d.class t.0 ∙ (are.named d g.0).1,
         λ is. false≢true (sym (not-true (same_place c.place d.place) t.1) ∙ same_place-is c.place d.place (sym is)),
       )
 
-  other_all : (c : Column) → Contains columns c → (q : Place) → Contains (places_of es) q → class_of es c.place ≡ class_of es q → q ≢ c.place → Has (filter (is_other c) columns) q
+  other_all : (c : Column) → Contains columns c → (q : Place) → Contains (places_of es) q → class_of es c.place ≡ class_of es q → q ≢ c.place → Has (filter (is_other_of_class c) columns) q
   other_all c c_in q k e ne =
       let h : Has columns q = are.all q k in (
         h.0,
-        filter_in (is_other c) columns h.0 h.1
+        filter_in (is_other_of_class c) columns h.0 h.1
             (and_from (same_place c.class h.0.class) (not (same_place c.place h.0.place))
             (same_place-is c.class h.0.class ((are.named c c_in).1 ∙ e ∙ ap (class_of es) (sym h.2) ∙ sym (are.named h.0 h.1).1))
             (not_from_false (same_place c.place h.0.place) (off h.0 (λ is. ne (sym h.2 ∙ sym is))))),
@@ -221,22 +221,22 @@ module _ (es : List Edge) (nc : HasNoCycle (class_of es)) (differ : Differ es) (
       off : (d : Column) → c.place ≢ d.place → same_place c.place d.place ≡ false
       off d apart = elim (cases_Bool (same_place c.place d.place)) [ inl t ↦ absurd (apart (same_place-true c.place d.place t)) | inr n ↦ n ]
 
-  its_others : (c : Column) → Contains columns c → (ms : Members) → member_places ms ≡ map (λ (d : Column). d.place) (filter (is_other c) columns) → AreItsOthers es c.place ms
+  its_others : (c : Column) → Contains columns c → (ms : Members) → member_places ms ≡ map (λ (d : Column). d.place) (filter (is_other_of_class c) columns) → AreItsOthers es c.place ms
   its_others c c_in ms is = record {
-    ascending = subst IsStrictlyIncreasing (sym (map_map (filter (is_other c) columns)) ∙ ap (map (λ (p : Place). p.entry)) (sym is) ∙ entries_are ms)
-        (entries_increase (filter (is_other c) columns) (filter_ascend (is_other c) columns are.ascend)
+    ascending = subst IsStrictlyIncreasing (sym (map_map (filter (is_other_of_class c) columns)) ∙ ap (map (λ (p : Place). p.entry)) (sym is) ∙ entries_are ms)
+        (entries_increase (filter (is_other_of_class c) columns) (filter_ascend (is_other_of_class c) columns are.ascend)
         (λ a b j k same. nc.one_column a.place b.place (sym (other_some c a c_in j).1 ∙ (other_some c b c_in k).1) same));
     some = λ q k.
-        let h : Has (filter (is_other c) columns) q = of_map (filter (is_other c) columns) q (subst (λ ps. Contains ps q) is k) in
+        let h : Has (filter (is_other_of_class c) columns) q = of_map (filter (is_other_of_class c) columns) q (subst (λ ps. Contains ps q) is k) in
         let o : Contains columns h.0 × (class_of es c.place ≡ class_of es h.0.place) × (h.0.place ≢ c.place) = other_some c h.0 c_in h.1 in
         (subst (Contains (places_of es)) h.2 (are.named h.0 o.0).0, o.1 ∙ ap (class_of es) h.2, λ e. o.2 (h.2 ∙ e));
-    all = λ q k e ne. subst (λ ps. Contains ps q) (sym is) (in_map (filter (is_other c) columns) q (other_all c c_in q k e ne));
+    all = λ q k e ne. subst (λ ps. Contains ps q) (sym is) (in_map (filter (is_other_of_class c) columns) q (other_all c c_in q k e ne));
   }
 
   pub have_others : HaveOthers columns
   have_others c c_in none =
       let a : (q : Place) × Contains (places_of es) q × (class_of es c.place ≡ class_of es q) × (q ≢ c.place) = another_one es (λ u. u) differ c.place (are.named c c_in).0 in
-      let h : Has (filter (is_other c) columns) a.0 = other_all c c_in a.0 a.1 a.2 a.3 in
+      let h : Has (filter (is_other_of_class c) columns) a.0 = other_all c c_in a.0 a.1 a.2 a.3 in
       in_none h.0 (subst (λ cs. Contains cs h.0) none h.1)
 
 -- ---- members and classes from lists
@@ -312,23 +312,23 @@ module _ (es : List Edge) (nc : HasNoCycle (class_of es)) (differ : Differ es) (
       below d = walked depth columns d.place.entry (Some d.place.column)
 
       members : Column → Option Members
-      members c = members_with below (filter (is_other c) columns)
+      members c = members_with below (filter (is_other_of_class c) columns)
 
-      good : (c : Column) → Contains (filter (is_at y above) columns) c → (d : Column) → Contains (filter (is_other c) columns) d → IsGood es d.place (below d)
+      good : (c : Column) → Contains (filter (is_column_below y above) columns) c → (d : Column) → Contains (filter (is_other_of_class c) columns) d → IsGood es d.place (below d)
       good c k d m =
           let g : Contains columns c × (c.place.entry ≡ y) × (above ≢ Some c.place.column) = at_some es nc differ columns are y above c k in
           let o : Contains columns d × (class_of es c.place ≡ class_of es d.place) × (d.place ≢ c.place) = other_some es nc differ columns are c d g.0 m in
           let e : AreItsColumns es d.place.entry (Some d.place.column) (class_columns (below d)) × FollowsBelow es d.place.entry (below d) = deeper c g.0 g.1 g.2 d o.0 o.1 o.2 in
           record { columns = e.0; follows = e.1 }
 
-      is_made : (c : Column) → Contains (filter (is_at y above) columns) c → IsMade es c.place (members c)
+      is_made : (c : Column) → Contains (filter (is_column_below y above) columns) c → IsMade es c.place (members c)
       is_made c k =
           let g : Contains columns c × (c.place.entry ≡ y) × (above ≢ Some c.place.column) = at_some es nc differ columns are y above c k in
-          let m : Made es below (filter (is_other c) columns) = made_some es below (filter (is_other c) columns) (have_others es nc differ columns are c g.0) (good c k) in
+          let m : Made es below (filter (is_other_of_class c) columns) = made_some es below (filter (is_other_of_class c) columns) (have_others es nc differ columns are c g.0) (good c k) in
           record { members = m.0; is = m.1; others = its_others es nc differ columns are c g.0 m.0 m.2; follows = m.3 }
 
-      all : (class_columns (classes_with members (filter (is_at y above) columns)) ≡ map (λ (c : Column). c.place.column) (filter (is_at y above) columns)) × FollowsBelow es y (classes_with members (filter (is_at y above) columns))
-      all = classes_made es y members (filter (is_at y above) columns) (λ c k. (at_some es nc differ columns are y above c k).1) is_made
+      all : (class_columns (classes_with members (filter (is_column_below y above) columns)) ≡ map (λ (c : Column). c.place.column) (filter (is_column_below y above) columns)) × FollowsBelow es y (classes_with members (filter (is_column_below y above) columns))
+      all = classes_made es y members (filter (is_column_below y above) columns) (λ c k. (at_some es nc differ columns are y above c k).1) is_made
 
   short : (k : ℕ) → suc k ≤ n → n ≤ k + 0 → ⊥
   short k a b = omega (arith, a, b)

@@ -4,7 +4,7 @@ use Rattle.std.specs.List.{AllByRecursion}
 use Rattle.std.proofs.lemmas.Bool.{cases_Bool, eq-eqb, eqb-true, eqb-false, and_parts}
 use Rattle.berge_tree.specs.declared.edges.Place.{Place}
 use Rattle.berge_tree.specs.declared.edges.Edge.{Edge}
-use Rattle.berge_tree.specs.Equalities.{same_place, merged, classes_from, class_of, side_seen, IsBridge, HasNoCycle, AreApart, ClosesNoCycleAfter, ClosesNoCycle}
+use Rattle.berge_tree.specs.Equalities.{same_place, merged, classes_from, class_of, side_of_column, IsBridge, HasNoCycle, AreApart, ClosesNoCycleAfter, ClosesNoCycle}
 
 -- `name` gives names of parts. If a and b become joined, the part of b takes the name of the part of a
 abbrev pub merged_by : {A : Type 0} → (A → A → Bool) → (A → A) → A → A → A → A
@@ -63,12 +63,12 @@ module _ (g : ℕ → ℕ) (h : Place → Place) (l r : Place) (s : Sound g h) (
   h' = merged_by same_place h l r
 
   -- after an equality between l and r was read, two columns can be in one class in these three ways
-  data Met (p q : Place) : Type 0 where
-    before : h p ≡ h q → Met p q
-    first : h p ≡ h r → h q ≡ h l → Met p q
-    second : h p ≡ h l → h q ≡ h r → Met p q
+  data JoinedBy (p q : Place) : Type 0 where
+    before : h p ≡ h q → JoinedBy p q
+    first : h p ≡ h r → h q ≡ h l → JoinedBy p q
+    second : h p ≡ h l → h q ≡ h r → JoinedBy p q
 
-  met : (p q : Place) → h' p ≡ h' q → Met p q
+  met : (p q : Place) → h' p ≡ h' q → JoinedBy p q
   met p q e = elim (cases_Bool (same_place (h p) (h r))) [
     | inl pr ↦ elim (cases_Bool (same_place (h q) (h r))) [
       | inl qr ↦ before (same_place-true (h p) (h r) pr ∙ sym (same_place-true (h q) (h r) qr))
@@ -86,7 +86,7 @@ module _ (g : ℕ → ℕ) (h : Place → Place) (l r : Place) (s : Sound g h) (
   not_second : (p : Place) → h p ≡ h l → eqb (g p.entry) (g r.entry) ≡ false
   not_second p e = subst (λ n. eqb n (g r.entry) ≡ false) (sym (s.part p l e)) new
 
-  part_of : (p q : Place) → Met p q → g' p.entry ≡ g' q.entry
+  part_of : (p q : Place) → JoinedBy p q → g' p.entry ≡ g' q.entry
   part_of p q (before e) = merged-same eqb g l.entry r.entry p.entry q.entry (s.part p q e)
   part_of p q (first e f) = merged-yes eqb g l.entry r.entry p.entry (in_second p e) ∙ sym (merged-first eqb g l.entry r.entry q.entry (s.part q l f))
   part_of p q (second e f) = merged-first eqb g l.entry r.entry p.entry (s.part p l e) ∙ sym (merged-yes eqb g l.entry r.entry q.entry (in_second q f))
@@ -94,36 +94,36 @@ module _ (g : ℕ → ℕ) (h : Place → Place) (l r : Place) (s : Sound g h) (
   apart : (p q : Place) → h p ≡ h r → h q ≡ h l → p.entry ≡ q.entry → ⊥
   apart p q e f same = eqb-false (g l.entry) (g r.entry) new (sym (s.part q l f) ∙ ap g (sym same) ∙ s.part p r e)
 
-  one_of : (p q : Place) → Met p q → p.entry ≡ q.entry → p ≡ q
+  one_of : (p q : Place) → JoinedBy p q → p.entry ≡ q.entry → p ≡ q
   one_of p q (before e) same = s.one p q e same
   one_of p q (first e f) same = absurd (apart p q e f same)
   one_of p q (second e f) same = absurd (apart q p f e (sym same))
 
   module _ (p : Place) (b : IsBridge h p) where
     abbrev turn : Bool
-    turn = flip (side_seen b.side p l) (side_seen b.side p r)
+    turn = flip (side_of_column b.side p l) (side_of_column b.side p r)
 
     abbrev side' : ℕ → Bool
     side' x = cond (eqb (g x) (g r.entry)) (flip turn (b.side x)) (b.side x)
 
-    seen_turned : (q : Place) → eqb (g q.entry) (g r.entry) ≡ true → side_seen side' p q ≡ flip turn (side_seen b.side p q)
+    seen_turned : (q : Place) → eqb (g q.entry) (g r.entry) ≡ true → side_of_column side' p q ≡ flip turn (side_of_column b.side p q)
     seen_turned q e = elim (cases_Bool (same_place q p)) [
       | inl at_p ↦ rw (at_p, e) (flip-not turn (b.side q.entry))
       | inr off_p ↦ rw (off_p, e) refl
     ]
 
-    seen_same : (q : Place) → eqb (g q.entry) (g r.entry) ≡ false → side_seen side' p q ≡ side_seen b.side p q
+    seen_same : (q : Place) → eqb (g q.entry) (g r.entry) ≡ false → side_of_column side' p q ≡ side_of_column b.side p q
     seen_same q e = elim (cases_Bool (same_place q p)) [
       | inl at_p ↦ rw (at_p, e) refl
       | inr off_p ↦ rw (off_p, e) refl
     ]
 
-    across : (q u : Place) → h q ≡ h r → h u ≡ h l → side_seen side' p q ≡ side_seen side' p u
+    across : (q u : Place) → h q ≡ h r → h u ≡ h l → side_of_column side' p q ≡ side_of_column side' p u
     across q u e f =
         seen_turned q (in_second q e) ∙ ap (flip turn) (b.together q r e)
-        ∙ flip-flip (side_seen b.side p l) (side_seen b.side p r) ∙ sym (b.together u l f) ∙ sym (seen_same u (not_second u f))
+        ∙ flip-flip (side_of_column b.side p l) (side_of_column b.side p r) ∙ sym (b.together u l f) ∙ sym (seen_same u (not_second u f))
 
-    together_of : (q u : Place) → Met q u → side_seen side' p q ≡ side_seen side' p u
+    together_of : (q u : Place) → JoinedBy q u → side_of_column side' p q ≡ side_of_column side' p u
     together_of q u (before e) = elim (cases_Bool (eqb (g q.entry) (g r.entry))) [
       | inl t ↦ (let t' : eqb (g u.entry) (g r.entry) ≡ true = subst (λ n. eqb n (g r.entry) ≡ true) (s.part q u e) t in
           seen_turned q t ∙ ap (flip turn) (b.together q u e) ∙ sym (seen_turned u t'))
@@ -173,7 +173,7 @@ start_sound : Sound (λ e. e) (λ p. p)
 start_sound = record {
   part = λ p q e. ap (λ (u : Place). u.entry) e;
   one = λ p q e same. e;
-  bridge = λ p. record { side = λ x. true; together = λ q u e. ap (side_seen (λ x. true) p) e };
+  bridge = λ p. record { side = λ x. true; together = λ q u e. ap (side_of_column (λ x. true) p) e };
 }
 
 pub has_no_cycle : (es : List Edge) → ClosesNoCycle es → HasNoCycle (class_of es)

@@ -6,7 +6,7 @@ use Rattle.std.specs.List.{Contains}
 use Rattle.std.proofs.lemmas.Bool.{cases_Bool, eq-eqb, false≢true}
 use Rattle.entry_sets.proofs.Listing.{in_rest, in_front, in_none, one_in}
 use Rattle.berge_tree.specs.declared.edges.Place.{Place}
-use Rattle.berge_tree.specs.Equalities.{same_place, side_seen, IsBridge}
+use Rattle.berge_tree.specs.Equalities.{same_place, side_of_column, IsBridge}
 use Rattle.berge_tree.proofs.NoCycle.{same_place-true}
 use Rattle.berge_tree.specs.Equalities.{HasNoCycle}
 
@@ -26,13 +26,13 @@ are_same p q = elim (cases_Bool (same_place p q)) [
   | inr n ↦ inr (λ e. false≢true (sym n ∙ same_place-is p q e))
 ]
 
-pub seen_off : (side : ℕ → Bool) (p q : Place) → q ≢ p → side_seen side p q ≡ side q.entry
+pub seen_off : (side : ℕ → Bool) (p q : Place) → q ≢ p → side_of_column side p q ≡ side q.entry
 seen_off side p q ne = elim (cases_Bool (same_place q p)) [
   | inl t ↦ absurd (ne (same_place-true q p t))
   | inr n ↦ rw n refl
 ]
 
-pub seen_at : (side : ℕ → Bool) (p : Place) → side_seen side p p ≡ not (side p.entry)
+pub seen_at : (side : ℕ → Bool) (p : Place) → side_of_column side p p ≡ not (side p.entry)
 seen_at side p = rw (same_place-refl p) refl
 
 pub another : (c : ℕ) → Some c ≢ Some (suc c)

@@ -6,35 +6,35 @@ use Rattle.std.proofs.lemmas.Bool.{cases_Bool, eq-eqb, ltb-true, false≢true, a
 use Rattle.berge_tree.specs.declared.edges.Edge.{Edge}
 use Rattle.berge_tree.specs.Equalities.{AreWithin, ClosesNoCycleAfter, ClosesNoCycle}
 use Rattle.entry_sets.specs.Sets.{entries_of_set, has_entry}
-use Rattle.berge_tree.specs.Testing.{joined_parts, joins_parts, has_entries}
+use Rattle.berge_tree.specs.Testing.{merged_components, joins_parts, has_entries}
 use Rattle.berge_tree.proofs.NoCycle.{apart_by}
 use Rattle.entry_sets.proofs.Listing.{set_has}
 
 abbrev Kept : (ℕ → ℕ) → List Edge → Type 0
 Kept name es = AllByRecursion (λ e. name e.left.entry ≡ name e.right.entry) es
 
-pub joined_same : (name : ℕ → ℕ) (a b x y : ℕ) → name x ≡ name y → joined_parts name a b x ≡ joined_parts name a b y
+pub joined_same : (name : ℕ → ℕ) (a b x y : ℕ) → name x ≡ name y → merged_components name a b x ≡ merged_components name a b y
 joined_same name a b x y is = elim (cases_Bool (eqb (name x) (name b))) [
   | inl t ↦ rw (t, subst (λ n. eqb n (name b) ≡ true) is t) refl
   | inr n ↦ rw (n, subst (λ m. eqb m (name b) ≡ false) is n) is
 ]
 
-pub joined_ends : (name : ℕ → ℕ) (a b : ℕ) → joined_parts name a b a ≡ joined_parts name a b b
+pub joined_ends : (name : ℕ → ℕ) (a b : ℕ) → merged_components name a b a ≡ merged_components name a b b
 joined_ends name a b = elim (cases_Bool (eqb (name a) (name b))) [
   | inl t ↦ rw (t, eq-eqb (name b) (name b) refl) refl
   | inr n ↦ rw (n, eq-eqb (name b) (name b) refl) refl
 ]
 
-joined_kept : (name : ℕ → ℕ) (a b : ℕ) (es : List Edge) → Kept name es → Kept (joined_parts name a b) es
+joined_kept : (name : ℕ → ℕ) (a b : ℕ) (es : List Edge) → Kept name es → Kept (merged_components name a b) es
 joined_kept name a b [] h = tt
 joined_kept name a b (e ∷ es) h = (joined_same name a b e.left.entry e.right.entry h.0, joined_kept name a b es h.1)
 
 joins_after : (name : ℕ → ℕ) (earlier es : List Edge) → Kept name earlier → joins_parts name es ≡ true → ClosesNoCycleAfter earlier es
 joins_after name earlier [] kept t = tt
 joins_after name earlier (e ∷ es) kept t =
-    let h : (not (eqb (name e.left.entry) (name e.right.entry)) ≡ true) × (joins_parts (joined_parts name e.left.entry e.right.entry) es ≡ true) = and_parts (not (eqb (name e.left.entry) (name e.right.entry))) (joins_parts (joined_parts name e.left.entry e.right.entry) es) t in (
+    let h : (not (eqb (name e.left.entry) (name e.right.entry)) ≡ true) × (joins_parts (merged_components name e.left.entry e.right.entry) es ≡ true) = and_parts (not (eqb (name e.left.entry) (name e.right.entry))) (joins_parts (merged_components name e.left.entry e.right.entry) es) t in (
       apart_by earlier e.left.entry e.right.entry name kept (λ is. false≢true (sym (not-true (eqb (name e.left.entry) (name e.right.entry)) h.0) ∙ eq-eqb (name e.left.entry) (name e.right.entry) is)),
-      joins_after (joined_parts name e.left.entry e.right.entry) (e ∷ earlier) es (joined_ends name e.left.entry e.right.entry, joined_kept name e.left.entry e.right.entry earlier kept) h.1,
+      joins_after (merged_components name e.left.entry e.right.entry) (e ∷ earlier) es (joined_ends name e.left.entry e.right.entry, joined_kept name e.left.entry e.right.entry earlier kept) h.1,
     )
 
 pub joins_no_cycle : (es : List Edge) → joins_parts (λ e. e) es ≡ true → ClosesNoCycle es

@@ -58,14 +58,14 @@ AreInOneClass es p q =
 -- ---- no cycle of entries and classes
 
 -- the side of column q: the side of its entry, but the other side for the column p itself
-abbrev pub side_seen : (ℕ → Bool) → Place → Place → Bool
-side_seen side p q = if same_place q p then not (side q.entry) else side q.entry
+abbrev pub side_of_column : (ℕ → Bool) → Place → Place → Bool
+side_of_column side p q = if same_place q p then not (side q.entry) else side q.entry
 
 -- the only way from p's entry to p's class is the link between them: entries can be put on two sides so that each class is on one side.
 -- A column is on the side of its entry, but p itself counts for the other side
 pub record IsBridge (class : Place → Place) (p : Place) : Type 0 where
   pub side : ℕ → Bool
-  pub together : (q r : Place) → class q ≡ class r → side_seen side p q ≡ side_seen side p r
+  pub together : (q r : Place) → class q ≡ class r → side_of_column side p q ≡ side_of_column side p r
 
 -- no class has two columns of one entry, and entries and classes make no cycle
 pub record HasNoCycle (class : Place → Place) : Type 0 where

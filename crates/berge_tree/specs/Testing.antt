@@ -5,13 +5,13 @@ use Rattle.berge_tree.specs.declared.edges.Edge.{Edge}
 use Rattle.berge_tree.specs.Equalities.{place}
 
 -- `name` gives each entry the name of its part. If the entries a and b become connected, the part of b takes the name of the part of a
-abbrev pub joined_parts : (ℕ → ℕ) → ℕ → ℕ → ℕ → ℕ
-joined_parts name a b x = if name x == name b then name a else name x
+abbrev pub merged_components : (ℕ → ℕ) → ℕ → ℕ → ℕ → ℕ
+merged_components name a b x = if name x == name b then name a else name x
 
 -- each equality joins two parts that the earlier ones leave apart
 abbrev pub joins_parts : (ℕ → ℕ) → List Edge → Bool
 joins_parts name [] = true
-joins_parts name (e ∷ es) = not (name e.left.entry == name e.right.entry) && joins_parts (joined_parts name e.left.entry e.right.entry) es
+joins_parts name (e ∷ es) = not (name e.left.entry == name e.right.entry) && joins_parts (merged_components name e.left.entry e.right.entry) es
 
 -- each equality joins entries of the set
 abbrev pub has_entries : ℕ → List Edge → Bool

@@ -60,12 +60,12 @@ is_above None column = false
 is_above (Some above) column = above == column
 
 -- a column of the entry, but not its column in the class above
-abbrev pub is_at : ℕ → Option ℕ → Column → Bool
-is_at entry above c = (c.place.entry == entry) && not (is_above above c.place.column)
+abbrev pub is_column_below : ℕ → Option ℕ → Column → Bool
+is_column_below entry above c = (c.place.entry == entry) && not (is_above above c.place.column)
 
 -- another column in the class of `above`
-abbrev pub is_other : Column → Column → Bool
-is_other above c = same_place above.class c.class && not (same_place above.place c.place)
+abbrev pub is_other_of_class : Column → Column → Bool
+is_other_of_class above c = same_place above.class c.class && not (same_place above.place c.place)
 
 -- one more member is put before the other members, if there are any
 abbrev pub joined_members : ℕ → ℕ → Classes → Option Members → Option Members
@@ -88,23 +88,23 @@ classes_with members (c ∷ cs) = joined_classes c.place.column (members c) (cla
 abbrev pub walked : ℕ → List Column → ℕ → Option ℕ → Classes
 walked zero columns entry above = no_class
 walked (suc depth) columns entry above =
-    classes_with (λ c. members_with (λ d. walked depth columns d.place.entry (Some d.place.column)) (filter (is_other c) columns))
-    (filter (is_at entry above) columns)
+    classes_with (λ c. members_with (λ d. walked depth columns d.place.entry (Some d.place.column)) (filter (is_other_of_class c) columns))
+    (filter (is_column_below entry above) columns)
 
 -- the classes below an entry, for those of the entry's columns that `columns` has at index `from` or later, each down to a depth
 abbrev pub classes_at : ℕ → List Column → ℕ → ℕ → Option ℕ → Classes
 classes_at depth columns from entry above =
-    classes_with (λ c. members_with (λ d. walked depth columns d.place.entry (Some d.place.column)) (filter (is_other c) columns))
-    (filter (is_at entry above) (drop from columns))
+    classes_with (λ c. members_with (λ d. walked depth columns d.place.entry (Some d.place.column)) (filter (is_other_of_class c) columns))
+    (filter (is_column_below entry above) (drop from columns))
 
 -- the members of the class of `above` whose columns `columns` has at index `from` or later
 abbrev pub members_at : ℕ → List Column → ℕ → Column → Option Members
 members_at depth columns from above =
-    members_with (λ d. walked depth columns d.place.entry (Some d.place.column)) (filter (is_other above) (drop from columns))
+    members_with (λ d. walked depth columns d.place.entry (Some d.place.column)) (filter (is_other_of_class above) (drop from columns))
 
 -- each column has another column in its class
 abbrev pub HaveOthers : List Column → Type 0
-HaveOthers columns = (c : Column) → Contains columns c → filter (is_other c) columns ≢ []
+HaveOthers columns = (c : Column) → Contains columns c → filter (is_other_of_class c) columns ≢ []
 
 -- the index of the first column at `from` or later that passes the test, if there is one
 abbrev pub IsNext : (Column → Bool) → List Column → ℕ → Option ℕ → Type 0
@@ -131,10 +131,10 @@ forest depth columns done (x ∷ xs) =
     else tree_at depth columns x ∷ forest depth columns (entries (tree_at depth columns x) ++ done) xs
 
 -- the entry is in one of the trees
-abbrev pub stands_in : List Tree → ℕ → Bool
-stands_in [] x = false
-stands_in (t ∷ ts) x = is_among (entries (tree_of t)) x || stands_in ts x
+abbrev pub is_in_a_tree : List Tree → ℕ → Bool
+is_in_a_tree [] x = false
+is_in_a_tree (t ∷ ts) x = is_among (entries (tree_of t)) x || is_in_a_tree ts x
 
 -- a tree for the entry, unless one of the trees has it
 abbrev pub added : List Column → List Tree → ℕ → List BergeTree
-added columns trees x = if stands_in trees x then [] else tree_at 16 columns x ∷ []
+added columns trees x = if is_in_a_tree trees x then [] else tree_at 16 columns x ∷ []

@@ -10,12 +10,12 @@ use std::marker::Model;
 
 /// Equalities, with the classes of columns that they make. Contracts see only the equalities.
 #[derive(Drop)]
-pub struct Classed {
+pub struct ColumnClasses {
     edges: Seq<Edge>,
     columns: Vec<Column>,
 }
 
-impl Model for Classed {
+impl Model for ColumnClasses {
     ghost use Rattle.std.specs.Prelude.{◌≡◌, List};
     ghost use Rattle.berge_tree.specs.declared.edges.Edge.{Edge};
     ghost use Rattle.berge_tree.specs.Walk.{columns_of};
@@ -27,13 +27,13 @@ impl Model for Classed {
     ghost invariant = { λ c. c.columns.items ≡ columns_of c.edges };
 }
 
-impl Classed {
+impl ColumnClasses {
     /// Finds the classes. On `NoMemory` the equalities are dropped.
-    pub fn new(alloc: Global, edges: Seq<Edge>) -> Result<Classed, NoMemory>
+    pub fn new(alloc: Global, edges: Seq<Edge>) -> Result<ColumnClasses, NoMemory>
         ensures { IfOk result (λ classed. classed ≡ edges) }
     {
         let columns = columns_of(alloc, edges.as_slice())?;
-        Ok(Classed { edges, columns })
+        Ok(ColumnClasses { edges, columns })
     }
 
     /// The equalities.

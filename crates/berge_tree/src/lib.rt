@@ -2,7 +2,7 @@
 //!
 //! In: equalities of columns that close no cycle between entries, and a set of entries, an `EntrySet`. Out: one tree for each component of the set,
 //! on the heap. A class is a largest set of columns that the equalities connect. Below an entry are the classes of its columns, except the class
-//! above the entry. Below a class are its entries, except the entry above the class. `Classed` tells whether two columns are in one class.
+//! above the entry. Below a class are its entries, except the entry above the class. `ColumnClasses` tells whether two columns are in one class.
 //!
 //! Callers cite `ClosesNoCycle` and `AreWithin` for what they hand in. For what they get they cite `AreAllTreesOf` (the trees of a set),
 //! `tree_of` (the tree that boxes hold) and `class_of` (the class of a column).
@@ -15,7 +15,7 @@ mod laws;
 mod tree;
 mod walk;
 
-pub use classes::Classed;
+pub use classes::ColumnClasses;
 pub use edges::{Edge, Place};
 pub use laws::{
     a_tree_is_a_component, bits_tell_what_a_set_has, classes_are_joined_columns, examples,

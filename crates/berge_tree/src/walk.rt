@@ -5,7 +5,7 @@ ghost use Rattle.berge_tree.specs.Equalities.{AreWithin, ClosesNoCycle};
 ghost use Rattle.berge_tree.specs.Rooted.{AreAllTreesOf};
 ghost use Rattle.entry_sets.specs.Sets.{entries_of_set};
 ghost use Rattle.berge_tree.specs.Trees.{entries, entries_below, entries_within};
-ghost use Rattle.berge_tree.specs.Walk.{IsNext, added, classes_at, is_among, is_at, is_other, members_at, stands_in, tree_at, walked};
+ghost use Rattle.berge_tree.specs.Walk.{IsNext, added, classes_at, is_among, is_column_below, is_other_of_class, members_at, is_in_a_tree, tree_at, walked};
 
 use crate::columns::{Column, columns_of, is_same};
 use crate::edges::Edge;
@@ -18,8 +18,8 @@ use std::alloc::Global;
 const DEPTH: u8 = 16;
 
 // Whether the column is a column of the entry, but not the entry's column in the class above.
-fn is_at(column: Column, entry: u8, above: Option<u32>) -> bool
-    ensures { result ≡ is_at entry above column }
+fn is_column_below(column: Column, entry: u8, above: Option<u32>) -> bool
+    ensures { result ≡ is_column_below entry above column }
 {
     let is_above = match above {
         Some(above) => above == column.place.column,
@@ -29,17 +29,17 @@ fn is_at(column: Column, entry: u8, above: Option<u32>) -> bool
 }
 
 // Whether the column is another column in the class of `above`.
-fn is_other(above: Column, column: Column) -> bool
-    ensures { result ≡ is_other above column }
+fn is_other_of_class(above: Column, column: Column) -> bool
+    ensures { result ≡ is_other_of_class above column }
 {
     is_same(above.class, column.class) && !is_same(above.place, column.place)
 }
 
 fn next_at(columns: &[Column], from: usize, entry: u8, above: Option<u32>) -> Option<usize>
-    ensures { IsNext (is_at entry above) columns.now from result }
+    ensures { IsNext (is_column_below entry above) columns.now from result }
 {
     for i in from..columns.len() {
-        if is_at(columns[i], entry, above) {
+        if is_column_below(columns[i], entry, above) {
             return Some(i);
         }
     }
@@ -47,10 +47,10 @@ fn next_at(columns: &[Column], from: usize, entry: u8, above: Option<u32>) -> Op
 }
 
 fn next_other(columns: &[Column], from: usize, above: Column) -> Option<usize>
-    ensures { IsNext (is_other above) columns.now from result }
+    ensures { IsNext (is_other_of_class above) columns.now from result }
 {
     for i in from..columns.len() {
-        if is_other(above, columns[i]) {
+        if is_other_of_class(above, columns[i]) {
             return Some(i);
         }
     }
@@ -138,23 +138,23 @@ fn tree_from(alloc: Global, columns: &[Column], root: u8) -> Result<Tree, NoMemo
 
 // Whether an entry is in these classes, or below them.
 #[cycle(standing)]
-fn stands_below(classes: &Classes, entry: u8) -> bool
+fn is_below(classes: &Classes, entry: u8) -> bool
     ensures { result ≡ is_among (entries_below (classes_of classes.now)) entry }
 {
     match classes {
         Classes::End => false,
         Classes::And(_, members, rest) => {
-            if stands_within(members, entry) {
+            if is_within(members, entry) {
                 return true;
             }
-            stands_below(rest, entry)
+            is_below(rest, entry)
         }
     }
 }
 
 // Whether the entry is one of these members, or is below them.
 #[cycle(standing)]
-fn stands_within(members: &Members, entry: u8) -> bool
+fn is_within(members: &Members, entry: u8) -> bool
     ensures { result ≡ is_among (entries_within (members_of members.now)) entry }
 {
     match members {
@@ -162,16 +162,16 @@ fn stands_within(members: &Members, entry: u8) -> bool
             if *own == entry {
                 return true;
             }
-            stands_below(below, entry)
+            is_below(below, entry)
         }
         Members::And(own, _, below, rest) => {
             if *own == entry {
                 return true;
             }
-            if stands_below(below, entry) {
+            if is_below(below, entry) {
                 return true;
             }
-            stands_within(rest, entry)
+            is_within(rest, entry)
         }
     }
 }
@@ -182,11 +182,11 @@ fn has_entry(tree: &Tree, entry: u8) -> bool
     if tree.root == entry {
         return true;
     }
-    stands_below(&tree.below, entry)
+    is_below(&tree.below, entry)
 }
 
-fn stands_in(trees: &[Tree], entry: u8) -> bool
-    ensures { result ≡ stands_in trees.now entry }
+fn is_in_a_tree(trees: &[Tree], entry: u8) -> bool
+    ensures { result ≡ is_in_a_tree trees.now entry }
 {
     for tree in trees {
         if has_entry(tree, entry) {
@@ -205,7 +205,7 @@ fn add_tree(
 ) -> Result<(), NoMemory>
     ensures { IfOk result (λ _. map tree_of trees.new ≡ map tree_of trees.old ++ added columns.now trees.old entry) }
 {
-    if !stands_in(trees.as_slice(), entry) {
+    if !is_in_a_tree(trees.as_slice(), entry) {
         let tree = tree_from(alloc, columns, entry)?;
         trees.push(tree)?;
     }

@@ -68,9 +68,9 @@ module _ (lists : EntryLists) (entry : ℕ) where
 
 -- ---- the lists of an entry, of a class and of the root
 
-pub gathered : (b : EntryBounds) (entry : ℕ) (cs : Classes) (none all children : List Child) → children ≡ all → map lists_of all ≡ map lists_of none ++ map saturated_class (child_lists b entry cs) → none ≡ []
+pub lists_of_children : (b : EntryBounds) (entry : ℕ) (cs : Classes) (none all children : List Child) → children ≡ all → map lists_of all ≡ map lists_of none ++ map saturated_class (child_lists b entry cs) → none ≡ []
     → map lists_of children ≡ map saturated_class (child_lists b entry cs)
-gathered b entry cs none all children is made empty =
+lists_of_children b entry cs none all children is made empty =
     ap (map lists_of) is ∙ made ∙ ap (λ (start : List Child). map lists_of start ++ map saturated_class (child_lists b entry cs)) empty
 
 module _ (b : EntryBounds) (entry column : ℕ) where

@@ -2,7 +2,7 @@
 use Rattle.std.proofs.Common.{◌≡◌, ◌⊎◌, ℕ, ◌-◌, ◌^◌, ◌≤◌, List, [], length, refl, sym, subst}
 use Rattle.std.specs.Prelude.{Option, Some, None, IsSome, unwrap_or}
 use Rattle.std.specs.List.{AllByRecursion}
-use Rattle.degree_sequences.specs.Falling.{IsFalling}
+use Rattle.degree_sequences.specs.Descending.{IsDescending}
 use Rattle.degree_sequences.specs.Saturation.{saturated}
 use Rattle.berge_tree.specs.Trees.{Classes, no_class, and_class, Members, one_member, and_member, BergeTree, entries}
 use Rattle.tree_bounds.specs.Columns.{EachColumnBelow, EachColumnWithin}
@@ -11,7 +11,7 @@ use Rattle.tree_bounds.specs.TreeBounds.{HasList, TreeHasLists, bound_of_tree}
 use Rattle.tree_bounds.proofs.Injected.{choices_within}
 use Rattle.tree_bounds.proofs.Saturated.{within_saturated}
 use Rattle.bound_fold.specs.declared.lists.EntryLists.{EntryLists}
-use Rattle.bound_fold.specs.Lists.{bounds_of, list_of, IsListed}
+use Rattle.bound_fold.specs.Lists.{bounds_of, list_of, TreeHasBounds}
 use Rattle.bound_fold.proofs.Below.{listed_total}
 
 -- ---- if Q implies R, and Q is true of each column of a tree, R is true of each column
@@ -25,20 +25,20 @@ abbrev mutual
   carried_within Q R f (one_member entry column below) h = (f entry column h.0, carried_below Q R f entry below h.1)
   carried_within Q R f (and_member entry column below rest) h = (f entry column h.0, carried_below Q R f entry below h.1, carried_within Q R f rest h.2)
 
-falls_there : (lists : EntryLists) (entry column : ℕ) (o : Option (List ℕ)) → list_of lists entry column ≡ o → IsSome o → IsFalling (unwrap_or o [])
+falls_there : (lists : EntryLists) (entry column : ℕ) (o : Option (List ℕ)) → list_of lists entry column ≡ o → IsSome o → IsDescending (unwrap_or o [])
 falls_there lists entry column None e h = absurd (cc h)
 falls_there lists entry column (Some list) e h = (lists.sums entry column list e).0
 
 pub has_list : (lists : EntryLists) (entry column : ℕ) → IsSome (list_of lists entry column) → HasList (bounds_of lists) entry column
 has_list lists entry column h = record { falls = falls_there lists entry column (list_of lists entry column) refl h; total = listed_total lists entry column h }
 
-has_lists : (lists : EntryLists) (t : BergeTree) → IsListed lists t → TreeHasLists (bounds_of lists) t
+has_lists : (lists : EntryLists) (t : BergeTree) → TreeHasBounds lists t → TreeHasLists (bounds_of lists) t
 has_lists lists t listed =
     carried_below (λ entry column. IsSome (list_of lists entry column)) (HasList (bounds_of lists)) (has_list lists) t.root t.below listed.columns
 
 -- ---- the result is never below the number of choices
 
-pub choices_bounded : (lists : EntryLists) (t : BergeTree) (n : ℕ) → IsListed lists t → n ≡ saturated (bound_of_tree (bounds_of lists) t)
+pub choices_bounded : (lists : EntryLists) (t : BergeTree) (n : ℕ) → TreeHasBounds lists t → n ≡ saturated (bound_of_tree (bounds_of lists) t)
     → (tables : KeyedTables) → TreeDominates (bounds_of lists) tables t → (choices : List (ℕ → ℕ)) → AllByRecursion (Agrees tables t) choices → ChoicesAreDifferent (entries t) choices
     → (length choices ≤ n) ⊎ (n ≡ 2 ^ 128 - 1)
 choices_bounded lists t n listed is tables dominates choices agree differ =

@@ -3,7 +3,7 @@ use Rattle.std.proofs.Common.{◌≡◌, ℕ, ◌+◌, ◌^◌, ◌<◌, List, [
 use Rattle.std.specs.List.{All}
 use Rattle.std.proofs.lemmas.List.Sums.{sum_by-cons}
 use Rattle.degree_sequences.specs.Composition.{composed}
-use Rattle.degree_sequences.specs.Falling.{IsFalling}
+use Rattle.degree_sequences.specs.Descending.{IsDescending}
 use Rattle.degree_sequences.specs.Saturation.{saturated}
 use Rattle.piece_math.proofs.Composing.{All-recursion, composed-none}
 
@@ -14,5 +14,5 @@ fits (x ∷ s) small =
     let here : saturated x ≡ x = omega (arith, whole, small) in
     rw (here, fits s (omega (arith, whole, small))) refl
 
-pub is_composed : (s own : List ℕ) → sum s < 2 ^ 64 → IsFalling s → All (λ x. 0 < x) s → own ≡ s → own ≡ map saturated (composed s [])
+pub is_composed : (s own : List ℕ) → sum s < 2 ^ 64 → IsDescending s → All (λ x. 0 < x) s → own ≡ s → own ≡ map saturated (composed s [])
 is_composed s own small fall pos same = same ∙ sym (ap (map saturated) (composed-none s fall (All-recursion s pos)) ∙ fits s small)

@@ -1,7 +1,7 @@
 pub mod SetTrees
 pub mod SetBounds
 pub mod TestedSets
-mod Held
+mod MapInsertions
 mod Leaves
 mod Below
 mod Folded

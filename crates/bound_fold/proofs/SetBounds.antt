@@ -17,14 +17,14 @@ use Rattle.tree_bounds.specs.TreeBounds.{EntryBounds, bound_of_tree, bound_of_tr
 use Rattle.tree_bounds.proofs.Saturated.{saturated-min, saturated-trees_more, within_saturated}
 use Rattle.tree_bounds.proofs.Turns.{trees_are, within_set}
 use Rattle.bound_fold.specs.declared.lists.EntryLists.{EntryLists}
-use Rattle.bound_fold.specs.Lists.{bounds_of, IsListed}
-use Rattle.bound_fold.specs.Sets.{SetIsListed}
-use Rattle.bound_fold.proofs.SetTrees.{set_has_lists, turn_listed}
+use Rattle.bound_fold.specs.Lists.{bounds_of, TreeHasBounds}
+use Rattle.bound_fold.specs.Sets.{SetHasBounds}
+use Rattle.bound_fold.proofs.SetTrees.{set_has_lists, turn_has_bounds}
 
 -- ---- the product over trees
 
 module _ (lists : EntryLists) where
-  pub tree_listed : (trees : List Tree) (i : ℕ) (d : Tree) → AllByRecursion (IsListed lists) (map tree_of trees) → i < length trees → IsListed lists (tree_of (get_or trees i d))
+  pub tree_listed : (trees : List Tree) (i : ℕ) (d : Tree) → AllByRecursion (TreeHasBounds lists) (map tree_of trees) → i < length trees → TreeHasBounds lists (tree_of (get_or trees i d))
   tree_listed [] i d h l = absurd (omega arith)
   tree_listed (tree ∷ trees) zero d h l = h.0
   tree_listed (tree ∷ trees) (suc i) d h l = tree_listed trees i d h.1 (omega arith)
@@ -52,8 +52,8 @@ module _ (es : List Edge) (subset turn : ℕ) (kept : List Edge) (is_kept : kept
   are_all : AreAllTreesOf (kept_of subset turn es) (entries_of_set subset) ts
   are_all = subst (λ es. AreAllTreesOf es (entries_of_set subset) ts) is_kept r
 
-  pub trees_listed : (lists : EntryLists) → SetIsListed lists es subset → AllByRecursion (IsListed lists) ts
-  trees_listed lists h = turn_listed lists es subset turn h ts are_all
+  pub trees_listed : (lists : EntryLists) → SetHasBounds lists es subset → AllByRecursion (TreeHasBounds lists) ts
+  trees_listed lists h = turn_has_bounds lists es subset turn h ts are_all
 
   pub turn_done : {E : Type 0} (b : EntryBounds) (n : Result ℕ E) → IfOk n (λ n. n ≡ saturated (bound_of_trees b ts)) → IfOk n (λ n. n ≡ saturated (bound_of_turn b es subset turn))
   turn_done b (Ok n) h = h ∙ ap (λ ts. saturated (bound_of_trees b ts)) (trees_are es subset turn ts are_all)
@@ -82,7 +82,7 @@ module _ (b : EntryBounds) (es : List Edge) (subset : ℕ) where
 
 -- ---- the bound of a set is never below the number of choices
 
-pub set_never_under : (lists : EntryLists) (es : List Edge) (subset n : ℕ) → SetIsListed lists es subset → n ≡ saturated (bound_of_set (bounds_of lists) es subset)
+pub set_never_under : (lists : EntryLists) (es : List Edge) (subset n : ℕ) → SetHasBounds lists es subset → n ≡ saturated (bound_of_set (bounds_of lists) es subset)
     → (tables : KeyedTables) → SetDominates (bounds_of lists) tables es subset → (choices : List (ℕ → ℕ))
     → AllByRecursion (Satisfies tables (entries_of_set subset) (equalities_within subset es)) choices → ChoicesAreDifferent (entries_of_set subset) choices
     → (length choices ≤ n) ⊎ (n ≡ 2 ^ 128 - 1)

@@ -14,9 +14,9 @@ use Rattle.tree_bounds.specs.TreeBounds.{HasList}
 use Rattle.tree_bounds.specs.SetBounds.{SetHasLists}
 use Rattle.tree_bounds.proofs.Agreeing.{in_trees, named_in_turn, tree_columns}
 use Rattle.bound_fold.specs.declared.lists.EntryLists.{EntryLists}
-use Rattle.bound_fold.specs.Lists.{bounds_of, rows_of, list_of, IsListed}
+use Rattle.bound_fold.specs.Lists.{bounds_of, rows_of, list_of, TreeHasBounds}
 use Rattle.bound_fold.proofs.Folded.{has_list}
-use Rattle.bound_fold.specs.Sets.{SetIsListed}
+use Rattle.bound_fold.specs.Sets.{SetHasBounds}
 
 -- ---- each tree of a turn has its row bounds and lists
 
@@ -29,28 +29,28 @@ module _ (Q : ℕ → Type 0) where
   all_right [] ys h = h
   all_right (x ∷ xs) ys h = all_right xs ys h.1
 
-module _ (lists : EntryLists) (es : List Edge) (subset turn : ℕ) (h : SetIsListed lists es subset) where
-  abbrev HasRows : ℕ → Type 0
-  HasRows entry = IsSome (rows_of lists entry)
+module _ (lists : EntryLists) (es : List Edge) (subset turn : ℕ) (h : SetHasBounds lists es subset) where
+  abbrev HasRowBound : ℕ → Type 0
+  HasRowBound entry = IsSome (rows_of lists entry)
 
   abbrev IsThere : ℕ → ℕ → Type 0
   IsThere entry column = IsSome (list_of lists entry column)
 
-  each_listed : (ts : List BergeTree) → AllByRecursion (IsTreeOf (kept_of subset turn es)) ts → AllByRecursion HasRows (entries_of_all ts) → AllByRecursion (IsListed lists) ts
+  each_listed : (ts : List BergeTree) → AllByRecursion (IsTreeOf (kept_of subset turn es)) ts → AllByRecursion HasRowBound (entries_of_all ts) → AllByRecursion (TreeHasBounds lists) ts
   each_listed [] trees rows = tt
   each_listed (t ∷ ts) trees rows = (
     record {
-      rows = all_left HasRows (entries t) (entries_of_all ts) rows;
+      rows = all_left HasRowBound (entries t) (entries_of_all ts) rows;
       columns = tree_columns IsThere (kept_of subset turn es) (named_in_turn IsThere subset turn es h.columns) t trees.0;
     },
-    each_listed ts trees.1 (all_right HasRows (entries t) (entries_of_all ts) rows),
+    each_listed ts trees.1 (all_right HasRowBound (entries t) (entries_of_all ts) rows),
   )
 
-  pub turn_listed : (ts : List BergeTree) → AreAllTreesOf (kept_of subset turn es) (entries_of_set subset) ts → AllByRecursion (IsListed lists) ts
-  turn_listed ts all = each_listed ts all.trees (in_trees es subset turn ts all HasRows h.rows)
+  pub turn_has_bounds : (ts : List BergeTree) → AreAllTreesOf (kept_of subset turn es) (entries_of_set subset) ts → AllByRecursion (TreeHasBounds lists) ts
+  turn_has_bounds ts all = each_listed ts all.trees (in_trees es subset turn ts all HasRowBound h.rows)
 
 -- ---- the lists of a set are in descending order, and each sums to a row bound
 
-pub set_has_lists : (lists : EntryLists) (es : List Edge) (subset : ℕ) → SetIsListed lists es subset → SetHasLists (bounds_of lists) es subset
+pub set_has_lists : (lists : EntryLists) (es : List Edge) (subset : ℕ) → SetHasBounds lists es subset → SetHasLists (bounds_of lists) es subset
 set_has_lists lists es subset h =
     all_map (λ p. IsSome (list_of lists p.entry p.column)) (λ p. HasList (bounds_of lists) p.entry p.column) (λ p. has_list lists p.entry p.column) (places_of (equalities_within subset es)) h.columns

@@ -1,3 +1,3 @@
-pub mod Known
+pub mod BoundMaps
 pub mod Lists
 pub mod Sets

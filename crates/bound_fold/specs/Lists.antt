@@ -5,7 +5,7 @@ use Rattle.berge_tree.specs.Trees.{BergeTree, entries}
 use Rattle.tree_bounds.specs.Columns.{EachColumn}
 use Rattle.tree_bounds.specs.TreeBounds.{EntryBounds}
 use Rattle.bound_fold.specs.declared.lists.EntryLists.{EntryLists}
-use Rattle.bound_fold.specs.Known.{rows_in, list_in}
+use Rattle.bound_fold.specs.BoundMaps.{rows_in, list_in}
 
 -- the row bound of an entry, where it was set
 abbrev pub rows_of : EntryLists → ℕ → Option ℕ
@@ -24,6 +24,6 @@ bounds_of lists = record {
 }
 
 -- every entry of a tree has its row bound, and every column of the tree has its list
-pub record IsListed (lists : EntryLists) (t : BergeTree) : Type 0 where
+pub record TreeHasBounds (lists : EntryLists) (t : BergeTree) : Type 0 where
   pub rows : AllByRecursion (λ entry. IsSome (rows_of lists entry)) (entries t)
   pub columns : EachColumn (λ entry column. IsSome (list_of lists entry column)) t

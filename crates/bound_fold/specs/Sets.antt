@@ -9,7 +9,7 @@ use Rattle.bound_fold.specs.declared.lists.EntryLists.{EntryLists}
 use Rattle.bound_fold.specs.Lists.{rows_of, list_of}
 
 -- every entry of the set has its row bound, and every column that an equality of the set names has its list
-pub record SetIsListed (lists : EntryLists) (es : List Edge) (subset : ℕ) : Type 0 where
+pub record SetHasBounds (lists : EntryLists) (es : List Edge) (subset : ℕ) : Type 0 where
   pub rows : AllByRecursion (λ entry. IsSome (rows_of lists entry)) (entries_of_set subset)
   pub columns : EachNamedColumn (λ entry column. IsSome (list_of lists entry column)) (equalities_within subset es)
 

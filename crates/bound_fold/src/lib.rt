@@ -9,7 +9,7 @@
 //! equalities, and the bounds of the trees of these equalities are multiplied. The least product of all turns is the bound of the set.
 //!
 //! Callers cite `rows_of` and `list_of` for the row bounds and lists of an `EntryLists`, and `bounds_of` for the same numbers as `EntryBounds`. They
-//! cite `IsListed` for what a tree needs of an `EntryLists`, and `SetIsListed` for what a set needs of it.
+//! cite `TreeHasBounds` for what a tree needs of an `EntryLists`, and `SetHasBounds` for what a set needs of it.
 #![tactic(auto)]
 
 mod listed;

@@ -5,7 +5,7 @@ ghost use Rattle.entry_sets.specs.Sets.{entries_of_set, has_entry};
 ghost use Rattle.join_graph.specs.Kept.{equalities_within, joins_within};
 ghost use Rattle.tree_bounds.specs.Columns.{EachNamedColumn};
 ghost use Rattle.bound_fold.specs.Lists.{list_of, rows_of};
-ghost use Rattle.bound_fold.specs.Sets.{HaveLists, SetIsListed};
+ghost use Rattle.bound_fold.specs.Sets.{HaveLists, SetHasBounds};
 
 use crate::lists::EntryLists;
 use berge_tree::{Edge, Place};
@@ -87,7 +87,7 @@ fn all_have_lists(lists: &EntryLists, subset: EntrySet, edges: &[Edge]) -> bool
 /// Whether each entry of a set has its row bound, and each column that an equality of the set names has its list. If so, `set_bound` may be called.
 /// The test takes no memory.
 pub fn is_listed(parts: &Parts, subset: EntrySet, lists: &EntryLists) -> bool
-    ensures { IsTrue result ↔ SetIsListed lists.now parts.now.equalities subset }
+    ensures { IsTrue result ↔ SetHasBounds lists.now parts.now.equalities subset }
 {
     if !all_have_rows(lists, subset) {
         return false;

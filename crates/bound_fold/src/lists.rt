@@ -2,7 +2,7 @@
 ghost use Rattle.std.specs.Prelude.{◌≡◌, ◌≢◌, ◌⊎◌, ℕ, Some, None, OnOk, OnErr};
 ghost use Rattle.std.specs.List.{sum};
 ghost use Rattle.std.specs.Option.{option_copied};
-ghost use Rattle.bound_fold.specs.Known.{AreBounds, AreListsOf};
+ghost use Rattle.bound_fold.specs.BoundMaps.{AreBounds, AreListsOf};
 
 use base_io::NoMemory;
 use piece_math::Pieces;

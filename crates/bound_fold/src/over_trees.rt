@@ -10,7 +10,7 @@ ghost use Rattle.tree_bounds.specs.Columns.{EachColumnBelow, EachColumnWithin};
 ghost use Rattle.tree_bounds.specs.Saturating.{saturated_class};
 ghost use Rattle.tree_bounds.specs.Tables.{KeyedTables, Agrees, ChoicesAreDifferent, TreeDominates};
 ghost use Rattle.tree_bounds.specs.TreeBounds.{bound_of_tree, child_lists, class_list};
-ghost use Rattle.bound_fold.specs.Lists.{bounds_of, list_of, IsListed};
+ghost use Rattle.bound_fold.specs.Lists.{bounds_of, list_of, TreeHasBounds};
 
 use crate::lists::EntryLists;
 use base_io::NoMemory;
@@ -100,7 +100,7 @@ fn own_list(list: &Pieces) -> Result<Pieces, NoMemory>
 /// of the entries below it (Degree Sequence Bound, ICDT 2023; SafeBound, SIGMOD 2023). Where the lists dominate tables,
 /// no join of the tables along the tree has more rows.
 pub fn fold(alloc: Global, tree: &Tree, lists: &EntryLists) -> Result<u128, NoMemory>
-    requires { IsListed lists.now (tree_of tree.now) }
+    requires { TreeHasBounds lists.now (tree_of tree.now) }
     ensures exact { IfOk result (λ n. n ≡ saturated (bound_of_tree (bounds_of lists.now) (tree_of tree.now))) }
     ensures never_under { IfOk result (λ n. (tables : KeyedTables) → TreeDominates (bounds_of lists.now) tables (tree_of tree.now)
         → (choices : List (ℕ → ℕ)) → AllByRecursion (Agrees tables (tree_of tree.now)) choices

@@ -8,8 +8,8 @@ ghost use Rattle.join_graph.specs.Kept.{equalities_within};
 ghost use Rattle.tree_bounds.specs.SetBounds.{bound_of_set, bound_of_turn};
 ghost use Rattle.tree_bounds.specs.Tables.{KeyedTables, ChoicesAreDifferent, Satisfies, SetDominates};
 ghost use Rattle.tree_bounds.specs.TreeBounds.{bound_of_trees};
-ghost use Rattle.bound_fold.specs.Lists.{bounds_of, IsListed};
-ghost use Rattle.bound_fold.specs.Sets.{SetIsListed};
+ghost use Rattle.bound_fold.specs.Lists.{bounds_of, TreeHasBounds};
+ghost use Rattle.bound_fold.specs.Sets.{SetHasBounds};
 
 use crate::lists::EntryLists;
 use crate::over_trees::fold;
@@ -21,7 +21,7 @@ use std::alloc::Global;
 
 // The product of the bounds of trees.
 fn product_of_trees(alloc: Global, trees: &[Tree], lists: &EntryLists) -> Result<u128, NoMemory>
-    requires { AllByRecursion (IsListed lists.now) (map tree_of trees.now) }
+    requires { AllByRecursion (TreeHasBounds lists.now) (map tree_of trees.now) }
     ensures { IfOk result (λ n. n ≡ saturated (bound_of_trees (bounds_of lists.now) (map tree_of trees.now))) }
 {
     let mut product: u128 = 1;
@@ -40,7 +40,7 @@ pub fn turn_bound(
     turn: u32,
     lists: &EntryLists,
 ) -> Result<u128, NoMemory>
-    requires { SetIsListed lists.now parts.now.equalities subset }
+    requires { SetHasBounds lists.now parts.now.equalities subset }
     ensures { IfOk result (λ n. n ≡ saturated (bound_of_turn (bounds_of lists.now) parts.now.equalities subset turn)) }
 {
     let edges = kept(alloc, parts, subset, turn)?;
@@ -59,7 +59,7 @@ pub fn set_bound(
     subset: EntrySet,
     lists: &EntryLists,
 ) -> Result<u128, NoMemory>
-    requires { SetIsListed lists.now parts.now.equalities subset }
+    requires { SetHasBounds lists.now parts.now.equalities subset }
     ensures exact { IfOk result (λ n. n ≡ saturated (bound_of_set (bounds_of lists.now) parts.now.equalities subset)) }
     ensures never_under { IfOk result (λ n. (tables : KeyedTables) → SetDominates (bounds_of lists.now) tables parts.now.equalities subset
         → (choices : List (ℕ → ℕ))

@@ -8,7 +8,7 @@ use Rattle.join_steps.specs.Lists.{scan_of, scans_of}
 use Rattle.tree_plans.specs.declared.bushy.BushyPlan.{BushyPlan}
 use Rattle.tree_plans.specs.TreePlans.{joined_nodes, IsTreePlan, BoundsAreWithin}
 use Rattle.tree_rows.specs.Rooms.{bound_at}
-use Rattle.hash_join.specs.Examples.{equal, one_is_two, pair, six_and_five, twice_three, Comparison}
+use Rattle.hash_join.specs.Examples.{equal, one_is_two, r_joins_s, six_and_five, three_rows_two_entries, Comparison}
 use Rattle.hash_join.proofs.Worked.{level_is, scan_is}
 use Rattle.bushy_join.specs.Trees.{whole_rows, IsTreePlanOf}
 use Rattle.bushy_join.proofs.Scans.{of_whole}
@@ -19,14 +19,14 @@ use Rattle.bushy_join_tests.specs.Examples.{alone, never, pair_plan, three, tria
 abbrev pub sides : List Comparison
 sides = equal 0 0 1 0 ∷ equal 1 1 2 0 ∷ equal 2 1 0 1 ∷ []
 
-scan_fits : (rows said : List ℕ) (bound : ℕ) → rows ≡ said → length said ≤ bound → length rows ≤ bound
-scan_fits rows said bound same small = omega (arith, ap (λ (s : List ℕ). length s) same, small)
+scan_fits : (rows given : List ℕ) (bound : ℕ) → rows ≡ given → length given ≤ bound → length rows ≤ bound
+scan_fits rows given bound same small = omega (arith, ap (λ (s : List ℕ). length s) same, small)
 
-leaf_fits : (rows said : List ℕ) (bound : ℕ) → rows ≡ said → length said ≤ bound → length (map (λ row. row ∷ []) rows) ≤ bound
-leaf_fits rows said bound same small = omega (arith, length-map rows (λ row. row ∷ []), scan_fits rows said bound same small)
+leaf_fits : (rows given : List ℕ) (bound : ℕ) → rows ≡ given → length given ≤ bound → length (map (λ row. row ∷ []) rows) ≤ bound
+leaf_fits rows given bound same small = omega (arith, length-map rows (λ row. row ∷ []), scan_fits rows given bound same small)
 
-level_fits : (rows said : List (List ℕ)) (bound : ℕ) → rows ≡ said → length said ≤ bound → length rows ≤ bound
-level_fits rows said bound same small = omega (arith, ap (λ (s : List (List ℕ)). length s) same, small)
+level_fits : (rows given : List (List ℕ)) (bound : ℕ) → rows ≡ given → length given ≤ bound → length rows ≤ bound
+level_fits rows given bound same small = omega (arith, ap (λ (s : List (List ℕ)). length s) same, small)
 
 -- `named` is the number of all nodes but the root, so each of these nodes is named by one join
 abbrev NamedOnce : ℕ → BushyPlan → Type 0
@@ -51,30 +51,30 @@ pair_tree = record {
 pair_small : BoundsAreWithin 4000000 pair_plan
 pair_small = record { scans = (omega arith, (omega arith, tt)); joins = (omega arith, tt) }
 
-pair_scan : (entry : ℕ) → entry < 2 → length (scan_of pair six_and_five entry) ≤ get_or pair_plan.scans entry 0
+pair_scan : (entry : ℕ) → entry < 2 → length (scan_of r_joins_s six_and_five entry) ≤ get_or pair_plan.scans entry 0
 pair_scan zero low =
-    scan_fits (scan_of pair six_and_five 0) (0 ∷ 1 ∷ 2 ∷ 3 ∷ 4 ∷ 5 ∷ []) 6
+    scan_fits (scan_of r_joins_s six_and_five 0) (0 ∷ 1 ∷ 2 ∷ 3 ∷ 4 ∷ 5 ∷ []) 6
     (scan_is (equal 0 0 1 0 ∷ []) six_and_five 0) (omega arith)
 pair_scan (suc zero) low =
-    scan_fits (scan_of pair six_and_five 1) (0 ∷ 1 ∷ 2 ∷ 3 ∷ 4 ∷ []) 5
+    scan_fits (scan_of r_joins_s six_and_five 1) (0 ∷ 1 ∷ 2 ∷ 3 ∷ 4 ∷ []) 5
     (scan_is (equal 0 0 1 0 ∷ []) six_and_five 1) (omega arith)
 pair_scan (suc (suc entry)) low = absurd (omega arith)
 
-pair_node : (node : ℕ) → node < 3 → length (whole_rows pair (tables_of six_and_five) pair_plan node) ≤ bound_at pair_plan node
+pair_node : (node : ℕ) → node < 3 → length (whole_rows r_joins_s (tables_of six_and_five) pair_plan node) ≤ bound_at pair_plan node
 pair_node zero low =
-    leaf_fits (scan_of pair six_and_five 0) (0 ∷ 1 ∷ 2 ∷ 3 ∷ 4 ∷ 5 ∷ []) 6
+    leaf_fits (scan_of r_joins_s six_and_five 0) (0 ∷ 1 ∷ 2 ∷ 3 ∷ 4 ∷ 5 ∷ []) 6
     (scan_is (equal 0 0 1 0 ∷ []) six_and_five 0) (omega arith)
 pair_node (suc zero) low =
-    leaf_fits (scan_of pair six_and_five 1) (0 ∷ 1 ∷ 2 ∷ 3 ∷ 4 ∷ []) 5
+    leaf_fits (scan_of r_joins_s six_and_five 1) (0 ∷ 1 ∷ 2 ∷ 3 ∷ 4 ∷ []) 5
     (scan_is (equal 0 0 1 0 ∷ []) six_and_five 1) (omega arith)
 pair_node (suc (suc zero)) low =
-    level_fits (whole_rows pair (tables_of six_and_five) pair_plan 2)
+    level_fits (whole_rows r_joins_s (tables_of six_and_five) pair_plan 2)
     ((0 ∷ 0 ∷ []) ∷ (0 ∷ 1 ∷ []) ∷ (1 ∷ 0 ∷ []) ∷ (1 ∷ 1 ∷ []) ∷ (2 ∷ 0 ∷ []) ∷ (2 ∷ 1 ∷ []) ∷ []) 12
     (level_is (equal 0 0 1 0 ∷ []) six_and_five (0 ∷ 1 ∷ []) 2) (omega arith)
 pair_node (suc (suc (suc node))) low = absurd (omega arith)
 
-pub pair_planned : IsTreePlanOf pair (tables_of six_and_five) (scans_of pair (tables_of six_and_five)) pair_plan
-pair_planned = of_whole pair (tables_of six_and_five) pair_plan pair_tree pair_small pair_scan pair_node
+pub pair_planned : IsTreePlanOf r_joins_s (tables_of six_and_five) (scans_of r_joins_s (tables_of six_and_five)) pair_plan
+pair_planned = of_whole r_joins_s (tables_of six_and_five) pair_plan pair_tree pair_small pair_scan pair_node
 
 -- ---- the triangle
 
@@ -170,25 +170,25 @@ twice_tree = record {
 twice_small : BoundsAreWithin 4000000 twice
 twice_small = record { scans = (omega arith, (omega arith, tt)); joins = (omega arith, tt) }
 
-twice_scans : (entry : ℕ) → entry < 2 → scan_of (never (0 ∷ 0 ∷ [])) twice_three entry ≡ 0 ∷ 1 ∷ 2 ∷ []
-twice_scans zero low = scan_is (one_is_two ∷ []) twice_three 0
-twice_scans (suc zero) low = scan_is (one_is_two ∷ []) twice_three 1
+twice_scans : (entry : ℕ) → entry < 2 → scan_of (never (0 ∷ 0 ∷ [])) three_rows_two_entries entry ≡ 0 ∷ 1 ∷ 2 ∷ []
+twice_scans zero low = scan_is (one_is_two ∷ []) three_rows_two_entries 0
+twice_scans (suc zero) low = scan_is (one_is_two ∷ []) three_rows_two_entries 1
 twice_scans (suc (suc entry)) low = absurd (omega arith)
 
-twice_scan : (entry : ℕ) → entry < 2 → length (scan_of (never (0 ∷ 0 ∷ [])) twice_three entry) ≤ get_or twice.scans entry 0
-twice_scan zero low = scan_fits (scan_of (never (0 ∷ 0 ∷ [])) twice_three 0) (0 ∷ 1 ∷ 2 ∷ []) 3 (twice_scans 0 low) (omega arith)
-twice_scan (suc zero) low = scan_fits (scan_of (never (0 ∷ 0 ∷ [])) twice_three 1) (0 ∷ 1 ∷ 2 ∷ []) 3 (twice_scans 1 low) (omega arith)
+twice_scan : (entry : ℕ) → entry < 2 → length (scan_of (never (0 ∷ 0 ∷ [])) three_rows_two_entries entry) ≤ get_or twice.scans entry 0
+twice_scan zero low = scan_fits (scan_of (never (0 ∷ 0 ∷ [])) three_rows_two_entries 0) (0 ∷ 1 ∷ 2 ∷ []) 3 (twice_scans 0 low) (omega arith)
+twice_scan (suc zero) low = scan_fits (scan_of (never (0 ∷ 0 ∷ [])) three_rows_two_entries 1) (0 ∷ 1 ∷ 2 ∷ []) 3 (twice_scans 1 low) (omega arith)
 twice_scan (suc (suc entry)) low = absurd (omega arith)
 
-twice_node : (node : ℕ) → node < 3 → length (whole_rows (never (0 ∷ 0 ∷ [])) (tables_of twice_three) twice node) ≤ bound_at twice node
-twice_node zero low = leaf_fits (scan_of (never (0 ∷ 0 ∷ [])) twice_three 0) (0 ∷ 1 ∷ 2 ∷ []) 3 (twice_scans 0 (omega arith)) (omega arith)
+twice_node : (node : ℕ) → node < 3 → length (whole_rows (never (0 ∷ 0 ∷ [])) (tables_of three_rows_two_entries) twice node) ≤ bound_at twice node
+twice_node zero low = leaf_fits (scan_of (never (0 ∷ 0 ∷ [])) three_rows_two_entries 0) (0 ∷ 1 ∷ 2 ∷ []) 3 (twice_scans 0 (omega arith)) (omega arith)
 twice_node (suc zero) low =
-    leaf_fits (scan_of (never (0 ∷ 0 ∷ [])) twice_three 1) (0 ∷ 1 ∷ 2 ∷ []) 3
+    leaf_fits (scan_of (never (0 ∷ 0 ∷ [])) three_rows_two_entries 1) (0 ∷ 1 ∷ 2 ∷ []) 3
     (twice_scans 1 (omega arith)) (omega arith)
 twice_node (suc (suc zero)) low =
-    level_fits (whole_rows (never (0 ∷ 0 ∷ [])) (tables_of twice_three) twice 2) [] 9
-    (level_is (one_is_two ∷ []) twice_three (0 ∷ 1 ∷ []) 2) (omega arith)
+    level_fits (whole_rows (never (0 ∷ 0 ∷ [])) (tables_of three_rows_two_entries) twice 2) [] 9
+    (level_is (one_is_two ∷ []) three_rows_two_entries (0 ∷ 1 ∷ []) 2) (omega arith)
 twice_node (suc (suc (suc node))) low = absurd (omega arith)
 
-pub twice_planned : IsTreePlanOf (never (0 ∷ 0 ∷ [])) (tables_of twice_three) (scans_of (never (0 ∷ 0 ∷ [])) (tables_of twice_three)) twice
-twice_planned = of_whole (never (0 ∷ 0 ∷ [])) (tables_of twice_three) twice twice_tree twice_small twice_scan twice_node
+pub twice_planned : IsTreePlanOf (never (0 ∷ 0 ∷ [])) (tables_of three_rows_two_entries) (scans_of (never (0 ∷ 0 ∷ [])) (tables_of three_rows_two_entries)) twice
+twice_planned = of_whole (never (0 ∷ 0 ∷ [])) (tables_of three_rows_two_entries) twice twice_tree twice_small twice_scan twice_node

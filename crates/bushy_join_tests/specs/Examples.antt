@@ -4,7 +4,7 @@ use Rattle.csv_tables.specs.declared.types.Database.{Database}
 use Rattle.query_types.specs.declared.types.Query.{Query}
 use Rattle.tree_plans.specs.declared.bushy.BushyPlan.{BushyPlan}
 use Rattle.tree_plans.specs.Examples.{join, plan_of}
-use Rattle.hash_join.specs.Examples.{cond_of, numbers, one_is_two, tables_are}
+use Rattle.hash_join.specs.Examples.{cond_of, number_table, one_is_two, tables_are}
 
 -- a query that has no answer rows: FROM these tables, which are given by their numbers, WHERE 1 = 2. It selects no column
 abbrev pub never : List ℕ → Query
@@ -16,7 +16,7 @@ never tables = record {
 
 -- a table T(X) with the rows 1, 2 and 3
 abbrev pub three : Database
-three = tables_are (numbers 3 ((1 ∷ 2 ∷ 3 ∷ []) ∷ []) ∷ [])
+three = tables_are (number_table 3 ((1 ∷ 2 ∷ 3 ∷ []) ∷ []) ∷ [])
 
 -- a plan that joins two entries, of at most 6 and 5 rows, into at most 12 rows
 abbrev pub pair_plan : BushyPlan

@@ -7,7 +7,7 @@ use Rattle.std.proofs.lemmas.Nat.{pow_pos}
 use Rattle.std.proofs.lemmas.Nat.Bits.{bit_at-lt, bit_at-pow_other, bit_at_above, bit_at_ones}
 use Rattle.entry_sets.proofs.Bits.{bit_without_other, bit_without_same, power_within, twice}
 use Rattle.order_search.proofs.Tested.{both_true}
-use Rattle.bushy_plan.specs.BestTree.{all_of}
+use Rattle.bushy_plan.specs.BestTree.{full_set}
 use Rattle.bushy_plan.specs.PlanTrees.{IsFirstEntry, IsSplit, IsTreeOver, PlanTree, leaf, node, leaf_set}
 use Rattle.bushy_plan.proofs.LeftDeep.{tree_first}
 use Rattle.bushy_plan.proofs.Splitting.{no_split_of_one, same_power, split_sum, tree_set}
@@ -205,16 +205,16 @@ without set last (node left right) fits has more is_tree = elim (cases_eq (bit_a
           is_with = inr (inr (right, rest.is_with, refl));
         }
 
-pub without_last : (n : ℕ) (tree : PlanTree) → IsTreeOver (all_of (suc (suc n))) tree → (rest : PlanTree) × IsTreeOver (all_of (suc n)) rest × IsWith (suc n) rest tree
+pub without_last : (n : ℕ) (tree : PlanTree) → IsTreeOver (full_set (suc (suc n))) tree → (rest : PlanTree) × IsTreeOver (full_set (suc n)) rest × IsWith (suc n) rest tree
 without_last n tree is_tree =
-    let rest : Without (all_of (suc (suc n))) (suc n) tree =
-    without (all_of (suc (suc n))) (suc n) tree (omega (arith, pow_pos (suc (suc n)))) (bit_at_ones (suc (suc n)) (suc n) (omega arith)) (omega (arith, twice (suc n), twice n, pow_pos n)) is_tree in
+    let rest : Without (full_set (suc (suc n))) (suc n) tree =
+    without (full_set (suc (suc n))) (suc n) tree (omega (arith, pow_pos (suc (suc n)))) (bit_at_ones (suc (suc n)) (suc n) (omega arith)) (omega (arith, twice (suc n), twice n, pow_pos n)) is_tree in
     let others : 2 ^ suc (suc n) - 1 - 2 ^ suc n ≡ 2 ^ suc n - 1 = omega (arith, twice (suc n)) in
     (rest.rest, subst (λ (k : ℕ). IsTreeOver k rest.rest) others rest.is_tree, rest.is_with)
 
-pub at_tree : (n : ℕ) (test : PlanTree → Bool) (tree : PlanTree) → 0 < n → each_tree n test ≡ true → IsTreeOver (all_of n) tree → test tree ≡ true
+pub at_tree : (n : ℕ) (test : PlanTree → Bool) (tree : PlanTree) → 0 < n → each_tree n test ≡ true → IsTreeOver (full_set n) tree → test tree ≡ true
 at_tree zero test tree some h is_tree = absurd (omega arith)
 at_tree (suc zero) test tree some h is_tree = subst (λ (t : PlanTree). test t ≡ true) (sym (only_last 0 tree is_tree)) h
 at_tree (suc (suc n)) test tree some h is_tree =
-    let rest : (rest : PlanTree) × IsTreeOver (all_of (suc n)) rest × IsWith (suc n) rest tree = without_last n tree is_tree in
+    let rest : (rest : PlanTree) × IsTreeOver (full_set (suc n)) rest × IsWith (suc n) rest tree = without_last n tree is_tree in
     tested_with (suc n) test rest.0 tree rest.2 (at_tree (suc n) (λ t. each_with (suc n) test t) rest.0 (omega arith) h rest.1)

@@ -4,11 +4,11 @@ use Rattle.std.proofs.lemmas.Bool.{cases_lt}
 use Rattle.std.proofs.lemmas.Nat.{pow_pos}
 use Rattle.std.proofs.lemmas.Nat.Bits.{bit_at_ones}
 use Rattle.entry_sets.proofs.Bits.{twice}
-use Rattle.bushy_plan.specs.declared.weight.Weight.TheVariants as weight
-use Rattle.bushy_plan.specs.BestTree.{all_of, cost, inner_greatest, inner_sum, total}
+use Rattle.bushy_plan.specs.declared.weight.Weighing.TheVariants as weight
+use Rattle.bushy_plan.specs.BestTree.{full_set, cost, inner_greatest, inner_sum, total}
 use Rattle.bushy_plan.specs.PlanTrees.{IsFirstEntry, IsTreeOver, PlanTree, leaf, node, leaf_set, inner_count}
 use Rattle.bushy_plan.specs.Splits.{weight_of}
-use Rattle.bushy_plan.proofs.Lightest.{joined-beyond, joined-within}
+use Rattle.bushy_plan.proofs.Lightest.{combined-beyond, combined-within}
 use Rattle.bushy_plan.proofs.Splitting.{no_leaf}
 
 pub weighs_greatest : (bounds : List ℕ) (tree : PlanTree) → weight_of weight.Greatest bounds tree ≡ inner_greatest bounds tree
@@ -16,32 +16,32 @@ weighs_greatest bounds (leaf entry) = refl
 weighs_greatest bounds (node left right) = rw (weighs_greatest bounds left, weighs_greatest bounds right) refl
 
 pub weighs_sum : (most : ℕ) (bounds : List ℕ) (tree : PlanTree) → inner_greatest bounds tree ≤ most
-    → weight_of (weight.SumWithin most) bounds tree ≡ min (inner_sum bounds tree) (2 ^ 128 - 1)
+    → weight_of (weight.SumOfBoundsUpTo most) bounds tree ≡ min (inner_sum bounds tree) (2 ^ 128 - 1)
 weighs_sum most bounds (leaf entry) low = refl
 weighs_sum most bounds (node left right) low =
     let bound : ℕ = get_or bounds (leaf_set left + leaf_set right) 0 in
     omega (
       arith,
-      joined-within most bound (weight_of (weight.SumWithin most) bounds left) (weight_of (weight.SumWithin most) bounds right) (omega arith),
+      combined-within most bound (weight_of (weight.SumOfBoundsUpTo most) bounds left) (weight_of (weight.SumOfBoundsUpTo most) bounds right) (omega arith),
       weighs_sum most bounds left (omega arith),
       weighs_sum most bounds right (omega arith),
     )
 
-pub weighs_most : (most : ℕ) (bounds : List ℕ) (tree : PlanTree) → most < inner_greatest bounds tree → weight_of (weight.SumWithin most) bounds tree ≡ 2 ^ 128 - 1
+pub weighs_most : (most : ℕ) (bounds : List ℕ) (tree : PlanTree) → most < inner_greatest bounds tree → weight_of (weight.SumOfBoundsUpTo most) bounds tree ≡ 2 ^ 128 - 1
 weighs_most most bounds (leaf entry) high = absurd (omega arith)
 weighs_most most bounds (node left right) high =
     let bound : ℕ = get_or bounds (leaf_set left + leaf_set right) 0 in
     elim (cases_lt most bound) [
-      | inl beyond ↦ joined-beyond most bound (weight_of (weight.SumWithin most) bounds left) (weight_of (weight.SumWithin most) bounds right) beyond
+      | inl beyond ↦ combined-beyond most bound (weight_of (weight.SumOfBoundsUpTo most) bounds left) (weight_of (weight.SumOfBoundsUpTo most) bounds right) beyond
       | inr within ↦ elim (cases_lt most (inner_greatest bounds left)) [
         | inl above ↦ omega (
           arith,
-          joined-within most bound (weight_of (weight.SumWithin most) bounds left) (weight_of (weight.SumWithin most) bounds right) within,
+          combined-within most bound (weight_of (weight.SumOfBoundsUpTo most) bounds left) (weight_of (weight.SumOfBoundsUpTo most) bounds right) within,
           weighs_most most bounds left above,
         )
         | inr below ↦ omega (
           arith,
-          joined-within most bound (weight_of (weight.SumWithin most) bounds left) (weight_of (weight.SumWithin most) bounds right) within,
+          combined-within most bound (weight_of (weight.SumOfBoundsUpTo most) bounds left) (weight_of (weight.SumOfBoundsUpTo most) bounds right) within,
           weighs_most most bounds right (omega arith),
         )
       ]
@@ -58,21 +58,21 @@ greatest_at_most_cost bounds (node left right) = omega arith
 
 -- ---- trees over all entries
 
-pub first_of_all : (n : ℕ) → 0 < n → IsFirstEntry (all_of n) 0
+pub first_of_all : (n : ℕ) → 0 < n → IsFirstEntry (full_set n) 0
 first_of_all n some = record { is_in = bit_at_ones n 0 some; none_before = λ entry below. absurd (omega arith) }
 
-pub more_than_first : (n : ℕ) → 1 < n → 0 < all_of n - 2 ^ 0
+pub more_than_first : (n : ℕ) → 1 < n → 0 < full_set n - 2 ^ 0
 more_than_first zero h = absurd (omega arith)
 more_than_first (suc zero) h = absurd (omega arith)
 more_than_first (suc (suc n)) h = omega (arith, twice (suc n), twice n, pow_pos n)
 
-pub no_leaf_of_all : (n entry : ℕ) → 1 < n → IsTreeOver (all_of n) (leaf entry) → ⊥
-no_leaf_of_all n entry more is_tree = no_leaf (all_of n) 0 entry (first_of_all n (omega arith)) (more_than_first n more) is_tree
+pub no_leaf_of_all : (n entry : ℕ) → 1 < n → IsTreeOver (full_set n) (leaf entry) → ⊥
+no_leaf_of_all n entry more is_tree = no_leaf (full_set n) 0 entry (first_of_all n (omega arith)) (more_than_first n more) is_tree
 
-pub cost_inside : (bounds : List ℕ) (n : ℕ) (tree : PlanTree) → 1 < n → IsTreeOver (all_of n) tree → cost bounds tree ≡ inner_greatest bounds tree
+pub cost_inside : (bounds : List ℕ) (n : ℕ) (tree : PlanTree) → 1 < n → IsTreeOver (full_set n) tree → cost bounds tree ≡ inner_greatest bounds tree
 cost_inside bounds n (leaf entry) more is_tree = absurd (no_leaf_of_all n entry more is_tree)
 cost_inside bounds n (node left right) more is_tree = refl
 
-pub total_inside : (bounds : List ℕ) (n : ℕ) (tree : PlanTree) → 1 < n → IsTreeOver (all_of n) tree → total bounds tree ≡ inner_sum bounds tree
+pub total_inside : (bounds : List ℕ) (n : ℕ) (tree : PlanTree) → 1 < n → IsTreeOver (full_set n) tree → total bounds tree ≡ inner_sum bounds tree
 total_inside bounds n (leaf entry) more is_tree = absurd (no_leaf_of_all n entry more is_tree)
 total_inside bounds n (node left right) more is_tree = refl

@@ -5,11 +5,11 @@ use Rattle.std.proofs.lemmas.Nat.{pow_pos}
 use Rattle.std.proofs.lemmas.Bool.{cases_lt}
 use Rattle.entry_sets.proofs.Bits.{twice}
 use Rattle.tree_plans.specs.declared.bushy.Join.{Join}
-use Rattle.bushy_plan.specs.declared.weight.Weight.{Weight}
-use Rattle.bushy_plan.specs.declared.weight.Weight.TheVariants as weight
-use Rattle.bushy_plan.specs.BestTree.{AreOfBest, IsTreeBefore, IsBest, IsLeastCost, all_of, cost, inner_greatest, inner_sum, total}
+use Rattle.bushy_plan.specs.declared.weight.Weighing.{Weighing}
+use Rattle.bushy_plan.specs.declared.weight.Weighing.TheVariants as weight
+use Rattle.bushy_plan.specs.BestTree.{AreOfBest, IsTreeBefore, IsBest, IsLeastCost, full_set, cost, inner_greatest, inner_sum, total}
 use Rattle.bushy_plan.specs.PlanTrees.{IsFirstEntry, IsSplit, IsTreeOver, PlanTree, leaf, node, leaf_set, inner_count, joins_from, root_number}
-use Rattle.bushy_plan.specs.Splits.{IsBehindFirst, IsFirstLightest, IsLeastWeight, IsReadOff, IsTable, weight_of}
+use Rattle.bushy_plan.specs.Splits.{IsWithoutFirst, IsFirstLightest, IsLeastWeight, AppendsFirstLightest, IsTable, weight_of}
 use Rattle.bushy_plan.proofs.Costs.{cost_inside, greatest_at_most_cost, sum_small, total_inside, weighs_greatest, weighs_most, weighs_sum}
 use Rattle.bushy_plan.proofs.Lightest.{right_in_table}
 use Rattle.bushy_plan.proofs.Numbering.{count_of_all, length-joins_from}
@@ -18,10 +18,10 @@ use Rattle.bushy_plan.proofs.Splitting.{no_split_of_one, one_first, tree_set}
 
 -- ---- the joins of a node come after the joins of its two sides
 
-pub read_node : (w : Weight) (bounds : List ℕ) (next set right_set : ℕ) (old middle all new : List Join) (left_root right_root number : ℕ)
-    → (left : IsReadOff w bounds next (set - right_set) old middle left_root) → (right : IsReadOff w bounds next right_set middle all right_root)
+pub read_node : (w : Weighing) (bounds : List ℕ) (next set right_set : ℕ) (old middle all new : List Join) (left_root right_root number : ℕ)
+    → (left : AppendsFirstLightest w bounds next (set - right_set) old middle left_root) → (right : AppendsFirstLightest w bounds next right_set middle all right_root)
     → IsFirstLightest w bounds set (node left.tree right.tree) → number ≡ next + length all
-    → new ≡ all ++ (record { left = left_root; right = right_root; bound = get_or bounds set 0 }) ∷ [] → IsReadOff w bounds next set old new number
+    → new ≡ all ++ (record { left = left_root; right = right_root; bound = get_or bounds set 0 }) ∷ [] → AppendsFirstLightest w bounds next set old new number
 read_node w bounds next set right_set old middle all new left_root right_root number left right is_first is_number pushed =
     let left_count : length (joins_from bounds (next + length old) left.tree) ≡ inner_count left.tree = length-joins_from bounds (next + length old) left.tree in
     let middle_count : next + length middle ≡ next + length old + inner_count left.tree =
@@ -45,7 +45,7 @@ read_node w bounds next set right_set old middle all new left_root right_root nu
 
 -- ---- the inner nodes of each side are few enough to be numbered
 
-pub room_left : (w : Weight) (bounds table : List ℕ) (set end right_set count : ℕ) → set < end → IsTable w bounds table end → IsSplit set (set - right_set) right_set
+pub room_left : (w : Weighing) (bounds table : List ℕ) (set end right_set count : ℕ) → set < end → IsTable w bounds table end → IsSplit set (set - right_set) right_set
     → ((tree : PlanTree) → IsTreeOver set tree → count + inner_count tree < 12) → (tree : PlanTree) → IsTreeOver (set - right_set) tree → count + inner_count tree < 12
 room_left w bounds table set end right_set count h is_table split room tree is_tree =
     let other : IsLeastWeight w bounds right_set (get_or table right_set 0) = right_in_table w bounds table set end right_set (omega arith) is_table split in
@@ -56,18 +56,18 @@ pub room_right : (set right_set count : ℕ) (left : PlanTree) → IsTreeOver (s
 room_right set right_set count left left_tree split room tree is_tree =
     omega (arith, room (node left tree) (node_over set right_set left tree split left_tree is_tree))
 
-count_after : (w : Weight) (bounds : List ℕ) (next set : ℕ) (old new : List Join) (root : ℕ) → (read : IsReadOff w bounds next set old new root) → length new ≡ length old + inner_count read.tree
+count_after : (w : Weighing) (bounds : List ℕ) (next set : ℕ) (old new : List Join) (root : ℕ) → (read : AppendsFirstLightest w bounds next set old new root) → length new ≡ length old + inner_count read.tree
 count_after w bounds next set old new root read =
     omega (arith, ap length read.joins, length-append {A = Join} old (joins_from bounds (next + length old) read.tree), length-joins_from bounds (next + length old) read.tree)
 
-pub room_behind : (w : Weight) (bounds : List ℕ) (next set right_set : ℕ) (old middle : List Join) (left_root : ℕ) → IsReadOff w bounds next (set - right_set) old middle left_root
+pub room_behind : (w : Weighing) (bounds : List ℕ) (next set right_set : ℕ) (old middle : List Join) (left_root : ℕ) → AppendsFirstLightest w bounds next (set - right_set) old middle left_root
     → IsSplit set (set - right_set) right_set → ((tree : PlanTree) → IsTreeOver set tree → length old + inner_count tree < 12)
     → (tree : PlanTree) → IsTreeOver right_set tree → length middle + inner_count tree < 12
 room_behind w bounds next set right_set old middle left_root left split room tree is_tree =
     omega (arith, count_after w bounds next (set - right_set) old middle left_root left, room_right set right_set (length old) left.tree left.is_first.is_tree split room tree is_tree)
 
-pub few_numbers : (w : Weight) (bounds : List ℕ) (next set right_set : ℕ) (old middle all : List Join) (left_root right_root : ℕ) → IsReadOff w bounds next (set - right_set) old middle left_root
-    → IsReadOff w bounds next right_set middle all right_root → IsSplit set (set - right_set) right_set → ((tree : PlanTree) → IsTreeOver set tree → length old + inner_count tree < 12) → length all < 12
+pub few_numbers : (w : Weighing) (bounds : List ℕ) (next set right_set : ℕ) (old middle all : List Join) (left_root right_root : ℕ) → AppendsFirstLightest w bounds next (set - right_set) old middle left_root
+    → AppendsFirstLightest w bounds next right_set middle all right_root → IsSplit set (set - right_set) right_set → ((tree : PlanTree) → IsTreeOver set tree → length old + inner_count tree < 12) → length all < 12
 few_numbers w bounds next set right_set old middle all left_root right_root left right split room =
     omega (
       arith,
@@ -75,8 +75,8 @@ few_numbers w bounds next set right_set old middle all left_root right_root left
       room_behind w bounds next set right_set old middle left_root left split room right.tree right.is_first.is_tree,
     )
 
-pub read_leaf : (w : Weight) (bounds : List ℕ) (next set first : ℕ) (old : List Join) → IsFirstEntry set first → (behind : ℕ) → IsBehindFirst set behind → behind ≡ 0
-    → IsReadOff w bounds next set old old first
+pub read_leaf : (w : Weighing) (bounds : List ℕ) (next set first : ℕ) (old : List Join) → IsFirstEntry set first → (behind : ℕ) → IsWithoutFirst set behind → behind ≡ 0
+    → AppendsFirstLightest w bounds next set old old first
 read_leaf w bounds next set first old is_first behind b none =
     let same : b.first ≡ first = one_first set b.first first b.is_first is_first in
     let alone : set - 2 ^ first ≡ 0 = ap (λ k. set - 2 ^ k) (sym same) ∙ sym b.others ∙ none in
@@ -89,15 +89,15 @@ read_leaf w bounds next set first old is_first behind b none =
 
 -- ---- whole trees
 
-pub some_of_all : (n : ℕ) → 0 < n → 0 < all_of n
+pub some_of_all : (n : ℕ) → 0 < n → 0 < full_set n
 some_of_all zero some = absurd (omega arith)
 some_of_all (suc n) some = omega (arith, twice n, pow_pos n)
 
 pub least_cost_from : (bounds table : List ℕ) (n least : ℕ) → 1 < n → length bounds ≡ 2 ^ n → IsTable weight.Greatest bounds table (length bounds)
     → least ≡ get_or table (length bounds - 1) 0 → IsLeastCost bounds n least
 least_cost_from bounds table n least more size is_table is =
-    let last : length bounds - 1 ≡ all_of n = omega arith in
-    let whole : IsLeastWeight weight.Greatest bounds (all_of n) (get_or table (length bounds - 1) 0) =
+    let last : length bounds - 1 ≡ full_set n = omega arith in
+    let whole : IsLeastWeight weight.Greatest bounds (full_set n) (get_or table (length bounds - 1) 0) =
     subst (λ k. IsLeastWeight weight.Greatest bounds k (get_or table (length bounds - 1) 0)) last
     (is_table (length bounds - 1) (omega (arith, last, some_of_all n (omega arith))) (omega (arith, pow_pos n))) in
     record {
@@ -108,29 +108,29 @@ least_cost_from bounds table n least more size is_table is =
     }
 
 -- weights saturate at 2^128 - 1, and this sum is far below it
-weighs_small : (bounds : List ℕ) (n least : ℕ) (tree : PlanTree) → n ≤ 12 → least ≤ 2 ^ 59 → IsTreeOver (all_of n) tree → inner_greatest bounds tree ≤ least
-    → (weight_of (weight.SumWithin least) bounds tree ≡ inner_sum bounds tree) × (inner_sum bounds tree < 2 ^ 63)
+weighs_small : (bounds : List ℕ) (n least : ℕ) (tree : PlanTree) → n ≤ 12 → least ≤ 2 ^ 59 → IsTreeOver (full_set n) tree → inner_greatest bounds tree ≤ least
+    → (weight_of (weight.SumOfBoundsUpTo least) bounds tree ≡ inner_sum bounds tree) × (inner_sum bounds tree < 2 ^ 63)
 weighs_small bounds n least tree few small is_tree low =
     let sum_is_small : inner_sum bounds tree < 2 ^ 63 = omega (arith, sum_small bounds tree (omega arith), count_of_all n tree is_tree) in
     (omega (arith, weighs_sum least bounds tree low, sum_is_small), sum_is_small)
 
 found_is_light : (bounds : List ℕ) (n least : ℕ) → n ≤ 12 → least ≤ 2 ^ 59 → (found : IsLeastCost bounds n least)
-    → (weight_of (weight.SumWithin least) bounds found.tree ≡ inner_sum bounds found.tree) × (inner_sum bounds found.tree < 2 ^ 63)
+    → (weight_of (weight.SumOfBoundsUpTo least) bounds found.tree ≡ inner_sum bounds found.tree) × (inner_sum bounds found.tree < 2 ^ 63)
 found_is_light bounds n least few small found =
     weighs_small bounds n least found.tree few small found.is_tree (omega (arith, greatest_at_most_cost bounds found.tree, found.costs))
 
 pub sum_is_light : (bounds table : List ℕ) (n least : ℕ) → 0 < n → n ≤ 12 → least ≤ 2 ^ 59 → IsLeastCost bounds n least → length bounds ≡ 2 ^ n
-    → IsTable (weight.SumWithin least) bounds table (length bounds) → get_or table (length bounds - 1) 0 < 2 ^ 128 - 1
+    → IsTable (weight.SumOfBoundsUpTo least) bounds table (length bounds) → get_or table (length bounds - 1) 0 < 2 ^ 128 - 1
 sum_is_light bounds table n least some few small found size is_table =
-    let last : length bounds - 1 ≡ all_of n = omega arith in
-    let weighs : (weight_of (weight.SumWithin least) bounds found.tree ≡ inner_sum bounds found.tree) × (inner_sum bounds found.tree < 2 ^ 63) =
+    let last : length bounds - 1 ≡ full_set n = omega arith in
+    let weighs : (weight_of (weight.SumOfBoundsUpTo least) bounds found.tree ≡ inner_sum bounds found.tree) × (inner_sum bounds found.tree < 2 ^ 63) =
     found_is_light bounds n least few small found in
-    let lightest : IsLeastWeight (weight.SumWithin least) bounds (length bounds - 1) (get_or table (length bounds - 1) 0) =
+    let lightest : IsLeastWeight (weight.SumOfBoundsUpTo least) bounds (length bounds - 1) (get_or table (length bounds - 1) 0) =
     is_table (length bounds - 1) (omega (arith, last, some_of_all n some)) (omega (arith, pow_pos n)) in
     omega (arith, lightest.none_lighter found.tree (subst (λ (k : ℕ). IsTreeOver k found.tree) (sym last) found.is_tree), weighs.0, weighs.1)
 
-best_of_one : (bounds : List ℕ) (tree : PlanTree) → IsTreeOver 1 tree → IsBest bounds 1 tree
-best_of_one bounds tree is_tree = record {
+best_if_one_entry : (bounds : List ℕ) (tree : PlanTree) → IsTreeOver 1 tree → IsBest bounds 1 tree
+best_if_one_entry bounds tree is_tree = record {
   is_tree = is_tree;
   none_cheaper = λ other other_tree. omega (arith, cost_is tree is_tree, cost_is other other_tree);
   none_smaller = λ other other_tree same. omega (arith, total_is tree is_tree, total_is other other_tree);
@@ -149,13 +149,13 @@ best_of_one bounds tree is_tree = record {
     not_before (leaf entry) over before = before
     not_before (node left right) over before = absurd (no_split_of_one 0 (leaf_set left) (leaf_set right) over.0)
 
-best_of_more : (bounds : List ℕ) (n least : ℕ) (tree : PlanTree) → 1 < n → n ≤ 12 → least ≤ 2 ^ 59 → IsLeastCost bounds n least
-    → IsFirstLightest (weight.SumWithin least) bounds (all_of n) tree → IsBest bounds n tree × (cost bounds tree ≡ least)
-best_of_more bounds n least tree more few small found first = (best, costs)
+best_if_more_entries : (bounds : List ℕ) (n least : ℕ) (tree : PlanTree) → 1 < n → n ≤ 12 → least ≤ 2 ^ 59 → IsLeastCost bounds n least
+    → IsFirstLightest (weight.SumOfBoundsUpTo least) bounds (full_set n) tree → IsBest bounds n tree × (cost bounds tree ≡ least)
+best_if_more_entries bounds n least tree more few small found first = (best, costs)
   where
     within : inner_greatest bounds tree ≤ least
     within = elim (cases_lt least (inner_greatest bounds tree)) [
-      | inl above ↦ (let weighs : (weight_of (weight.SumWithin least) bounds found.tree ≡ inner_sum bounds found.tree) × (inner_sum bounds found.tree < 2 ^ 63) =
+      | inl above ↦ (let weighs : (weight_of (weight.SumOfBoundsUpTo least) bounds found.tree ≡ inner_sum bounds found.tree) × (inner_sum bounds found.tree < 2 ^ 63) =
           found_is_light bounds n least few small found in
           absurd (omega (arith, first.none_lighter found.tree found.is_tree, weighs.0, weighs.1, weighs_most least bounds tree above)))
       | inr below ↦ below
@@ -164,10 +164,10 @@ best_of_more bounds n least tree more few small found first = (best, costs)
     costs : cost bounds tree ≡ least
     costs = omega (arith, cost_inside bounds n tree more first.is_tree, within, found.none_cheaper tree first.is_tree)
 
-    own : weight_of (weight.SumWithin least) bounds tree ≡ total bounds tree
+    own : weight_of (weight.SumOfBoundsUpTo least) bounds tree ≡ total bounds tree
     own = omega (arith, (weighs_small bounds n least tree few small first.is_tree within).0, total_inside bounds n tree more first.is_tree)
 
-    theirs : (other : PlanTree) → IsTreeOver (all_of n) other → cost bounds other ≡ cost bounds tree → weight_of (weight.SumWithin least) bounds other ≡ total bounds other
+    theirs : (other : PlanTree) → IsTreeOver (full_set n) other → cost bounds other ≡ cost bounds tree → weight_of (weight.SumOfBoundsUpTo least) bounds other ≡ total bounds other
     theirs other is_tree same =
         omega (arith, (weighs_small bounds n least other few small is_tree (omega (arith, costs, same, cost_inside bounds n other more is_tree))).0, total_inside bounds n other more is_tree)
 
@@ -180,19 +180,19 @@ best_of_more bounds n least tree more few small found first = (best, costs)
     }
 
 best_of_first : (bounds : List ℕ) (n least : ℕ) (tree : PlanTree) → 0 < n → n ≤ 12 → least ≤ 2 ^ 59 → IsLeastCost bounds n least
-    → IsFirstLightest (weight.SumWithin least) bounds (all_of n) tree → IsBest bounds n tree × (cost bounds tree ≡ least)
+    → IsFirstLightest (weight.SumOfBoundsUpTo least) bounds (full_set n) tree → IsBest bounds n tree × (cost bounds tree ≡ least)
 best_of_first bounds zero least tree some few small found first = absurd (omega arith)
 best_of_first bounds (suc zero) least tree some few small found first =
-    let best : IsBest bounds 1 tree = best_of_one bounds tree first.is_tree in
+    let best : IsBest bounds 1 tree = best_if_one_entry bounds tree first.is_tree in
     (best, omega (arith, best.none_cheaper found.tree found.is_tree, found.none_cheaper tree first.is_tree, found.costs))
-best_of_first bounds (suc (suc n)) least tree some few small found first = best_of_more bounds (suc (suc n)) least tree (omega arith) few small found first
+best_of_first bounds (suc (suc n)) least tree some few small found first = best_if_more_entries bounds (suc (suc n)) least tree (omega arith) few small found first
 
 pub joins_of_best : (bounds : List ℕ) (n least root : ℕ) (joins : List Join) → 0 < n → n ≤ 12 → least ≤ 2 ^ 59 → IsLeastCost bounds n least → length bounds ≡ 2 ^ n
-    → IsReadOff (weight.SumWithin least) bounds n (length bounds - 1) [] joins root → AreOfBest bounds n least joins
+    → AppendsFirstLightest (weight.SumOfBoundsUpTo least) bounds n (length bounds - 1) [] joins root → AreOfBest bounds n least joins
 joins_of_best bounds n least root joins some few small found size read =
-    let last : length bounds - 1 ≡ all_of n = omega arith in
+    let last : length bounds - 1 ≡ full_set n = omega arith in
     let best : IsBest bounds n read.tree × (cost bounds read.tree ≡ least) =
-    best_of_first bounds n least read.tree some few small found (subst (λ k. IsFirstLightest (weight.SumWithin least) bounds k read.tree) last read.is_first) in
+    best_of_first bounds n least read.tree some few small found (subst (λ k. IsFirstLightest (weight.SumOfBoundsUpTo least) bounds k read.tree) last read.is_first) in
     let none_before : n + 0 ≡ n = omega arith in
     record {
       tree = read.tree;

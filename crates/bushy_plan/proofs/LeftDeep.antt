@@ -11,7 +11,7 @@ use Rattle.order_search.specs.Ways.{IsWay}
 use Rattle.order_search.proofs.Prefixes.{cost_is, levels_after}
 use Rattle.order_search.proofs.WholeWays.{way_from_order}
 use Rattle.plans.specs.LeftDeep.{IsOrder}
-use Rattle.bushy_plan.specs.BestTree.{all_of, cost, inner_greatest}
+use Rattle.bushy_plan.specs.BestTree.{full_set, cost, inner_greatest}
 use Rattle.bushy_plan.specs.PlanTrees.{IsFirstEntry, IsSplit, IsTreeOver, PlanTree, leaf, node, leaf_set}
 use Rattle.bushy_plan.proofs.Splitting.{first_of_power, one_first, some_entries, tree_set}
 
@@ -146,9 +146,9 @@ of_way bounds all most (x ∷ entries) some way levels =
       | inr other ↦ omega (arith, bit_at-pow_other x entry other, bit_at-lt (all - 2 ^ x) entry)
     ]
 
-pub no_dearer : (bounds : List ℕ) (n least : ℕ) → 0 < all_of n → ((other : PlanTree) → IsTreeOver (all_of n) other → least ≤ cost bounds other)
+pub no_dearer : (bounds : List ℕ) (n least : ℕ) → 0 < full_set n → ((other : PlanTree) → IsTreeOver (full_set n) other → least ≤ cost bounds other)
     → (order : List ℕ) → IsOrder n order → least ≤ left_deep_cost bounds order
 no_dearer bounds n least some none_cheaper order is_order =
-    let cheap : Cheap bounds (all_of n) (left_deep_cost bounds order) =
-    of_way bounds (all_of n) (left_deep_cost bounds order) order some (way_from_order n order is_order) (omega (arith, cost_is bounds order)) in
+    let cheap : Cheap bounds (full_set n) (left_deep_cost bounds order) =
+    of_way bounds (full_set n) (left_deep_cost bounds order) order some (way_from_order n order is_order) (omega (arith, cost_is bounds order)) in
     omega (arith, none_cheaper cheap.tree cheap.is_tree, cheap.cheap)

@@ -2,40 +2,40 @@
 use Rattle.std.proofs.Common.{◌≡◌, ℕ, ◌+◌, ◌-◌, ◌^◌, ◌<◌, ◌≤◌, min, List, get_or, refl, ap, sym, ◌∙◌, subst, arith, inl, inr}
 use Rattle.std.specs.Prelude.{◌⊎◌, bit_and}
 use Rattle.std.proofs.lemmas.Bool.{cases_lt, cases_order, le-leb, lt-leb}
-use Rattle.bushy_plan.specs.declared.weight.Weight.{Weight}
-use Rattle.bushy_plan.specs.declared.weight.Weight.TheVariants as weight
+use Rattle.bushy_plan.specs.declared.weight.Weighing.{Weighing}
+use Rattle.bushy_plan.specs.declared.weight.Weighing.TheVariants as weight
 use Rattle.bushy_plan.specs.PlanTrees.{IsFirstEntry, IsSplit, IsTreeOver, PlanTree, leaf, node, leaf_set}
 use Rattle.bushy_plan.specs.Splits.{IsLeastWeight, IsTable, combined, weight_of, weight_through}
 use Rattle.bushy_plan.proofs.Parts.{IsPart, itself, common_part, none_between, part_le}
 use Rattle.bushy_plan.proofs.Splitting.{no_leaf, only_leaf, part_of_split, some_entries, split_of_part, split_right_le, tree_set}
 
-pub joined-within : (most bound left right : ℕ) → bound ≤ most → combined (weight.SumWithin most) bound left right ≡ min (bound + left + right) (2 ^ 128 - 1)
-joined-within most bound left right h = rw (le-leb bound most h) refl
+pub combined-within : (most bound left right : ℕ) → bound ≤ most → combined (weight.SumOfBoundsUpTo most) bound left right ≡ min (bound + left + right) (2 ^ 128 - 1)
+combined-within most bound left right h = rw (le-leb bound most h) refl
 
-pub joined-beyond : (most bound left right : ℕ) → most < bound → combined (weight.SumWithin most) bound left right ≡ 2 ^ 128 - 1
-joined-beyond most bound left right h = rw (lt-leb bound most h) refl
+pub combined-beyond : (most bound left right : ℕ) → most < bound → combined (weight.SumOfBoundsUpTo most) bound left right ≡ 2 ^ 128 - 1
+combined-beyond most bound left right h = rw (lt-leb bound most h) refl
 
-pub joined-mono : (w : Weight) (bound a b c d : ℕ) → a ≤ c → b ≤ d → combined w bound a b ≤ combined w bound c d
-joined-mono weight.Greatest bound a b c d h k = omega arith
-joined-mono (weight.SumWithin most) bound a b c d h k = elim (cases_lt most bound) [
-  | inl beyond ↦ omega (arith, joined-beyond most bound a b beyond, joined-beyond most bound c d beyond)
-  | inr within ↦ omega (arith, joined-within most bound a b within, joined-within most bound c d within)
+pub combined-mono : (w : Weighing) (bound a b c d : ℕ) → a ≤ c → b ≤ d → combined w bound a b ≤ combined w bound c d
+combined-mono weight.Greatest bound a b c d h k = omega arith
+combined-mono (weight.SumOfBoundsUpTo most) bound a b c d h k = elim (cases_lt most bound) [
+  | inl beyond ↦ omega (arith, combined-beyond most bound a b beyond, combined-beyond most bound c d beyond)
+  | inr within ↦ omega (arith, combined-within most bound a b within, combined-within most bound c d within)
 ]
 
 -- the right sets above `right` were tried: `least` is the least weight of a tree with one of them, or 2^128 - 1 if no right set was tried
-pub record Tried (w : Weight) (bounds table : List ℕ) (set behind right least : ℕ) : Type 0 where
+pub record Tried (w : Weighing) (bounds table : List ℕ) (set behind right least : ℕ) : Type 0 where
   pub is_part : IsPart right behind
   pub above : (other : ℕ) → IsPart other behind → right < other → (least ≤ weight_through w bounds table set other) × (weight_through w bounds table set other < 2 ^ 128)
   pub found : (least ≡ 2 ^ 128 - 1) ⊎ ((other : ℕ) × IsPart other behind × (0 < other) × (weight_through w bounds table set other ≡ least))
 
-pub tried_none : (w : Weight) (bounds table : List ℕ) (set behind : ℕ) → Tried w bounds table set behind behind (2 ^ 128 - 1)
+pub tried_none : (w : Weighing) (bounds table : List ℕ) (set behind : ℕ) → Tried w bounds table set behind behind (2 ^ 128 - 1)
 tried_none w bounds table set behind = record {
   is_part = itself behind;
   above = λ other is_other h. absurd (omega (arith, part_le other behind is_other));
   found = inl refl;
 }
 
-pub tried_more : (w : Weight) (bounds table : List ℕ) (set behind right least through : ℕ) → Tried w bounds table set behind right least → 0 < right
+pub tried_more : (w : Weighing) (bounds table : List ℕ) (set behind right least through : ℕ) → Tried w bounds table set behind right least → 0 < right
     → through ≡ weight_through w bounds table set right → through < 2 ^ 128 → Tried w bounds table set behind (bit_and (right - 1) behind) (min least through)
 tried_more w bounds table set behind right least through tried some is fits = record {
   is_part = common_part (right - 1) behind;
@@ -55,7 +55,7 @@ tried_more w bounds table set behind right least through tried some is fits = re
   ];
 }
 
-pub least_of_one : (w : Weight) (bounds : List ℕ) (set first : ℕ) → IsFirstEntry set first → set - 2 ^ first ≡ 0 → IsLeastWeight w bounds set 0
+pub least_of_one : (w : Weighing) (bounds : List ℕ) (set first : ℕ) → IsFirstEntry set first → set - 2 ^ first ≡ 0 → IsLeastWeight w bounds set 0
 least_of_one w bounds set first is_first none = record {
   tree = leaf first;
   is_tree = only_leaf set first is_first none;
@@ -64,12 +64,12 @@ least_of_one w bounds set first is_first none = record {
 }
 
 -- the tree over `set` weighs what the table gives for this right set
-pub record Through (w : Weight) (bounds table : List ℕ) (set right : ℕ) : Type 0 where
+pub record Through (w : Weighing) (bounds table : List ℕ) (set right : ℕ) : Type 0 where
   pub tree : PlanTree
   pub is_tree : IsTreeOver set tree
   pub weighs : weight_of w bounds tree ≡ weight_through w bounds table set right
 
-pub tree_through : (w : Weight) (bounds table : List ℕ) (set right : ℕ) → IsSplit set (set - right) right
+pub tree_through : (w : Weighing) (bounds table : List ℕ) (set right : ℕ) → IsSplit set (set - right) right
     → IsLeastWeight w bounds (set - right) (get_or table (set - right) 0) → IsLeastWeight w bounds right (get_or table right 0) → Through w bounds table set right
 tree_through w bounds table set right split left_side right_side =
     let left_set : leaf_set left_side.tree ≡ set - right = tree_set (set - right) left_side.tree left_side.is_tree in
@@ -87,7 +87,7 @@ tree_through w bounds table set right split left_side right_side =
           ∙ ap (λ k. combined w (get_or bounds set 0) (get_or table (set - right) 0) k) right_side.weighs;
     }
 
-pub through_is_least : (w : Weight) (bounds table : List ℕ) (set end : ℕ) (left right : PlanTree) → set ≤ end → IsTable w bounds table end → IsTreeOver set (node left right)
+pub through_is_least : (w : Weighing) (bounds table : List ℕ) (set end : ℕ) (left right : PlanTree) → set ≤ end → IsTable w bounds table end → IsTreeOver set (node left right)
     → weight_through w bounds table set (leaf_set right) ≤ weight_of w bounds (node left right)
 through_is_least w bounds table set end left right h is_table is_tree =
     let whole : leaf_set left + leaf_set right ≡ set = tree_set set (node left right) is_tree in
@@ -98,22 +98,22 @@ through_is_least w bounds table set end left right h is_table is_tree =
     (is_table (leaf_set right) (some_entries right) (omega (arith, some_entries left))).none_lighter right is_tree.2 in
     omega (
       arith,
-      joined-mono w (get_or bounds set 0) (get_or table (set - leaf_set right) 0) (get_or table (leaf_set right) 0) (weight_of w bounds left) (weight_of w bounds right)
+      combined-mono w (get_or bounds set 0) (get_or table (set - leaf_set right) 0) (get_or table (leaf_set right) 0) (weight_of w bounds left) (weight_of w bounds right)
           (omega (arith, left_least, ap (λ k. get_or table k 0) left_set)) right_least,
       ap (λ k. combined w (get_or bounds k 0) (weight_of w bounds left) (weight_of w bounds right)) whole,
     )
 
-pub left_in_table : (w : Weight) (bounds table : List ℕ) (set end right : ℕ) → set ≤ end → IsTable w bounds table end → IsSplit set (set - right) right
+pub left_in_table : (w : Weighing) (bounds table : List ℕ) (set end right : ℕ) → set ≤ end → IsTable w bounds table end → IsSplit set (set - right) right
     → IsLeastWeight w bounds (set - right) (get_or table (set - right) 0)
 left_in_table w bounds table set end right h is_table split =
     is_table (set - right) split.some_left (omega (arith, split.some_right, split.some_left))
 
-pub right_in_table : (w : Weight) (bounds table : List ℕ) (set end right : ℕ) → set ≤ end → IsTable w bounds table end → IsSplit set (set - right) right
+pub right_in_table : (w : Weighing) (bounds table : List ℕ) (set end right : ℕ) → set ≤ end → IsTable w bounds table end → IsSplit set (set - right) right
     → IsLeastWeight w bounds right (get_or table right 0)
 right_in_table w bounds table set end right h is_table split =
     is_table right split.some_right (omega (arith, split.some_left, split.some_right))
 
-pub least_of_tried : (w : Weight) (bounds table : List ℕ) (set first least : ℕ) → IsFirstEntry set first → 0 < set - 2 ^ first → IsTable w bounds table set
+pub least_of_tried : (w : Weighing) (bounds table : List ℕ) (set first least : ℕ) → IsFirstEntry set first → 0 < set - 2 ^ first → IsTable w bounds table set
     → Tried w bounds table set (set - 2 ^ first) 0 least → IsLeastWeight w bounds set least
 least_of_tried w bounds table set first least is_first more is_table tried = elim tried.found [
   | inl heaviest ↦ (let its : (least ≤ weight_through w bounds table set (set - 2 ^ first)) × (weight_through w bounds table set (set - 2 ^ first) < 2 ^ 128) =

@@ -11,9 +11,9 @@ use Rattle.std.proofs.lemmas.Nat.{pow_pos}
 use Rattle.std.proofs.lemmas.Nat.Bits.{bit_at-pow_same, bit_at-pow_other, bit_at_ones, bit_at_ones_above}
 use Rattle.entry_sets.proofs.Bits.{entry_below}
 use Rattle.order_search.proofs.Bits.{size_below, size-none, size-whole, size-without}
-use Rattle.tree_plans.specs.TreePlans.{AreBehindTheirs, joined_nodes}
+use Rattle.tree_plans.specs.TreePlans.{HaveHigherNumbers, joined_nodes}
 use Rattle.tree_plans.specs.declared.bushy.Join.{Join}
-use Rattle.bushy_plan.specs.BestTree.{all_of, inner_greatest}
+use Rattle.bushy_plan.specs.BestTree.{full_set, inner_greatest}
 use Rattle.bushy_plan.specs.PlanTrees.{IsSplit, IsTreeOver, PlanTree, leaf, node, leaf_set, inner_count, joins_from, root_number}
 use Rattle.bushy_plan.proofs.Splitting.{split_sum}
 
@@ -43,26 +43,26 @@ size-one n entry below =
     let none : 2 ^ entry - 2 ^ entry ≡ 0 = omega arith in
     omega (arith, size-without n entry (2 ^ entry) below (bit_at-pow_same entry), ap (size_below n) none, size-none n)
 
-pub count_by_size : (n set : ℕ) (tree : PlanTree) → set < 2 ^ n → IsTreeOver set tree → inner_count tree + 1 ≡ size_below n set
-count_by_size n set (leaf entry) fits is_tree =
+pub inner_count_by_size : (n set : ℕ) (tree : PlanTree) → set < 2 ^ n → IsTreeOver set tree → inner_count tree + 1 ≡ size_below n set
+inner_count_by_size n set (leaf entry) fits is_tree =
     let below : entry < n = entry_below n (2 ^ entry) entry (omega arith) (bit_at-pow_same entry) in
     omega (arith, size-one n entry below, ap (size_below n) is_tree)
-count_by_size n set (node left right) fits is_tree =
+inner_count_by_size n set (node left right) fits is_tree =
     let whole : leaf_set left + leaf_set right ≡ set = split_sum set (leaf_set left) (leaf_set right) is_tree.0 in
     omega (
       arith,
       size-split n set (leaf_set left) (leaf_set right) is_tree.0,
-      count_by_size n (leaf_set left) left (omega arith) is_tree.1,
-      count_by_size n (leaf_set right) right (omega arith) is_tree.2,
+      inner_count_by_size n (leaf_set left) left (omega arith) is_tree.1,
+      inner_count_by_size n (leaf_set right) right (omega arith) is_tree.2,
     )
 
-pub count_of_all : (n : ℕ) (tree : PlanTree) → IsTreeOver (all_of n) tree → inner_count tree + 1 ≡ n
-count_of_all n tree is_tree = count_by_size n (all_of n) tree (omega (arith, pow_pos n)) is_tree ∙ size-whole n
+pub count_of_all : (n : ℕ) (tree : PlanTree) → IsTreeOver (full_set n) tree → inner_count tree + 1 ≡ n
+count_of_all n tree is_tree = inner_count_by_size n (full_set n) tree (omega (arith, pow_pos n)) is_tree ∙ size-whole n
 
 -- ---- each join has a higher number than the two nodes that it joins
 
-behind-append : (own next : ℕ) (xs ys : List Join) → AreBehindTheirs own xs → own + length xs ≡ next → AreBehindTheirs next ys → AreBehindTheirs own (xs ++ ys)
-behind-append own next [] ys p is q = let same : next ≡ own = omega arith in subst (λ (k : ℕ). AreBehindTheirs k ys) same q
+behind-append : (own next : ℕ) (xs ys : List Join) → HaveHigherNumbers own xs → own + length xs ≡ next → HaveHigherNumbers next ys → HaveHigherNumbers own (xs ++ ys)
+behind-append own next [] ys p is q = let same : next ≡ own = omega arith in subst (λ (k : ℕ). HaveHigherNumbers k ys) same q
 behind-append own next (x ∷ xs) ys p is q = (p.0, p.1, behind-append (own + 1) next xs ys p.2 (omega arith) q)
 
 root_below : (n set next : ℕ) (tree : PlanTree) → set < 2 ^ n → n ≤ next → IsTreeOver set tree → root_number next tree < next + inner_count tree
@@ -71,18 +71,18 @@ root_below n set next (leaf entry) fits h is_tree =
     omega arith
 root_below n set next (node left right) fits h is_tree = omega arith
 
-pub behind_theirs : (bounds : List ℕ) (n set next : ℕ) (tree : PlanTree) → set < 2 ^ n → n ≤ next → IsTreeOver set tree → AreBehindTheirs next (joins_from bounds next tree)
-behind_theirs bounds n set next (leaf entry) fits h is_tree = tt
-behind_theirs bounds n set next (node left right) fits h is_tree =
+pub have_higher_numbers : (bounds : List ℕ) (n set next : ℕ) (tree : PlanTree) → set < 2 ^ n → n ≤ next → IsTreeOver set tree → HaveHigherNumbers next (joins_from bounds next tree)
+have_higher_numbers bounds n set next (leaf entry) fits h is_tree = tt
+have_higher_numbers bounds n set next (node left right) fits h is_tree =
     let whole : leaf_set left + leaf_set right ≡ set = split_sum set (leaf_set left) (leaf_set right) is_tree.0 in
     let left_root : root_number next left < next + inner_count left = root_below n (leaf_set left) next left (omega arith) h is_tree.1 in
     let right_root : root_number (next + inner_count left) right < next + inner_count left + inner_count right =
     root_below n (leaf_set right) (next + inner_count left) right (omega arith) (omega arith) is_tree.2 in
     behind-append next (next + inner_count left + inner_count right) (joins_from bounds next left ++ joins_from bounds (next + inner_count left) right) _
     (behind-append next (next + inner_count left) (joins_from bounds next left) (joins_from bounds (next + inner_count left) right)
-    (behind_theirs bounds n (leaf_set left) next left (omega arith) h is_tree.1)
+    (have_higher_numbers bounds n (leaf_set left) next left (omega arith) h is_tree.1)
     (omega (arith, length-joins_from bounds next left))
-    (behind_theirs bounds n (leaf_set right) (next + inner_count left) right (omega arith) (omega arith) is_tree.2))
+    (have_higher_numbers bounds n (leaf_set right) (next + inner_count left) right (omega arith) (omega arith) is_tree.2))
     (omega (
       arith,
       length-append {A = Join} (joins_from bounds next left) (joins_from bounds (next + inner_count left) right),
@@ -93,21 +93,21 @@ behind_theirs bounds n set next (node left right) fits h is_tree =
 
 -- ---- each node but the root is named exactly once
 
-abbrev times : ℕ → List ℕ → ℕ
-times k xs = count_by (λ other. eqb other k) xs
+abbrev occurrences : ℕ → List ℕ → ℕ
+occurrences k xs = count_by (λ other. eqb other k) xs
 
 -- this is 1 if the numbers are equal, otherwise 0
-abbrev one : ℕ → ℕ → ℕ
-one a b = cond (eqb a b) 1 0
+abbrev if_equal : ℕ → ℕ → ℕ
+if_equal a b = cond (eqb a b) 1 0
 
 -- this is 1 if first <= k < first + count, otherwise 0
 abbrev inside : ℕ → ℕ → ℕ → ℕ
 inside first count k = cond (leb first k) (cond (ltb k (first + count)) 1 0) 0
 
-one_same : (a b : ℕ) → a ≡ b → one a b ≡ 1
+one_same : (a b : ℕ) → a ≡ b → if_equal a b ≡ 1
 one_same a b same = grind (arith, nat_tests)
 
-one_other : (a b : ℕ) → (a ≡ b → ⊥) → one a b ≡ 0
+one_other : (a b : ℕ) → (a ≡ b → ⊥) → if_equal a b ≡ 0
 one_other a b apart = grind (arith, nat_tests)
 
 inside_below : (first count k : ℕ) → k < first → inside first count k ≡ 0
@@ -119,7 +119,7 @@ inside_yes first count k h g = grind (arith, nat_tests)
 inside_above : (first count k : ℕ) → first + count ≤ k → inside first count k ≡ 0
 inside_above first count k h = grind (arith, nat_tests)
 
-inside_parts : (first a b k : ℕ) → inside first a k + inside (first + a) b k + one (first + a + b) k ≡ inside first (a + b + 1) k
+inside_parts : (first a b k : ℕ) → inside first a k + inside (first + a) b k + if_equal (first + a + b) k ≡ inside first (a + b + 1) k
 inside_parts first a b k = elim (cases_lt k first) [
   | inl below ↦ omega (arith, inside_below first a k below, inside_below (first + a) b k (omega arith), one_other (first + a + b) k (λ same. absurd (omega arith)), inside_below first (a + b + 1) k below)
   | inr from ↦ elim (cases_lt k (first + a)) [
@@ -138,30 +138,30 @@ nodes-append : (xs ys : List Join) → joined_nodes (xs ++ ys) ≡ joined_nodes 
 nodes-append [] ys = refl
 nodes-append (x ∷ xs) ys = ap (λ (s : List ℕ). x.left ∷ (x.right ∷ s)) (nodes-append xs ys)
 
-times-append : (k : ℕ) (xs ys : List ℕ) → times k (xs ++ ys) ≡ times k xs + times k ys
-times-append k xs ys = sum_by-append (λ (x : ℕ). cond (eqb x k) 1 0) xs ys
+occurrences-append : (k : ℕ) (xs ys : List ℕ) → occurrences k (xs ++ ys) ≡ occurrences k xs + occurrences k ys
+occurrences-append k xs ys = sum_by-append (λ (x : ℕ). cond (eqb x k) 1 0) xs ys
 
-times-two : (k a b : ℕ) → times k (a ∷ (b ∷ [])) ≡ one a k + one b k
-times-two k a b = omega (arith, sum_by-cons (λ (x : ℕ). cond (eqb x k) 1 0) a (b ∷ []), sum_by-cons (λ (x : ℕ). cond (eqb x k) 1 0) b [], none)
+occurrences-two : (k a b : ℕ) → occurrences k (a ∷ (b ∷ [])) ≡ if_equal a k + if_equal b k
+occurrences-two k a b = omega (arith, sum_by-cons (λ (x : ℕ). cond (eqb x k) 1 0) a (b ∷ []), sum_by-cons (λ (x : ℕ). cond (eqb x k) 1 0) b [], none)
   where
-    none : times k [] ≡ 0
+    none : occurrences k [] ≡ 0
     none = refl
 
-times_in_node : (bounds : List ℕ) (next k : ℕ) (left right : PlanTree) → times k (joined_nodes (joins_from bounds next (node left right)))
-    ≡ times k (joined_nodes (joins_from bounds next left)) + times k (joined_nodes (joins_from bounds (next + inner_count left) right)) + (one (root_number next left) k + one (root_number (next + inner_count left) right) k)
+times_in_node : (bounds : List ℕ) (next k : ℕ) (left right : PlanTree) → occurrences k (joined_nodes (joins_from bounds next (node left right)))
+    ≡ occurrences k (joined_nodes (joins_from bounds next left)) + occurrences k (joined_nodes (joins_from bounds (next + inner_count left) right)) + (if_equal (root_number next left) k + if_equal (root_number (next + inner_count left) right) k)
 times_in_node bounds next k left right =
-    ap (times k) (nodes-append (joins_from bounds next left ++ joins_from bounds (next + inner_count left) right) _)
-    ∙ times-append k (joined_nodes (joins_from bounds next left ++ joins_from bounds (next + inner_count left) right)) (root_number next left ∷ (root_number (next + inner_count left) right ∷ []))
+    ap (occurrences k) (nodes-append (joins_from bounds next left ++ joins_from bounds (next + inner_count left) right) _)
+    ∙ occurrences-append k (joined_nodes (joins_from bounds next left ++ joins_from bounds (next + inner_count left) right)) (root_number next left ∷ (root_number (next + inner_count left) right ∷ []))
     ∙ omega (
       arith,
-      ap (times k) (nodes-append (joins_from bounds next left) (joins_from bounds (next + inner_count left) right)),
-      times-append k (joined_nodes (joins_from bounds next left)) (joined_nodes (joins_from bounds (next + inner_count left) right)),
-      times-two k (root_number next left) (root_number (next + inner_count left) right),
+      ap (occurrences k) (nodes-append (joins_from bounds next left) (joins_from bounds (next + inner_count left) right)),
+      occurrences-append k (joined_nodes (joins_from bounds next left)) (joined_nodes (joins_from bounds (next + inner_count left) right)),
+      occurrences-two k (root_number next left) (root_number (next + inner_count left) right),
     )
 
 -- two lists have the number k equally often: the nodes that joins name with the root, and the leaves with the inner nodes
 named_with_root : (bounds : List ℕ) (set next k : ℕ) (tree : PlanTree) → IsTreeOver set tree
-    → times k (joined_nodes (joins_from bounds next tree)) + one (root_number next tree) k ≡ bit_at set k + inside next (inner_count tree) k
+    → occurrences k (joined_nodes (joins_from bounds next tree)) + if_equal (root_number next tree) k ≡ bit_at set k + inside next (inner_count tree) k
 named_with_root bounds set next k (leaf entry) is_tree = elim (cases_eq k entry) [
   | inl same ↦ omega (arith, one_same entry k (sym same), bit_at-pow_same entry, ap (bit_at (2 ^ entry)) same, ap (λ s. bit_at s k) is_tree, empty, none)
   | inr apart ↦ omega (arith, one_other entry k (λ same. apart (sym same)), bit_at-pow_other entry k apart, ap (λ s. bit_at s k) is_tree, empty, none)
@@ -173,7 +173,7 @@ named_with_root bounds set next k (leaf entry) is_tree = elim (cases_eq k entry)
       | inr from ↦ inside_above next 0 k (omega arith)
     ]
 
-    none : times k [] ≡ 0
+    none : occurrences k [] ≡ 0
     none = refl
 named_with_root bounds set next k (node left right) is_tree =
     omega (
@@ -185,17 +185,17 @@ named_with_root bounds set next k (node left right) is_tree =
       inside_parts next (inner_count left) (inner_count right) k,
     )
 
-root_of_all : (n : ℕ) (tree : PlanTree) → IsTreeOver (all_of n) tree → 0 < inner_count tree → root_number n tree ≡ 2 * n - 2
+root_of_all : (n : ℕ) (tree : PlanTree) → IsTreeOver (full_set n) tree → 0 < inner_count tree → root_number n tree ≡ 2 * n - 2
 root_of_all n (leaf entry) is_tree some = absurd (omega arith)
 root_of_all n (node left right) is_tree some = omega (arith, count_of_all n (node left right) is_tree)
 
-pub named_once : (bounds : List ℕ) (n k : ℕ) (tree : PlanTree) → IsTreeOver (all_of n) tree → k < 2 * n - 2 → times k (joined_nodes (joins_from bounds n tree)) ≡ 1
+pub named_once : (bounds : List ℕ) (n k : ℕ) (tree : PlanTree) → IsTreeOver (full_set n) tree → k < 2 * n - 2 → occurrences k (joined_nodes (joins_from bounds n tree)) ≡ 1
 named_once bounds n k tree is_tree below =
     let count : inner_count tree + 1 ≡ n = count_of_all n tree is_tree in
     let root : root_number n tree ≡ 2 * n - 2 = root_of_all n tree is_tree (omega arith) in
-    let all : times k (joined_nodes (joins_from bounds n tree)) + one (root_number n tree) k ≡ bit_at (all_of n) k + inside n (inner_count tree) k =
-    named_with_root bounds (all_of n) n k tree is_tree in
-    let other : one (root_number n tree) k ≡ 0 = one_other (root_number n tree) k (λ same. absurd (omega arith)) in
+    let all : occurrences k (joined_nodes (joins_from bounds n tree)) + if_equal (root_number n tree) k ≡ bit_at (full_set n) k + inside n (inner_count tree) k =
+    named_with_root bounds (full_set n) n k tree is_tree in
+    let other : if_equal (root_number n tree) k ≡ 0 = one_other (root_number n tree) k (λ same. absurd (omega arith)) in
     elim (cases_lt k n) [
       | inl is_leaf ↦ omega (arith, all, other, bit_at_ones n k is_leaf, inside_below n (inner_count tree) k is_leaf)
       | inr is_inner ↦ omega (arith, all, other, bit_at_ones_above n k is_inner, inside_yes n (inner_count tree) k is_inner (omega arith))

@@ -5,23 +5,23 @@ use Rattle.std.specs.Prelude.{◌≢◌, bit_and}
 use Rattle.std.proofs.lemmas.Bool.{cases_lt, cases_order}
 use Rattle.std.proofs.lemmas.Nat.{pow_pos}
 use Rattle.entry_sets.proofs.Bits.{power_within}
-use Rattle.bushy_plan.specs.declared.weight.Weight.{Weight}
-use Rattle.bushy_plan.specs.declared.weight.Weight.TheVariants as weight
+use Rattle.bushy_plan.specs.declared.weight.Weighing.{Weighing}
+use Rattle.bushy_plan.specs.declared.weight.Weighing.TheVariants as weight
 use Rattle.bushy_plan.specs.BestTree.{IsTreeBefore}
 use Rattle.bushy_plan.specs.PlanTrees.{IsFirstEntry, IsSplit, IsTreeOver, PlanTree, leaf, node, leaf_set}
-use Rattle.bushy_plan.specs.Splits.{IsBehindFirst, IsFirstLightest, IsFirstLightestSplit, IsLeastWeight, IsTable, combined, weight_of, weight_through}
+use Rattle.bushy_plan.specs.Splits.{IsWithoutFirst, IsFirstLightest, IsFirstLightestSplit, IsLeastWeight, IsTable, combined, weight_of, weight_through}
 use Rattle.bushy_plan.proofs.Parts.{IsPart, itself, common_part, none_between, part_le}
 use Rattle.bushy_plan.proofs.Splitting.{no_leaf, only_leaf, part_of_split, split_of_part, split_by_right, split_sum, tree_set}
-use Rattle.bushy_plan.proofs.Lightest.{Through, joined-beyond, joined-within, left_in_table, right_in_table, through_is_least, tree_through}
+use Rattle.bushy_plan.proofs.Lightest.{Through, combined-beyond, combined-within, left_in_table, right_in_table, through_is_least, tree_through}
 
 -- ---- the first lightest split
 
-record Attained (w : Weight) (bounds table : List ℕ) (set : ℕ) : Type 0 where
+record Attained (w : Weighing) (bounds table : List ℕ) (set : ℕ) : Type 0 where
   right : ℕ
   is_split : IsSplit set (set - right) right
   lightest : weight_through w bounds table set right ≡ get_or table set 0
 
-through_at_least : (w : Weight) (bounds table : List ℕ) (set end right : ℕ) → set < end → IsTable w bounds table end → IsSplit set (set - right) right
+through_at_least : (w : Weighing) (bounds table : List ℕ) (set end right : ℕ) → set < end → IsTable w bounds table end → IsSplit set (set - right) right
     → get_or table set 0 ≤ weight_through w bounds table set right
 through_at_least w bounds table set end right h is_table split =
     let through : Through w bounds table set right =
@@ -29,7 +29,7 @@ through_at_least w bounds table set end right h is_table split =
     let some : 0 < set = omega (arith, split.some_left) in
     omega (arith, through.weighs, (is_table set some h).none_lighter through.tree through.is_tree)
 
-through_of_tree : (w : Weight) (bounds table : List ℕ) (set end : ℕ) (left right : PlanTree) → set < end → IsTable w bounds table end → IsTreeOver set (node left right)
+through_of_tree : (w : Weighing) (bounds table : List ℕ) (set end : ℕ) (left right : PlanTree) → set < end → IsTable w bounds table end → IsTreeOver set (node left right)
     → weight_of w bounds (node left right) ≡ get_or table set 0 → weight_through w bounds table set (leaf_set right) ≡ get_or table set 0
 through_of_tree w bounds table set end left right h is_table is_tree weighs =
     omega (
@@ -39,7 +39,7 @@ through_of_tree w bounds table set end left right h is_table is_tree weighs =
       through_at_least w bounds table set end (leaf_set right) h is_table (split_by_right set (leaf_set left) (leaf_set right) is_tree.0),
     )
 
-attained : (w : Weight) (bounds table : List ℕ) (set end first : ℕ) → IsFirstEntry set first → 0 < set - 2 ^ first → set < end → IsTable w bounds table end → Attained w bounds table set
+attained : (w : Weighing) (bounds table : List ℕ) (set end first : ℕ) → IsFirstEntry set first → 0 < set - 2 ^ first → set < end → IsTable w bounds table end → Attained w bounds table set
 attained w bounds table set end first is_first more h is_table = at least.tree least.is_tree least.weighs
   where
     least : IsLeastWeight w bounds set (get_or table set 0)
@@ -54,26 +54,26 @@ attained w bounds table set end first is_first more h is_table = at least.tree l
     }
 
 -- the right sets above `right` were looked at, and no split by one of them is as light as the table says
-pub record Looked (w : Weight) (bounds table : List ℕ) (set behind right : ℕ) : Type 0 where
+pub record NotFoundYet (w : Weighing) (bounds table : List ℕ) (set behind right : ℕ) : Type 0 where
   pub is_part : IsPart right behind
   pub some : 0 < right
   pub none_above : (other : ℕ) → IsPart other behind → right < other → weight_through w bounds table set other ≢ get_or table set 0
 
-pub looked_none : (w : Weight) (bounds table : List ℕ) (set behind : ℕ) → 0 < behind → Looked w bounds table set behind behind
+pub looked_none : (w : Weighing) (bounds table : List ℕ) (set behind : ℕ) → 0 < behind → NotFoundYet w bounds table set behind behind
 looked_none w bounds table set behind more = record {
   is_part = itself behind;
   some = more;
   none_above = λ other is_other h same. omega (arith, part_le other behind is_other);
 }
 
-behind_part : (set behind right : ℕ) → (b : IsBehindFirst set behind) → IsPart right behind → IsPart right (set - 2 ^ b.first)
+behind_part : (set behind right : ℕ) → (b : IsWithoutFirst set behind) → IsPart right behind → IsPart right (set - 2 ^ b.first)
 behind_part set behind right b is_part = subst (λ (k : ℕ). IsPart right k) b.others is_part
 
-part_behind : (set behind right : ℕ) → (b : IsBehindFirst set behind) → IsSplit set (set - right) right → IsPart right behind
+part_behind : (set behind right : ℕ) → (b : IsWithoutFirst set behind) → IsSplit set (set - right) right → IsPart right behind
 part_behind set behind right b split = subst (λ (k : ℕ). IsPart right k) (sym b.others) (part_of_split set b.first (set - right) right b.is_first split)
 
-pub looked_more : (w : Weight) (bounds table : List ℕ) (set end behind right : ℕ) → IsBehindFirst set behind → 0 < behind → set < end → IsTable w bounds table end
-    → Looked w bounds table set behind right → weight_through w bounds table set right ≢ get_or table set 0 → Looked w bounds table set behind (bit_and (right - 1) behind)
+pub looked_more : (w : Weighing) (bounds table : List ℕ) (set end behind right : ℕ) → IsWithoutFirst set behind → 0 < behind → set < end → IsTable w bounds table end
+    → NotFoundYet w bounds table set behind right → weight_through w bounds table set right ≢ get_or table set 0 → NotFoundYet w bounds table set behind (bit_and (right - 1) behind)
 looked_more w bounds table set end behind right b more h is_table looked isnt = record {
   is_part = common_part (right - 1) behind;
   some = elim (cases_order goal.right right) [
@@ -98,7 +98,7 @@ looked_more w bounds table set end behind right b more h is_table looked isnt = 
     its_part : IsPart goal.right behind
     its_part = part_behind set behind goal.right b goal.is_split
 
-pub looked_all : (w : Weight) (bounds table : List ℕ) (set behind right : ℕ) → IsBehindFirst set behind → Looked w bounds table set behind right
+pub looked_all : (w : Weighing) (bounds table : List ℕ) (set behind right : ℕ) → IsWithoutFirst set behind → NotFoundYet w bounds table set behind right
     → weight_through w bounds table set right ≡ get_or table set 0 → IsFirstLightestSplit w bounds table set right
 looked_all w bounds table set behind right b looked is = record {
   is_split = split_of_part set b.first right b.is_first (behind_part set behind right b looked.is_part) looked.some;
@@ -106,13 +106,13 @@ looked_all w bounds table set behind right b looked is = record {
   first = λ other split above. looked.none_above other (part_behind set behind other b split) above;
 }
 
-pub looked_within : (w : Weight) (bounds table : List ℕ) (set behind right : ℕ) → IsBehindFirst set behind → Looked w bounds table set behind right → right < set
+pub looked_within : (w : Weighing) (bounds table : List ℕ) (set behind right : ℕ) → IsWithoutFirst set behind → NotFoundYet w bounds table set behind right → right < set
 looked_within w bounds table set behind right b looked =
     omega (arith, part_le right behind looked.is_part, b.others, power_within b.first set b.is_first.is_in, pow_pos b.first)
 
 -- ---- the first lightest tree
 
-pub first_of_one : (w : Weight) (bounds : List ℕ) (set first : ℕ) → IsFirstEntry set first → set - 2 ^ first ≡ 0 → IsFirstLightest w bounds set (leaf first)
+pub first_of_one : (w : Weighing) (bounds : List ℕ) (set first : ℕ) → IsFirstEntry set first → set - 2 ^ first ≡ 0 → IsFirstLightest w bounds set (leaf first)
 first_of_one w bounds set first is_first none = record {
   is_tree = only_leaf set first is_first none;
   none_lighter = λ other is_tree. omega arith;
@@ -130,20 +130,20 @@ pub record Light (most : ℕ) (bounds table : List ℕ) (set right : ℕ) : Type
   pub left : get_or table (set - right) 0 < 2 ^ 128 - 1
   pub right_side : get_or table right 0 < 2 ^ 128 - 1
 
-light_sums : (most bound left right whole : ℕ) → combined (weight.SumWithin most) bound left right ≡ whole → whole < 2 ^ 128 - 1 → (bound ≤ most) × (bound + left + right ≡ whole)
+light_sums : (most bound left right whole : ℕ) → combined (weight.SumOfBoundsUpTo most) bound left right ≡ whole → whole < 2 ^ 128 - 1 → (bound ≤ most) × (bound + left + right ≡ whole)
 light_sums most bound left right whole is below = elim (cases_lt most bound) [
-  | inl beyond ↦ absurd (omega (arith, joined-beyond most bound left right beyond))
-  | inr within ↦ (within, omega (arith, joined-within most bound left right within))
+  | inl beyond ↦ absurd (omega (arith, combined-beyond most bound left right beyond))
+  | inr within ↦ (within, omega (arith, combined-within most bound left right within))
 ]
 
-pub light_sides : (most : ℕ) (bounds table : List ℕ) (set right : ℕ) → weight_through (weight.SumWithin most) bounds table set right ≡ get_or table set 0 → get_or table set 0 < 2 ^ 128 - 1
+pub light_sides : (most : ℕ) (bounds table : List ℕ) (set right : ℕ) → weight_through (weight.SumOfBoundsUpTo most) bounds table set right ≡ get_or table set 0 → get_or table set 0 < 2 ^ 128 - 1
     → Light most bounds table set right
 light_sides most bounds table set right is below =
     let sums : (get_or bounds set 0 ≤ most) × (get_or bounds set 0 + get_or table (set - right) 0 + get_or table right 0 ≡ get_or table set 0) =
     light_sums most (get_or bounds set 0) (get_or table (set - right) 0) (get_or table right 0) (get_or table set 0) is below in
     record { bound = sums.0; sums = sums.1; left = omega (arith, sums.1); right_side = omega (arith, sums.1) }
 
-weighs_table : (w : Weight) (bounds table : List ℕ) (set end : ℕ) (tree : PlanTree) → 0 < set → set < end → IsTable w bounds table end → IsFirstLightest w bounds set tree
+weighs_table : (w : Weighing) (bounds table : List ℕ) (set end : ℕ) (tree : PlanTree) → 0 < set → set < end → IsTable w bounds table end → IsFirstLightest w bounds set tree
     → weight_of w bounds tree ≡ get_or table set 0
 weighs_table w bounds table set end tree some h is_table is_first =
     let least : IsLeastWeight w bounds set (get_or table set 0) = is_table set some h in
@@ -158,18 +158,18 @@ node_over set right_set left right split left_tree right_tree =
       subst (λ (k : ℕ). IsTreeOver k right) (sym right_is) right_tree,
     )
 
-pub first_of_sides : (most : ℕ) (bounds table : List ℕ) (set end right_set : ℕ) (left right : PlanTree) → set < end → IsTable (weight.SumWithin most) bounds table end
-    → get_or table set 0 < 2 ^ 128 - 1 → IsFirstLightestSplit (weight.SumWithin most) bounds table set right_set
-    → IsFirstLightest (weight.SumWithin most) bounds (set - right_set) left → IsFirstLightest (weight.SumWithin most) bounds right_set right
-    → IsFirstLightest (weight.SumWithin most) bounds set (node left right)
+pub first_of_sides : (most : ℕ) (bounds table : List ℕ) (set end right_set : ℕ) (left right : PlanTree) → set < end → IsTable (weight.SumOfBoundsUpTo most) bounds table end
+    → get_or table set 0 < 2 ^ 128 - 1 → IsFirstLightestSplit (weight.SumOfBoundsUpTo most) bounds table set right_set
+    → IsFirstLightest (weight.SumOfBoundsUpTo most) bounds (set - right_set) left → IsFirstLightest (weight.SumOfBoundsUpTo most) bounds right_set right
+    → IsFirstLightest (weight.SumOfBoundsUpTo most) bounds set (node left right)
 first_of_sides most bounds table set end right_set left right h is_table is_light split first_left first_right = record {
   is_tree = is_tree;
   none_lighter = λ other other_tree. omega (arith, weighs, (is_table set some h).none_lighter other other_tree);
   none_earlier = λ other other_tree same before. not_before other other_tree (same ∙ weighs) before;
 }
   where
-    w : Weight
-    w = weight.SumWithin most
+    w : Weighing
+    w = weight.SumOfBoundsUpTo most
 
     some : 0 < set
     some = omega (arith, split.is_split.some_left)
@@ -183,17 +183,17 @@ first_of_sides most bounds table set end right_set left right h is_table is_ligh
     right_is : leaf_set right ≡ right_set
     right_is = tree_set right_set right first_right.is_tree
 
-    left_weighs : weight_of (weight.SumWithin most) bounds left ≡ get_or table (set - right_set) 0
-    left_weighs = weighs_table (weight.SumWithin most) bounds table (set - right_set) end left split.is_split.some_left (omega arith) is_table first_left
+    left_weighs : weight_of (weight.SumOfBoundsUpTo most) bounds left ≡ get_or table (set - right_set) 0
+    left_weighs = weighs_table (weight.SumOfBoundsUpTo most) bounds table (set - right_set) end left split.is_split.some_left (omega arith) is_table first_left
 
-    right_weighs : weight_of (weight.SumWithin most) bounds right ≡ get_or table right_set 0
-    right_weighs = weighs_table (weight.SumWithin most) bounds table right_set end right split.is_split.some_right (omega (arith, split.is_split.some_left)) is_table first_right
+    right_weighs : weight_of (weight.SumOfBoundsUpTo most) bounds right ≡ get_or table right_set 0
+    right_weighs = weighs_table (weight.SumOfBoundsUpTo most) bounds table right_set end right split.is_split.some_right (omega (arith, split.is_split.some_left)) is_table first_right
 
-    weighs : weight_of (weight.SumWithin most) bounds (node left right) ≡ get_or table set 0
+    weighs : weight_of (weight.SumOfBoundsUpTo most) bounds (node left right) ≡ get_or table set 0
     weighs =
-        ap (λ k. combined (weight.SumWithin most) (get_or bounds k 0) (weight_of (weight.SumWithin most) bounds left) (weight_of (weight.SumWithin most) bounds right)) (tree_set set (node left right) is_tree)
-        ∙ ap (λ k. combined (weight.SumWithin most) (get_or bounds set 0) k (weight_of (weight.SumWithin most) bounds right)) left_weighs
-        ∙ ap (λ k. combined (weight.SumWithin most) (get_or bounds set 0) (get_or table (set - right_set) 0) k) right_weighs
+        ap (λ k. combined (weight.SumOfBoundsUpTo most) (get_or bounds k 0) (weight_of (weight.SumOfBoundsUpTo most) bounds left) (weight_of (weight.SumOfBoundsUpTo most) bounds right)) (tree_set set (node left right) is_tree)
+        ∙ ap (λ k. combined (weight.SumOfBoundsUpTo most) (get_or bounds set 0) k (weight_of (weight.SumOfBoundsUpTo most) bounds right)) left_weighs
+        ∙ ap (λ k. combined (weight.SumOfBoundsUpTo most) (get_or bounds set 0) (get_or table (set - right_set) 0) k) right_weighs
         ∙ split.lightest
 
     sums : Light most bounds table set right_set
@@ -201,34 +201,34 @@ first_of_sides most bounds table set end right_set left right h is_table is_ligh
 
     -- `left` and `right` are the sides of the tree that is read off, and `left'` and `right'` those of another tree. So the two trees can be compared
     -- side by side
-    sides_weigh : (left' right' : PlanTree) → IsTreeOver set (node left' right') → weight_of (weight.SumWithin most) bounds (node left' right') ≡ get_or table set 0 → leaf_set left' ≡ set - right_set
+    sides_weigh : (left' right' : PlanTree) → IsTreeOver set (node left' right') → weight_of (weight.SumOfBoundsUpTo most) bounds (node left' right') ≡ get_or table set 0 → leaf_set left' ≡ set - right_set
         → IsTreeOver (set - right_set) left' × IsTreeOver right_set right'
-        × (weight_of (weight.SumWithin most) bounds left' ≡ weight_of (weight.SumWithin most) bounds left) × (weight_of (weight.SumWithin most) bounds right' ≡ weight_of (weight.SumWithin most) bounds right)
+        × (weight_of (weight.SumOfBoundsUpTo most) bounds left' ≡ weight_of (weight.SumOfBoundsUpTo most) bounds left) × (weight_of (weight.SumOfBoundsUpTo most) bounds right' ≡ weight_of (weight.SumOfBoundsUpTo most) bounds right)
     sides_weigh left' right' other_tree equal left_same =
         let whole : leaf_set left' + leaf_set right' ≡ set = tree_set set (node left' right') other_tree in
         let right_same : leaf_set right' ≡ right_set = omega (arith, split.is_split.some_left, split.is_split.some_right, whole, left_same) in
         let left_tree : IsTreeOver (set - right_set) left' = subst (λ (k : ℕ). IsTreeOver k left') left_same other_tree.1 in
         let right_tree : IsTreeOver right_set right' = subst (λ (k : ℕ). IsTreeOver k right') right_same other_tree.2 in
-        let at_set : combined (weight.SumWithin most) (get_or bounds set 0) (weight_of (weight.SumWithin most) bounds left') (weight_of (weight.SumWithin most) bounds right') ≡ get_or table set 0 =
-        ap (λ k. combined (weight.SumWithin most) (get_or bounds k 0) (weight_of (weight.SumWithin most) bounds left') (weight_of (weight.SumWithin most) bounds right')) (sym whole) ∙ equal in
-        let other_sums : (get_or bounds set 0 ≤ most) × (get_or bounds set 0 + weight_of (weight.SumWithin most) bounds left' + weight_of (weight.SumWithin most) bounds right' ≡ get_or table set 0) =
-        light_sums most (get_or bounds set 0) (weight_of (weight.SumWithin most) bounds left') (weight_of (weight.SumWithin most) bounds right') (get_or table set 0) at_set is_light in
-        let left_no_lighter : weight_of (weight.SumWithin most) bounds left ≤ weight_of (weight.SumWithin most) bounds left' = first_left.none_lighter left' left_tree in
-        let right_no_lighter : weight_of (weight.SumWithin most) bounds right ≤ weight_of (weight.SumWithin most) bounds right' = first_right.none_lighter right' right_tree in (
+        let at_set : combined (weight.SumOfBoundsUpTo most) (get_or bounds set 0) (weight_of (weight.SumOfBoundsUpTo most) bounds left') (weight_of (weight.SumOfBoundsUpTo most) bounds right') ≡ get_or table set 0 =
+        ap (λ k. combined (weight.SumOfBoundsUpTo most) (get_or bounds k 0) (weight_of (weight.SumOfBoundsUpTo most) bounds left') (weight_of (weight.SumOfBoundsUpTo most) bounds right')) (sym whole) ∙ equal in
+        let other_sums : (get_or bounds set 0 ≤ most) × (get_or bounds set 0 + weight_of (weight.SumOfBoundsUpTo most) bounds left' + weight_of (weight.SumOfBoundsUpTo most) bounds right' ≡ get_or table set 0) =
+        light_sums most (get_or bounds set 0) (weight_of (weight.SumOfBoundsUpTo most) bounds left') (weight_of (weight.SumOfBoundsUpTo most) bounds right') (get_or table set 0) at_set is_light in
+        let left_no_lighter : weight_of (weight.SumOfBoundsUpTo most) bounds left ≤ weight_of (weight.SumOfBoundsUpTo most) bounds left' = first_left.none_lighter left' left_tree in
+        let right_no_lighter : weight_of (weight.SumOfBoundsUpTo most) bounds right ≤ weight_of (weight.SumOfBoundsUpTo most) bounds right' = first_right.none_lighter right' right_tree in (
           left_tree,
           right_tree,
           omega (arith, other_sums.1, sums.sums, left_weighs, right_weighs, left_no_lighter, right_no_lighter),
           omega (arith, other_sums.1, sums.sums, left_weighs, right_weighs, left_no_lighter, right_no_lighter),
         )
 
-    not_before : (other : PlanTree) → IsTreeOver set other → weight_of (weight.SumWithin most) bounds other ≡ get_or table set 0 → ¬ IsTreeBefore other (node left right)
+    not_before : (other : PlanTree) → IsTreeOver set other → weight_of (weight.SumOfBoundsUpTo most) bounds other ≡ get_or table set 0 → ¬ IsTreeBefore other (node left right)
     not_before (leaf entry) other_tree equal before = before
     not_before (node left' right') other_tree equal before = elim before [
       | inl less ↦ split.first (leaf_set right') (split_by_right set (leaf_set left') (leaf_set right') other_tree.0)
           (omega (arith, split_sum set (leaf_set left') (leaf_set right') other_tree.0, left_set, less))
-          (through_of_tree (weight.SumWithin most) bounds table set end left' right' h is_table other_tree equal)
+          (through_of_tree (weight.SumOfBoundsUpTo most) bounds table set end left' right' h is_table other_tree equal)
       | inr here ↦ (let sides : IsTreeOver (set - right_set) left' × IsTreeOver right_set right'
-          × (weight_of (weight.SumWithin most) bounds left' ≡ weight_of (weight.SumWithin most) bounds left) × (weight_of (weight.SumWithin most) bounds right' ≡ weight_of (weight.SumWithin most) bounds right) =
+          × (weight_of (weight.SumOfBoundsUpTo most) bounds left' ≡ weight_of (weight.SumOfBoundsUpTo most) bounds left) × (weight_of (weight.SumOfBoundsUpTo most) bounds right' ≡ weight_of (weight.SumOfBoundsUpTo most) bounds right) =
           sides_weigh left' right' other_tree equal (here.0 ∙ left_set) in
           elim here.1 [
             | inl left_before ↦ first_left.none_earlier left' sides.0 sides.2 left_before

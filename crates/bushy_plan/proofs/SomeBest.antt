@@ -8,12 +8,12 @@ use Rattle.std.proofs.lemmas.Nat.{pow_pos}
 use Rattle.std.proofs.lemmas.Nat.Bits.{bit_at-lt, bit_at-pow_other, bit_at_above}
 use Rattle.entry_sets.proofs.Bits.{twice}
 use Rattle.order_search.specs.Orders.{IsNotAfter}
-use Rattle.order_search.proofs.NoWorse.{place_either, place_both}
-use Rattle.bushy_plan.specs.BestTree.{IsTreeBefore, IsBest, all_of, cost, total}
+use Rattle.order_search.proofs.NoWorse.{lexical_total, lexical_transitive}
+use Rattle.bushy_plan.specs.BestTree.{IsTreeBefore, IsBest, full_set, cost, total}
 use Rattle.bushy_plan.specs.PlanTrees.{IsFirstEntry, IsSplit, IsTreeOver, PlanTree, leaf, node, leaf_set, inner_count}
 use Rattle.bushy_plan.proofs.AllTrees.{IsWith, only_last, without_last}
 use Rattle.bushy_plan.proofs.LeftDeep.{bit_with, split_with_first, tree_first}
-use Rattle.bushy_plan.proofs.Numbering.{count_by_size}
+use Rattle.bushy_plan.proofs.Numbering.{inner_count_by_size}
 use Rattle.bushy_plan.proofs.Splitting.{first_of_power, some_entries, split_sum, tree_set}
 
 -- ---- a tree with one more entry is a tree
@@ -112,14 +112,14 @@ with_over set last (node left right) tree fits is_tree is_with = elim is_with [
 
 -- ---- for any order that can compare every two trees, some tree is least
 
-record IsOrder (R : PlanTree → PlanTree → Type 0) : Type 0 where
+record IsTotalPreorder (R : PlanTree → PlanTree → Type 0) : Type 0 where
   either : (a b : PlanTree) → R a b ⊎ R b a
   both : (a b c : PlanTree) → R a b → R b c → R a c
 
-through : (R : PlanTree → PlanTree → Type 0) (f : PlanTree → PlanTree) → IsOrder R → IsOrder (λ a b. R (f a) (f b))
+through : (R : PlanTree → PlanTree → Type 0) (f : PlanTree → PlanTree) → IsTotalPreorder R → IsTotalPreorder (λ a b. R (f a) (f b))
 through R f order = record { either = λ a b. order.either (f a) (f b); both = λ a b c. order.both (f a) (f b) (f c) }
 
-itself : (R : PlanTree → PlanTree → Type 0) → IsOrder R → (a : PlanTree) → R a a
+itself : (R : PlanTree → PlanTree → Type 0) → IsTotalPreorder R → (a : PlanTree) → R a a
 itself R order a = elim (order.either a a) [
   | inl p ↦ p
   | inr q ↦ q
@@ -131,7 +131,7 @@ record LeastWith (R : PlanTree → PlanTree → Type 0) (last : ℕ) (rest : Pla
   least : (other : PlanTree) → IsWith last rest other → R tree other
 
 -- the last entry is joined to the root, or at its best place in the left tree, or at its best place in the right tree
-least_of_three : (R : PlanTree → PlanTree → Type 0) → IsOrder R → (last : ℕ) (left right : PlanTree) → LeastWith (λ a b. R (node a right) (node b right)) last left
+least_of_three : (R : PlanTree → PlanTree → Type 0) → IsTotalPreorder R → (last : ℕ) (left right : PlanTree) → LeastWith (λ a b. R (node a right) (node b right)) last left
     → LeastWith (λ a b. R (node left a) (node left b)) last right → LeastWith R last (node left right)
 least_of_three R order last left right l r = elim (order.either (node l.tree right) (node left r.tree)) [
   | inl left_first ↦ elim (order.either root (node l.tree right)) [
@@ -160,7 +160,7 @@ least_of_three R order last left right l r = elim (order.either (node l.tree rig
       ];
     }
 
-least_with : (R : PlanTree → PlanTree → Type 0) → IsOrder R → (last : ℕ) (rest : PlanTree) → LeastWith R last rest
+least_with : (R : PlanTree → PlanTree → Type 0) → IsTotalPreorder R → (last : ℕ) (rest : PlanTree) → LeastWith R last rest
 least_with R order last (leaf entry) = record {
   tree = node (leaf entry) (leaf last);
   is_with = refl;
@@ -173,26 +173,26 @@ least_with R order last (node left right) =
 
 record Least (R : PlanTree → PlanTree → Type 0) (n : ℕ) : Type 0 where
   tree : PlanTree
-  is_tree : IsTreeOver (all_of n) tree
-  least : (other : PlanTree) → IsTreeOver (all_of n) other → R tree other
+  is_tree : IsTreeOver (full_set n) tree
+  least : (other : PlanTree) → IsTreeOver (full_set n) other → R tree other
 
-grown : (R : PlanTree → PlanTree → Type 0) → IsOrder R → ℕ → PlanTree → PlanTree
+grown : (R : PlanTree → PlanTree → Type 0) → IsTotalPreorder R → ℕ → PlanTree → PlanTree
 grown R order last t = (least_with R order last t).tree
 
-least_next : (R : PlanTree → PlanTree → Type 0) (order : IsOrder R) (n : ℕ) → Least (λ a b. R (grown R order (suc n) a) (grown R order (suc n) b)) (suc n) → Least R (suc (suc n))
+least_next : (R : PlanTree → PlanTree → Type 0) (order : IsTotalPreorder R) (n : ℕ) → Least (λ a b. R (grown R order (suc n) a) (grown R order (suc n) b)) (suc n) → Least R (suc (suc n))
 unfolding grown
 least_next R order n best = record {
   tree = grown R order (suc n) best.tree;
   is_tree = subst (λ (k : ℕ). IsTreeOver k (grown R order (suc n) best.tree)) whole
-      (with_over (all_of (suc n)) (suc n) best.tree (grown R order (suc n) best.tree) (omega (arith, pow_pos (suc n))) best.is_tree (least_with R order (suc n) best.tree).is_with);
-  least = λ other is_tree. (let rest : (rest : PlanTree) × IsTreeOver (all_of (suc n)) rest × IsWith (suc n) rest other = without_last n other is_tree in
+      (with_over (full_set (suc n)) (suc n) best.tree (grown R order (suc n) best.tree) (omega (arith, pow_pos (suc n))) best.is_tree (least_with R order (suc n) best.tree).is_with);
+  least = λ other is_tree. (let rest : (rest : PlanTree) × IsTreeOver (full_set (suc n)) rest × IsWith (suc n) rest other = without_last n other is_tree in
       order.both (grown R order (suc n) best.tree) (grown R order (suc n) rest.0) other (best.least rest.0 rest.1) ((least_with R order (suc n) rest.0).least other rest.2));
 }
   where
     whole : 2 ^ suc n - 1 + 2 ^ suc n ≡ 2 ^ suc (suc n) - 1
     whole = omega (arith, twice (suc n), pow_pos (suc n))
 
-least_of_all : (R : PlanTree → PlanTree → Type 0) → IsOrder R → (n : ℕ) → 0 < n → Least R n
+least_of_all : (R : PlanTree → PlanTree → Type 0) → IsTotalPreorder R → (n : ℕ) → 0 < n → Least R n
 least_of_all R order zero some = absurd (omega arith)
 least_of_all R order (suc zero) some = record {
   tree = leaf 0;
@@ -212,7 +212,7 @@ left_sets (node left right) = leaf_set left ∷ (left_sets left ++ left_sets rig
 abbrev First : (PlanTree → ℕ) → (PlanTree → PlanTree → Type 0) → PlanTree → PlanTree → Type 0
 First f Then a b = (f a < f b) ⊎ ((f a ≡ f b) × Then a b)
 
-first_order : (f : PlanTree → ℕ) (Then : PlanTree → PlanTree → Type 0) → IsOrder Then → IsOrder (First f Then)
+first_order : (f : PlanTree → ℕ) (Then : PlanTree → PlanTree → Type 0) → IsTotalPreorder Then → IsTotalPreorder (First f Then)
 first_order f Then order = record {
   either = λ a b. elim (cases_order (f a) (f b)) [
     | inl same ↦ elim (order.either a b) [
@@ -236,13 +236,13 @@ first_order f Then order = record {
   ];
 }
 
-abbrev IsPlaced : PlanTree → PlanTree → Type 0
-IsPlaced a b = IsNotAfter (left_sets a) (left_sets b)
+abbrev HasLesserLeftSets : PlanTree → PlanTree → Type 0
+HasLesserLeftSets a b = IsNotAfter (left_sets a) (left_sets b)
 
-placed_order : IsOrder IsPlaced
+placed_order : IsTotalPreorder HasLesserLeftSets
 placed_order = record {
-  either = λ a b. place_either (left_sets a) (left_sets b);
-  both = λ a b c. place_both (left_sets a) (left_sets b) (left_sets c);
+  either = λ a b. lexical_total (left_sets a) (left_sets b);
+  both = λ a b c. lexical_transitive (left_sets a) (left_sets b) (left_sets c);
 }
 
 length-left_sets : (tree : PlanTree) → length (left_sets tree) ≡ inner_count tree
@@ -266,7 +266,7 @@ not_after_behind (x ∷ a) c d h = elim h [
 ]
 
 -- so a tree whose list of left sets is least is the first tree
-before_placed : (n set : ℕ) (a b : PlanTree) → set < 2 ^ n → IsTreeOver set a → IsTreeOver set b → IsTreeBefore a b → IsPlaced b a → ⊥
+before_placed : (n set : ℕ) (a b : PlanTree) → set < 2 ^ n → IsTreeOver set a → IsTreeOver set b → IsTreeBefore a b → HasLesserLeftSets b a → ⊥
 before_placed n set (leaf x) b fits p q before h = before
 before_placed n set (node l r) (leaf y) fits p q before h = before
 before_placed n set (node l r) (node l' r') fits p q before h = elim before [
@@ -284,8 +284,8 @@ before_placed n set (node l r) (node l' r') fits p q before h = elim before [
             arith,
             length-left_sets l,
             length-left_sets l',
-            count_by_size n (leaf_set l) l (omega (arith, split_sum set (leaf_set l) (leaf_set r) p.0)) p.1,
-            count_by_size n (leaf_set l) l' (omega (arith, split_sum set (leaf_set l) (leaf_set r) p.0)) left_tree,
+            inner_count_by_size n (leaf_set l) l (omega (arith, split_sum set (leaf_set l) (leaf_set r) p.0)) p.1,
+            inner_count_by_size n (leaf_set l) l' (omega (arith, split_sum set (leaf_set l) (leaf_set r) p.0)) left_tree,
           )) same.1))
       | inr right_here ↦ (let right_same : leaf_set r' ≡ leaf_set r =
           omega (arith, split_sum set (leaf_set l) (leaf_set r) p.0, split_sum set (leaf_set l') (leaf_set r') q.0, here.0) in
@@ -312,15 +312,15 @@ some_best bounds n some = (
     ];
     none_earlier = λ other over same equal before. elim (then_total other over same) [
       | inl below ↦ absurd (omega (arith, below, equal))
-      | inr also ↦ before_placed n (all_of n) other found.tree (omega (arith, pow_pos n)) over found.is_tree before also.1
+      | inr also ↦ before_placed n (full_set n) other found.tree (omega (arith, pow_pos n)) over found.is_tree before also.1
     ];
   },
 )
   where
-    found : Least (First (cost bounds) (First (total bounds) IsPlaced)) n
-    found = least_of_all (First (cost bounds) (First (total bounds) IsPlaced)) (first_order (cost bounds) (First (total bounds) IsPlaced) (first_order (total bounds) IsPlaced placed_order)) n some
+    found : Least (First (cost bounds) (First (total bounds) HasLesserLeftSets)) n
+    found = least_of_all (First (cost bounds) (First (total bounds) HasLesserLeftSets)) (first_order (cost bounds) (First (total bounds) HasLesserLeftSets) (first_order (total bounds) HasLesserLeftSets placed_order)) n some
 
-    then_total : (other : PlanTree) → IsTreeOver (all_of n) other → cost bounds other ≡ cost bounds found.tree → First (total bounds) IsPlaced found.tree other
+    then_total : (other : PlanTree) → IsTreeOver (full_set n) other → cost bounds other ≡ cost bounds found.tree → First (total bounds) HasLesserLeftSets found.tree other
     then_total other over same = elim (found.least other over) [
       | inl below ↦ absurd (omega (arith, below, same))
       | inr here ↦ here.1

@@ -1,8 +1,8 @@
 -- A test computes whether one tree is no worse than another. With it the small examples of best trees are proved.
 use Rattle.std.proofs.Common.{◌≡◌, ℕ, ◌<◌, Bool, true, false, eqb, cond, List, refl, subst, eq-eqb, arith, inl, inr}
 use Rattle.std.specs.Prelude.{◌⊎◌}
-use Rattle.order_search.proofs.Tested.{both_true, first_test, first_told}
-use Rattle.bushy_plan.specs.BestTree.{IsTreeBefore, IsBest, all_of, cost, total}
+use Rattle.order_search.proofs.Tested.{both_true, first_test, first_from_test}
+use Rattle.bushy_plan.specs.BestTree.{IsTreeBefore, IsBest, full_set, cost, total}
 use Rattle.bushy_plan.specs.PlanTrees.{IsTreeOver, PlanTree, leaf, node, leaf_set}
 use Rattle.bushy_plan.proofs.AllTrees.{at_tree, each_tree}
 
@@ -28,7 +28,7 @@ not_before (node left right) (node left' right') =
 refuted : (a b : PlanTree) → not_before a b ≡ true → ¬ IsTreeBefore a b
 refuted (leaf x) b h before = before
 refuted (node left right) (leaf y) h before = before
-refuted (node left right) (node left' right') h before = elim (first_told (leaf_set left') (leaf_set left) _ h) [
+refuted (node left right) (node left' right') h before = elim (first_from_test (leaf_set left') (leaf_set left) _ h) [
   | inl less ↦ elim before [
     | inl above ↦ omega (arith, less, above)
     | inr here ↦ omega (arith, less, here.0)
@@ -52,7 +52,7 @@ refuted (node left right) (node left' right') h before = elim (first_told (leaf_
 abbrev pub no_worse : List ℕ → PlanTree → PlanTree → Bool
 no_worse bounds a b = first_test (cost bounds a) (cost bounds b) (first_test (total bounds a) (total bounds b) (not_before b a))
 
-pub best_by_test : (bounds : List ℕ) (n : ℕ) (best : PlanTree) → 0 < n → IsTreeOver (all_of n) best → each_tree n (λ other. no_worse bounds best other) ≡ true → IsBest bounds n best
+pub best_by_test : (bounds : List ℕ) (n : ℕ) (best : PlanTree) → 0 < n → IsTreeOver (full_set n) best → each_tree n (λ other. no_worse bounds best other) ≡ true → IsBest bounds n best
 best_by_test bounds n best some is_tree tested = record {
   is_tree = is_tree;
   none_cheaper = λ other over. elim (told other over) [
@@ -69,11 +69,11 @@ best_by_test bounds n best some is_tree tested = record {
   ];
 }
   where
-    told : (other : PlanTree) → IsTreeOver (all_of n) other → (cost bounds best < cost bounds other) ⊎ ((cost bounds best ≡ cost bounds other) × (first_test (total bounds best) (total bounds other) (not_before other best) ≡ true))
-    told other over = first_told (cost bounds best) (cost bounds other) _ (at_tree n (λ (t : PlanTree). no_worse bounds best t) other some tested over)
+    told : (other : PlanTree) → IsTreeOver (full_set n) other → (cost bounds best < cost bounds other) ⊎ ((cost bounds best ≡ cost bounds other) × (first_test (total bounds best) (total bounds other) (not_before other best) ≡ true))
+    told other over = first_from_test (cost bounds best) (cost bounds other) _ (at_tree n (λ (t : PlanTree). no_worse bounds best t) other some tested over)
 
-    then_total : (other : PlanTree) → IsTreeOver (all_of n) other → cost bounds other ≡ cost bounds best → (total bounds best < total bounds other) ⊎ ((total bounds best ≡ total bounds other) × (not_before other best ≡ true))
+    then_total : (other : PlanTree) → IsTreeOver (full_set n) other → cost bounds other ≡ cost bounds best → (total bounds best < total bounds other) ⊎ ((total bounds best ≡ total bounds other) × (not_before other best ≡ true))
     then_total other over same = elim (told other over) [
       | inl below ↦ absurd (omega (arith, below, same))
-      | inr here ↦ first_told (total bounds best) (total bounds other) (not_before other best) here.1
+      | inr here ↦ first_from_test (total bounds best) (total bounds other) (not_before other best) here.1
     ]

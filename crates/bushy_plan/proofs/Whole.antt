@@ -4,16 +4,16 @@ use Rattle.std.proofs.Common.{◌≡◌, ℕ, ◌<◌, ◌≤◌, List, length, 
 use Rattle.std.specs.List.{AllByRecursion, count_by}
 use Rattle.std.specs.Prelude.{◌==◌}
 use Rattle.std.proofs.lemmas.Nat.{pow_pos}
-use Rattle.tree_plans.specs.TreePlans.{AreBehindTheirs, IsTreePlan, joined_nodes}
+use Rattle.tree_plans.specs.TreePlans.{HaveHigherNumbers, IsTreePlan, joined_nodes}
 use Rattle.tree_plans.specs.declared.bushy.BushyPlan.{BushyPlan}
 use Rattle.tree_plans.specs.declared.bushy.Join.{Join}
 use Rattle.order_search.specs.Orders.{cost as left_deep_cost}
 use Rattle.plans.specs.LeftDeep.{IsOrder}
-use Rattle.bushy_plan.specs.BestTree.{AreOfBest, all_of}
+use Rattle.bushy_plan.specs.BestTree.{AreOfBest, full_set}
 use Rattle.bushy_plan.proofs.Costs.{greatest_at_most_cost}
 use Rattle.bushy_plan.proofs.Found.{some_of_all}
 use Rattle.bushy_plan.proofs.LeftDeep.{no_dearer}
-use Rattle.bushy_plan.proofs.Numbering.{behind_theirs, bounds_small, count_of_all, length-joins_from, named_once}
+use Rattle.bushy_plan.proofs.Numbering.{have_higher_numbers, bounds_small, count_of_all, length-joins_from, named_once}
 
 pub plan_from : (bounds : List ℕ) (scans : List ℕ) (plan : BushyPlan) → length scans ≤ 12 → plan.scans ≡ scans
     → AreOfBest bounds (length scans) plan.cost plan.joins → IsTreePlan (length scans) plan
@@ -21,8 +21,8 @@ plan_from bounds scans plan few same best = record {
   few = few;
   scans = ap length same;
   joins = omega (arith, ap (length {A = Join}) best.are_its, length-joins_from bounds (length scans) best.tree, count_of_all (length scans) best.tree best.is_best.is_tree);
-  behind = subst (λ (joins : List Join). AreBehindTheirs (length scans) joins) (sym best.are_its)
-      (behind_theirs bounds (length scans) (all_of (length scans)) (length scans) best.tree (omega (arith, pow_pos (length scans))) (omega arith) best.is_best.is_tree);
+  behind = subst (λ (joins : List Join). HaveHigherNumbers (length scans) joins) (sym best.are_its)
+      (have_higher_numbers bounds (length scans) (full_set (length scans)) (length scans) best.tree (omega (arith, pow_pos (length scans))) (omega arith) best.is_best.is_tree);
   once = λ node below. ap (λ (joins : List Join). count_by (λ (other : ℕ). other == node) (joined_nodes joins)) best.are_its
       ∙ named_once bounds (length scans) node best.tree best.is_best.is_tree below;
 }

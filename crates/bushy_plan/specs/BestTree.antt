@@ -36,16 +36,16 @@ IsTreeBefore (node left right) (node left' right') =
     ⊎ ((leaf_set left ≡ leaf_set left') × (IsTreeBefore left left' ⊎ ((left ≡ left') × IsTreeBefore right right')))
 
 -- the set of all n entries
-abbrev pub all_of : ℕ → ℕ
-all_of n = 2 ^ n - 1
+abbrev pub full_set : ℕ → ℕ
+full_set n = 2 ^ n - 1
 
 -- the tree has the least cost, and the least sum among the trees of least cost. No tree of the same cost and sum comes before it
 pub record IsBest (bounds : List ℕ) (n : ℕ) (best : PlanTree) : Type 0 where
-  pub is_tree : IsTreeOver (all_of n) best
-  pub none_cheaper : (other : PlanTree) → IsTreeOver (all_of n) other → cost bounds best ≤ cost bounds other
-  pub none_smaller : (other : PlanTree) → IsTreeOver (all_of n) other → cost bounds other ≡ cost bounds best
+  pub is_tree : IsTreeOver (full_set n) best
+  pub none_cheaper : (other : PlanTree) → IsTreeOver (full_set n) other → cost bounds best ≤ cost bounds other
+  pub none_smaller : (other : PlanTree) → IsTreeOver (full_set n) other → cost bounds other ≡ cost bounds best
       → total bounds best ≤ total bounds other
-  pub none_earlier : (other : PlanTree) → IsTreeOver (all_of n) other → cost bounds other ≡ cost bounds best
+  pub none_earlier : (other : PlanTree) → IsTreeOver (full_set n) other → cost bounds other ≡ cost bounds best
       → total bounds other ≡ total bounds best → ¬ IsTreeBefore other best
 
 -- the joins are the joins of the best tree, with the bounds of their sets, and `cheapest` is the cost of this tree
@@ -62,6 +62,6 @@ IsBestPlan bounds n plan = AreOfBest bounds n plan.cost plan.joins
 -- a tree has the cost `least`, and no tree has a lower cost
 pub record IsLeastCost (bounds : List ℕ) (n least : ℕ) : Type 0 where
   pub tree : PlanTree
-  pub is_tree : IsTreeOver (all_of n) tree
+  pub is_tree : IsTreeOver (full_set n) tree
   pub costs : cost bounds tree ≡ least
-  pub none_cheaper : (other : PlanTree) → IsTreeOver (all_of n) other → least ≤ cost bounds other
+  pub none_cheaper : (other : PlanTree) → IsTreeOver (full_set n) other → least ≤ cost bounds other

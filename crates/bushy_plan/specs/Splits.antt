@@ -4,57 +4,57 @@ use Rattle.limits.specs.Profile.{top_bound}
 use Rattle.tree_plans.specs.declared.bushy.Join.{Join}
 use Rattle.bushy_plan.specs.BestTree.{IsTreeBefore}
 use Rattle.bushy_plan.specs.PlanTrees.{PlanTree, leaf, node, IsFirstEntry, IsSplit, IsTreeOver, leaf_set, joins_from, root_number}
-use Rattle.bushy_plan.specs.declared.weight.Weight.{Weight}
-use Rattle.bushy_plan.specs.declared.weight.Weight.TheVariants as weight
+use Rattle.bushy_plan.specs.declared.weight.Weighing.{Weighing}
+use Rattle.bushy_plan.specs.declared.weight.Weighing.TheVariants as weight
 
 -- the entries of a set without its first one
-pub record IsBehindFirst (set behind : ℕ) : Type 0 where
+pub record IsWithoutFirst (set behind : ℕ) : Type 0 where
   pub first : ℕ
   pub is_first : IsFirstEntry set first
   pub others : behind ≡ set - 2 ^ first
 
--- the weight of a node, from its bound and the weights of its two sides. With `SumWithin`, a bound above `most` gives the greatest weight
-abbrev pub combined : Weight → ℕ → ℕ → ℕ → ℕ
+-- the weight of a node, from its bound and the weights of its two sides. With `SumOfBoundsUpTo`, a bound above `most` gives the greatest weight
+abbrev pub combined : Weighing → ℕ → ℕ → ℕ → ℕ
 combined weight.Greatest bound left right = max bound (max left right)
-combined (weight.SumWithin most) bound left right = if nat_le bound most then (min (bound + left + right) top_bound) else top_bound
+combined (weight.SumOfBoundsUpTo most) bound left right = if nat_le bound most then (min (bound + left + right) top_bound) else top_bound
 
 -- the weight of a tree, from the bounds of its inner nodes; a leaf weighs nothing
-abbrev pub weight_of : Weight → List ℕ → PlanTree → ℕ
+abbrev pub weight_of : Weighing → List ℕ → PlanTree → ℕ
 weight_of w bounds (leaf entry) = 0
 weight_of w bounds (node left right) = combined w (slice_index bounds (leaf_set left
     + leaf_set right)) (weight_of w bounds left) (weight_of w bounds right)
 
 -- a tree over the set has this weight, and no tree over the set is lighter
-pub record IsLeastWeight (w : Weight) (bounds : List ℕ) (set least : ℕ) : Type 0 where
+pub record IsLeastWeight (w : Weighing) (bounds : List ℕ) (set least : ℕ) : Type 0 where
   pub tree : PlanTree
   pub is_tree : IsTreeOver set tree
   pub weighs : weight_of w bounds tree ≡ least
   pub none_lighter : (other : PlanTree) → IsTreeOver set other → least ≤ weight_of w bounds other
 
 -- the table has the least weight of each set with a number below `end`. It says nothing of number 0, as no tree is over the empty set
-abbrev pub IsTable : Weight → List ℕ → List ℕ → ℕ → Type 0
+abbrev pub IsTable : Weighing → List ℕ → List ℕ → ℕ → Type 0
 IsTable w bounds table end = (set : ℕ) → 0 < set → set < end → IsLeastWeight w bounds set (slice_index table set)
 
 -- the weight of the lightest tree over the set whose root has the right set `right`, by the table
-abbrev pub weight_through : Weight → List ℕ → List ℕ → ℕ → ℕ → ℕ
+abbrev pub weight_through : Weighing → List ℕ → List ℕ → ℕ → ℕ → ℕ
 weight_through w bounds table set right = combined w (slice_index bounds set) (slice_index table (set - right)) (slice_index table right)
 
 -- `right` is the right set of a lightest split, and no lightest split has a right set with a greater number. So its left set has the least number
-pub record IsFirstLightestSplit (w : Weight) (bounds table : List ℕ) (set right : ℕ) : Type 0 where
+pub record IsFirstLightestSplit (w : Weighing) (bounds table : List ℕ) (set right : ℕ) : Type 0 where
   pub is_split : IsSplit set (set - right) right
   pub lightest : weight_through w bounds table set right ≡ slice_index table set
   pub first : (other : ℕ) → IsSplit set (set - other) other → right < other
       → weight_through w bounds table set other ≢ slice_index table set
 
 -- no tree over the set is lighter than `tree`, and no tree of the same weight comes before `tree`
-pub record IsFirstLightest (w : Weight) (bounds : List ℕ) (set : ℕ) (tree : PlanTree) : Type 0 where
+pub record IsFirstLightest (w : Weighing) (bounds : List ℕ) (set : ℕ) (tree : PlanTree) : Type 0 where
   pub is_tree : IsTreeOver set tree
   pub none_lighter : (other : PlanTree) → IsTreeOver set other → weight_of w bounds tree ≤ weight_of w bounds other
   pub none_earlier : (other : PlanTree) → IsTreeOver set other → weight_of w bounds other ≡ weight_of w bounds tree → ¬ IsTreeBefore other tree
 
 -- the joins of the first of the lightest trees were appended, and the root of this tree has the number `root`. Inner nodes are numbered from `next`
 -- on
-pub record IsReadOff (w : Weight) (bounds : List ℕ) (next set : ℕ) (old new : List Join) (root : ℕ) : Type 0 where
+pub record AppendsFirstLightest (w : Weighing) (bounds : List ℕ) (next set : ℕ) (old new : List Join) (root : ℕ) : Type 0 where
   pub tree : PlanTree
   pub is_first : IsFirstLightest w bounds set tree
   pub joins : new ≡ old ++ joins_from bounds (next + length old) tree

@@ -2,23 +2,29 @@
 ghost use Rattle.std.specs.Prelude.{◌≡◌, ◌+◌, ◌<◌, ◌≤◌, length, slice_index, IfOk};
 ghost use Rattle.limits.specs.Profile.{greatest_budget, most_entries, top_bound};
 ghost use Rattle.bushy_plan.specs.PlanTrees.{IsTreeOver, PlanTree, inner_count};
-ghost use Rattle.bushy_plan.specs.Splits.{IsBehindFirst, IsFirstLightestSplit, IsReadOff, IsTable};
+ghost use Rattle.bushy_plan.specs.Splits.{IsWithoutFirst, IsFirstLightestSplit, AppendsFirstLightest, IsTable};
 
-use crate::splits::{behind_first, first_entry};
+use crate::splits::{first_entry, without_first};
 use crate::table::weight_through;
-use crate::weight::Weight;
+use crate::weight::Weighing;
 use base_io::NoMemory;
 use tree_plans::Join;
 
 // The right set of a lightest split of `set`. If there are several lightest splits, it is the one whose left set has the least number. `behind` has
 // the entries of `set` without its first entry.
-fn first_right(weight: Weight, bounds: &[u128], table: &[u128], set: usize, behind: usize) -> usize
+fn first_right(
+    weight: Weighing,
+    bounds: &[u128],
+    table: &[u128],
+    set: usize,
+    behind: usize,
+) -> usize
     requires some { 0 < set }
     requires more { 0 < behind }
     requires set { set < length bounds.now }
     requires filled { length table.now ≡ length bounds.now }
     requires table { IsTable weight bounds.now table.now (length bounds.now) }
-    requires behind { IsBehindFirst set behind }
+    requires behind { IsWithoutFirst set behind }
     ensures { IsFirstLightestSplit weight bounds.now table.now set result }
 {
     let mut right = behind;
@@ -43,16 +49,16 @@ pub(crate) fn push_joins(
     requires some { 0 < set }
     requires set { set < length bounds.now }
     requires filled { length table.now ≡ length bounds.now }
-    requires table { IsTable (Weight.SumWithin most) bounds.now table.now (length bounds.now) }
+    requires table { IsTable (Weighing.SumOfBoundsUpTo most) bounds.now table.now (length bounds.now) }
     requires light { slice_index table.now set < top_bound }
     requires numbers { (tree : PlanTree) → IsTreeOver set tree → length joins.old.items + inner_count tree < most_entries }
-    ensures { IfOk result (λ root. IsReadOff (Weight.SumWithin most) bounds.now count set joins.old.items joins.new.items root) }
+    ensures { IfOk result (λ root. AppendsFirstLightest (Weighing.SumOfBoundsUpTo most) bounds.now count set joins.old.items joins.new.items root) }
 {
-    let behind = behind_first(set);
+    let behind = without_first(set);
     if behind == 0 {
         return Ok(first_entry(set));
     }
-    let right_set = first_right(Weight::SumWithin(most), bounds, table, set, behind);
+    let right_set = first_right(Weighing::SumOfBoundsUpTo(most), bounds, table, set, behind);
     let left = push_joins(most, count, bounds, table, set - right_set, joins)?;
     let right = push_joins(most, count, bounds, table, right_set, joins)?;
     let number = count + joins.len() as u8;

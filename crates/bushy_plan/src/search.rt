@@ -10,7 +10,7 @@ ghost use Rattle.bushy_plan.specs.Causes.{IsCause};
 
 use crate::joins::push_joins;
 use crate::table::least_weights;
-use crate::weight::Weight;
+use crate::weight::Weighing;
 use base_io::{NoMemory, Seq};
 use limits::TOP_BOUND;
 use order_search::PlanError;
@@ -75,7 +75,7 @@ fn least_cost(alloc: Global, count: u8, bounds: &[u128]) -> Result<u128, NoMemor
     if count == 1 {
         return Ok(bounds[1]);
     }
-    let costs = least_weights(alloc, Weight::Greatest, bounds)?;
+    let costs = least_weights(alloc, Weighing::Greatest, bounds)?;
     Ok(costs[bounds.len() - 1])
 }
 
@@ -88,7 +88,7 @@ fn best_joins(alloc: Global, count: u8, bounds: &[u128], least: u128) -> Result<
     requires small { least ≤ greatest_budget }
     ensures { IfOk result (λ joins. AreOfBest bounds.now count least joins.items) }
 {
-    let sums = least_weights(alloc, Weight::SumWithin(least), bounds)?;
+    let sums = least_weights(alloc, Weighing::SumOfBoundsUpTo(least), bounds)?;
     let mut joins = Vec::new(alloc);
     let _root = push_joins(
         least,

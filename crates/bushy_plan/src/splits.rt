@@ -2,7 +2,7 @@
 //! number is also the index of the set's bound.
 ghost use Rattle.std.specs.Prelude.{◌<◌};
 ghost use Rattle.bushy_plan.specs.PlanTrees.{IsFirstEntry};
-ghost use Rattle.bushy_plan.specs.Splits.{IsBehindFirst};
+ghost use Rattle.bushy_plan.specs.Splits.{IsWithoutFirst};
 
 // The set's first entry.
 pub(crate) fn first_entry(set: usize) -> u8
@@ -13,9 +13,9 @@ pub(crate) fn first_entry(set: usize) -> u8
 }
 
 // The set without its first entry. The right set of a split is any part of it that isn't empty.
-pub(crate) fn behind_first(set: usize) -> usize
+pub(crate) fn without_first(set: usize) -> usize
     requires { 0 < set }
-    ensures { IsBehindFirst set result }
+    ensures { IsWithoutFirst set result }
 {
     set - (1 << first_entry(set))
 }

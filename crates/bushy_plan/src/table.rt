@@ -3,14 +3,14 @@
 ghost use Rattle.std.specs.Prelude.{◌≡◌, ◌<◌, ◌≤◌, length, IfOk};
 ghost use Rattle.bushy_plan.specs.Splits.{IsLeastWeight, IsTable, weight_through as weight_through_of};
 
-use crate::splits::behind_first;
-use crate::weight::Weight;
+use crate::splits::without_first;
+use crate::weight::Weighing;
 use base_io::NoMemory;
 use std::alloc::Global;
 
 // The least weight of the trees over `set` whose root has the entries of `right` on its right side, and the others on its left.
 pub(crate) fn weight_through(
-    weight: Weight,
+    weight: Weighing,
     bounds: &[u128],
     table: &[u128],
     set: usize,
@@ -22,19 +22,19 @@ pub(crate) fn weight_through(
     requires filled { set ≤ length table.now }
     ensures { result ≡ weight_through_of weight bounds.now table.now set right }
 {
-    weight.joined(bounds[set], table[set - right], table[right])
+    weight.combined(bounds[set], table[set - right], table[right])
 }
 
 // The least weight of a tree over the set, by the table of its parts. The left side of the root has the set's first entry, so `right` goes down
 // through all parts of the other entries.
-fn least_weight(weight: Weight, bounds: &[u128], table: &[u128], set: usize) -> u128
+fn least_weight(weight: Weighing, bounds: &[u128], table: &[u128], set: usize) -> u128
     requires some { 0 < set }
     requires set { set < length bounds.now }
     requires filled { length table.now ≡ set }
     requires table { IsTable weight bounds.now table.now set }
     ensures { IsLeastWeight weight bounds.now set result }
 {
-    let behind = behind_first(set);
+    let behind = without_first(set);
     if behind == 0 {
         return 0;
     }
@@ -50,7 +50,7 @@ fn least_weight(weight: Weight, bounds: &[u128], table: &[u128], set: usize) -> 
 // The least weight for each set, at the set's number. Number 0, the set of no entries, has 0.
 pub(crate) fn least_weights(
     alloc: Global,
-    weight: Weight,
+    weight: Weighing,
     bounds: &[u128],
 ) -> Result<Vec<u128>, NoMemory>
     requires some { 0 < length bounds.now }

@@ -13,7 +13,7 @@ use Rattle.tree_plans.specs.TreePlans.{IsTreePlan}
 use Rattle.tree_rows.specs.Rooms.{bound_at, bound_in}
 use Rattle.tree_rows.specs.Trees.{entries_at, node_entries, singles, with_joins}
 use Rattle.tree_rows.proofs.Once.{plan_once, singles_at, singles_length}
-use Rattle.bushy_plan.specs.BestTree.{all_of, IsBestPlan}
+use Rattle.bushy_plan.specs.BestTree.{full_set, IsBestPlan}
 use Rattle.bushy_plan.specs.PlanTrees.{IsTreeOver, PlanTree, leaf, leaf_set}
 use Rattle.bushy_planning.proofs.Subtrees.{all_whole, bound_of, bounds_are, joins_are, leaves, set_of_leaves, subtrees, with_tree, HaveLeaves, IsWhole}
 
@@ -24,17 +24,17 @@ all_at P (tree ∷ trees) zero d all low = all.0
 all_at P (tree ∷ trees) (suc k) d all low = all_at P trees k d all.1 (omega arith)
 
 module _ (n : ℕ) (sets : List ℕ) (plan : BushyPlan) (is : IsTreePlan n plan) (best : IsBestPlan sets n plan) where
-  all_fits : all_of n < 2 ^ n
+  all_fits : full_set n < 2 ^ n
   all_fits = omega (arith, pow_pos n)
 
-  is_tree : IsTreeOver (all_of n) best.tree
+  is_tree : IsTreeOver (full_set n) best.tree
   is_tree = best.is_best.is_tree
 
   all_entries : node_entries plan ≡ with_tree (singles n) best.tree
   all_entries =
       ap (λ (m : ℕ). with_joins (singles m) plan.joins) is.scans
       ∙ ap (λ (s : List Join). with_joins (singles n) s) best.are_its
-      ∙ joins_are sets n (all_of n) n (singles n) best.tree (singles_length n) have all_fits is_tree
+      ∙ joins_are sets n (full_set n) n (singles n) best.tree (singles_length n) have all_fits is_tree
     where
       have : HaveLeaves n (singles n)
       have entry low = (omega (arith, low, singles_length n), singles_at n entry low)
@@ -55,7 +55,7 @@ module _ (n : ℕ) (sets : List ℕ) (plan : BushyPlan) (is : IsTreePlan n plan)
     unfolding subtree
     whole =
         all_at (IsWhole n) (subtrees best.tree) k (leaf 0)
-        (all_whole n (all_of n) best.tree all_fits is_tree) (omega (arith, low, as_many))
+        (all_whole n (full_set n) best.tree all_fits is_tree) (omega (arith, low, as_many))
 
     its_entries : entries_at plan (n + k) ≡ leaves subtree
     unfolding subtree

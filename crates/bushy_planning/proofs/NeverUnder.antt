@@ -10,9 +10,9 @@ use Rattle.query_types.specs.declared.types.Query.{Query}
 use Rattle.sql_meaning.specs.Answers.{conjuncts_of}
 use Rattle.sql_meaning.specs.Levels.{all_hold, passes_own, row_in}
 use Rattle.sql_meaning.specs.Tables.{Tables}
-use Rattle.sql_meaning.proofs.AskFacts.{asks_only}
+use Rattle.sql_meaning.proofs.AskFacts.{depend_on_named}
 use Rattle.sql_meaning.proofs.LevelFacts.{first_over}
-use Rattle.join_steps.specs.Lists.{list_at, rows_listed}
+use Rattle.join_steps.specs.Lists.{list_at, listed_row_count}
 use Rattle.tree_plans.specs.declared.bushy.BushyPlan.{BushyPlan}
 use Rattle.tree_plans.specs.declared.bushy.Join.{Join}
 use Rattle.tree_plans.specs.TreePlans.{IsTreePlan}
@@ -37,15 +37,15 @@ module _ (query : Query) (tables : Tables) (lists : List (List ℕ)) (sets : Lis
   scan_bound entry low =
       get_or_append_left plan.scans (map (λ (join : Join). join.bound) plan.joins) 0 entry (omega (arith, low, is.scans))
 
-  few_chosen : (entry : ℕ) → length (chosen_rows query tables lists (entry ∷ [])) ≤ rows_listed lists entry
+  few_chosen : (entry : ℕ) → length (chosen_rows query tables lists (entry ∷ [])) ≤ listed_row_count lists entry
   few_chosen entry =
       let own : ℕ → Bool = passes_own (conjuncts_of query tables) entry in
       let passing : List ℕ = filter own (list_at lists entry) in
       let rows : List (List ℕ) = map (λ row. row ∷ []) passing in
       let constant : Bool = all_hold (conjuncts_of query tables) [] (row_in [] []) in
-      subst (λ (s : List (List ℕ)). length s ≤ rows_listed lists entry)
-      (sym (first_over (conjuncts_of query tables) (list_at lists) entry (asks_only tables query.conjuncts)))
-      (elim constant as (λ b. length (cond b rows []) ≤ rows_listed lists entry) [
+      subst (λ (s : List (List ℕ)). length s ≤ listed_row_count lists entry)
+      (sym (first_over (conjuncts_of query tables) (list_at lists) entry (depend_on_named tables query.conjuncts)))
+      (elim constant as (λ b. length (cond b rows []) ≤ listed_row_count lists entry) [
         | true ↦ omega (arith, length-map passing (λ row. row ∷ []), length-filter own (list_at lists entry), count_by-le-length own (list_at lists entry))
         | false ↦ omega arith
       ])

@@ -13,7 +13,7 @@ use bushy_plan::choose_bushy;
 use csv_tables::Database;
 use limits::Accuracy;
 use order_search::PlanError;
-use planning::{Known, from_statistics};
+use planning::{QueryBounds, from_statistics};
 use query_types::Query;
 use std::alloc::Global;
 use tree_plans::BushyPlan;
@@ -22,7 +22,11 @@ use tree_plans::BushyPlan;
 ///
 /// The budget is at most 2^59 rows. Errors: `Budget` if the best tree costs more than the budget, `PastBits` if its cost doesn't fit into 128 bits,
 /// and `NoMemory`. `tree_answer` says exactly when `Budget` and when `PastBits` is the answer.
-pub fn plan_tree_from(alloc: Global, known: &Known, budget: u64) -> Result<BushyPlan, PlanError>
+pub fn plan_tree_from(
+    alloc: Global,
+    known: &QueryBounds,
+    budget: u64,
+) -> Result<BushyPlan, PlanError>
     requires some { 1 ≤ length known.now.scans }
     requires few { length known.now.scans ≤ most_entries }
     requires sets { length known.now.sets ≡ 2 ^ length known.now.scans }

@@ -1,4 +1,4 @@
 pub mod FrequentLists
 pub mod NodeLists
 pub mod Columns
-pub mod Answers
+pub mod GivenLists

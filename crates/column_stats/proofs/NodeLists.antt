@@ -60,12 +60,12 @@ module _ (at_most : ℕ → ℕ → Bool) (k : ℕ) where
   unfolding list_of_node
   by_first rows size leaf some = ap (λ n. list_where k (λ value. eqb (leaf_of at_most (filter_values rows) value / size) n) rows) (mul-div_cancel_left (leaf / size) some)
 
-  pub no_list : (size leaf : ℕ) → list_of_node at_most k [] size leaf ≡ []
+  pub list_of_no_rows : (size leaf : ℕ) → list_of_node at_most k [] size leaf ≡ []
   unfolding list_of_node
-  no_list size leaf = refl
+  list_of_no_rows size leaf = refl
 
   pub node_is : (rows : List (ℕ × ℕ)) (size leaf : ℕ) → IsNodeSize size → leaf < 32 → get_or (node_lists at_most k rows) (node_place size leaf) [] ≡ list_of_node at_most k rows size leaf
-  node_is [] size leaf is low = sym (no_list size leaf)
+  node_is [] size leaf is low = sym (list_of_no_rows size leaf)
   node_is (row ∷ rows) size leaf is low =
       let some : 0 < size = each_size (λ s. 0 < s) (omega arith) (omega arith) (omega arith) (omega arith) (omega arith) (omega arith) size is in
       let within : leaf / size < 32 / size = each_size (λ s. leaf / s < 32 / s) (omega arith) (omega arith) (omega arith) (omega arith) (omega arith) (omega arith) size is in

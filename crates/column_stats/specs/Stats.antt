@@ -55,7 +55,7 @@ abbrev pub leaf_by_cuts : List (List ℕ) → ColumnStats → Value → ℕ
 leaf_by_cuts texts stats value = last_place (λ cut. value_le (value_of_cell texts stats.kind cut) value) stats.cuts
 
 -- statistics of no rows: each list is empty, and there are no cuts and no nodes
-pub record AreOfNone (stats : ColumnStats) : Type 0 where
+pub record AreOfNoRows (stats : ColumnStats) : Type 0 where
   pub no_rows : stats.rows ≡ 0
   pub whole_is : stats.whole ≡ []
   pub rest_is : stats.rest ≡ []
@@ -64,7 +64,7 @@ pub record AreOfNone (stats : ColumnStats) : Type 0 where
   pub nodes_are : stats.nodes ≡ []
 
 -- statistics of one or more rows: there are 32 cuts and 63 nodes
-pub record AreOfSome (stats : ColumnStats) : Type 0 where
+pub record AreOfRows (stats : ColumnStats) : Type 0 where
   pub some_rows : 0 < stats.rows
   pub cuts_many : length stats.cuts ≡ 32
   pub nodes_many : length stats.nodes ≡ 63
@@ -72,4 +72,4 @@ pub record AreOfSome (stats : ColumnStats) : Type 0 where
 -- the frequent values are different, and the other parts are the parts of statistics of no rows, or of one or more rows
 pub record IsValid (stats : ColumnStats) : Type 0 where
   pub different : IsDistinct nat_eq (map (λ found. found.cell) stats.frequent)
-  pub parts : AreOfNone stats ⊎ AreOfSome stats
+  pub parts : AreOfNoRows stats ⊎ AreOfRows stats

@@ -56,7 +56,7 @@ pub fn gather_sorted(
 }
 
 // The statistics of two columns of a table.
-fn made(
+fn stats_of_columns(
     alloc: Global,
     cells: &Cells,
     pool: &Pool,
@@ -109,5 +109,5 @@ pub fn gather(
     ensures range_never_under { IfOk result (RangesDominate (cell_le pool.now (kind_of_column cells.now filter))
         (rows_of_pair cells.now filter joined)) }
 {
-    made(alloc, cells, pool, filter, joined, accuracy)
+    stats_of_columns(alloc, cells, pool, filter, joined, accuracy)
 }

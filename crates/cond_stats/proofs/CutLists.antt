@@ -5,7 +5,7 @@ use Rattle.std.specs.List.{AllByRecursion}
 use Rattle.std.proofs.lemmas.Bool.{cases_lt}
 use Rattle.std.proofs.lemmas.List.{length_push, take_more}
 use Rattle.degree_sequences.specs.ByRank.{rank_maximum}
-use Rattle.degree_sequences.specs.Falling.{IsFalling}
+use Rattle.degree_sequences.specs.Descending.{IsDescending}
 use Rattle.degree_sequences.specs.RunningSums.{running_sum, cut_at}
 use Rattle.degree_sequences.proofs.FallingLists.{same_by_sums, falls_to}
 use Rattle.degree_sequences.proofs.Minima.{running_sum-cut_at}
@@ -58,7 +58,7 @@ cut_one_more falling most i left taken list to is some =
       left_over = omega (arith, last, to.left_over, is);
     }
 
-pub cut_whole : (falling : List ℕ) (most i left : ℕ) (list : List ℕ) → IsFalling falling → IsCutTo falling most i left list → min left (get_or falling i 0) ≡ 0
+pub cut_whole : (falling : List ℕ) (most i left : ℕ) (list : List ℕ) → IsDescending falling → IsCutTo falling most i left list → min left (get_or falling i 0) ≡ 0
     → list ≡ cut_at falling most
 cut_whole falling most i left list falls to nothing =
     same_by_sums list (cut_at falling most) to.positive (positive-cut_at falling most falls)

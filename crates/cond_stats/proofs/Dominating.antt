@@ -9,13 +9,13 @@ use Rattle.degree_sequences.specs.Domination.{DominatesKeys}
 use Rattle.degree_sequences.specs.RunningSums.{running_sum, cut_at}
 use Rattle.degree_sequences.proofs.CompressedLists.{compressed_dominates, compressed-above}
 use Rattle.degree_sequences.proofs.Counting.{is_in}
-use Rattle.degree_sequences.proofs.DegreeLists.{degree_list_dominates, IsFalling-degree_list, sum-degree_list}
-use Rattle.degree_sequences.proofs.Minima.{running_sum-cut_at, IsFalling-cut_at}
+use Rattle.degree_sequences.proofs.DegreeLists.{degree_list_dominates, IsDescending-degree_list, sum-degree_list}
+use Rattle.degree_sequences.proofs.Minima.{running_sum-cut_at, IsDescending-cut_at}
 use Rattle.degree_sequences.proofs.RunningSums.{running_sum-le-sum}
 use Rattle.cond_stats.specs.Frequency.{remaining}
 use Rattle.cond_stats.specs.Lists.{maxima, greatest, keys_with, is_frequent, rest, list_of_value, list_where, compressed_degrees}
 use Rattle.cond_stats.specs.Rows.{filter_values, keys_where}
-use Rattle.cond_stats.proofs.Maxima.{above_by_rank, maxima-above, greatest-above, IsFalling-maxima}
+use Rattle.cond_stats.proofs.Maxima.{above_by_rank, maxima-above, greatest-above, IsDescending-maxima}
 use Rattle.cond_stats.proofs.Members.{frequent_or_remaining, length-keys_where, count_by-weaker}
 
 abbrev pub uncompressed_rest : List (ℕ × ℕ) → List ℕ
@@ -58,8 +58,8 @@ rest_dominates k rows v not_frequent A apart =
             degree_list_dominates keys A apart,
             uncompressed_above rows v inside (length A),
             compressed-above k (uncompressed_rest rows)
-                (IsFalling-cut_at (maxima (map f (remaining (filter_values rows)))) (greatest (map (degree (filter_values rows)) (remaining (filter_values rows))))
-                (IsFalling-maxima f (λ w. IsFalling-degree_list (keys_with w rows)) (remaining (filter_values rows)))) (length A),
+                (IsDescending-cut_at (maxima (map f (remaining (filter_values rows)))) (greatest (map (degree (filter_values rows)) (remaining (filter_values rows))))
+                (IsDescending-maxima f (λ w. IsDescending-degree_list (keys_with w rows)) (remaining (filter_values rows)))) (length A),
           ))
       | inr none ↦ omega (arith, count_by-le-length (λ key. list_any (λ a. eqb key a) A) keys, keys_with-count rows v)
     ]

@@ -6,7 +6,7 @@ use Rattle.std.proofs.lemmas.Bool.{cases_lt, lt-ltb, le-ltb, le-leb, lt-leb, leb
 use Rattle.std.proofs.lemmas.List.{get_or-map, get_or_past, length-map}
 use Rattle.std.proofs.lemmas.List.FromFn.{get_or-map-range_with_len, length-range_with_len}
 use Rattle.std.proofs.lemmas.List.Sorted.{sum_by-IsPermutation}
-use Rattle.degree_sequences.proofs.Places.{sum_by-places}
+use Rattle.degree_sequences.proofs.Indices.{sum_by-places}
 use Rattle.cond_stats.specs.Leaves.{cuts, in_order, leaf_of}
 use Rattle.cond_stats.specs.Order.{AreInValueOrder}
 use Rattle.cond_stats.specs.Runs.{AreStarts, IsLeafStart}

@@ -3,15 +3,15 @@ use Rattle.std.proofs.Common.{◌≡◌, ℕ, zero, suc, ◌≤◌, true, eqb, m
 use Rattle.std.specs.List.{All}
 use Rattle.std.proofs.lemmas.Bool.{cases_Bool, eqb-true, false≢true}
 use Rattle.degree_sequences.specs.ByRank.{rank_maximum}
-use Rattle.degree_sequences.specs.Falling.{IsFalling}
-use Rattle.degree_sequences.specs.RunningSums.{IsAbove}
-use Rattle.degree_sequences.proofs.ByRank.{get_or-rank_maximum, IsFalling-rank_maximum}
+use Rattle.degree_sequences.specs.Descending.{IsDescending}
+use Rattle.degree_sequences.specs.RunningSums.{HasHigherSums}
+use Rattle.degree_sequences.proofs.ByRank.{get_or-rank_maximum, IsDescending-rank_maximum}
 use Rattle.degree_sequences.proofs.Counting.{is_in}
 use Rattle.degree_sequences.proofs.RunningSums.{running_sum-suc, sum-above}
 use Rattle.cond_stats.proofs.CutLists.{rank_maximum-nil}
 use Rattle.cond_stats.specs.Lists.{maxima, greatest}
 
-pub above_by_rank : (s t : List ℕ) → ((r : ℕ) → get_or t r 0 ≤ get_or s r 0) → IsAbove s t
+pub above_by_rank : (s t : List ℕ) → ((r : ℕ) → get_or t r 0 ≤ get_or s r 0) → HasHigherSums s t
 above_by_rank s t h zero = omega arith
 above_by_rank s t h (suc r) = omega (arith, running_sum-suc s r, running_sum-suc t r, above_by_rank s t h r, h r)
 
@@ -31,9 +31,9 @@ greatest-above g (w ∷ vs) v inside = elim (cases_Bool (eqb v w)) [
   | inr e ↦ (let rest : is_in vs v ≡ true = rw e at inside in omega (arith, greatest-above g vs v rest))
 ]
 
-pub IsFalling-maxima : {X : Type 0} (f : X → List ℕ) → ((v : X) → IsFalling (f v)) → (vs : List X) → IsFalling (maxima (map f vs))
-IsFalling-maxima f falls [] = λ r. omega arith
-IsFalling-maxima f falls (v ∷ vs) = IsFalling-rank_maximum (f v) (maxima (map f vs)) (falls v) (IsFalling-maxima f falls vs)
+pub IsDescending-maxima : {X : Type 0} (f : X → List ℕ) → ((v : X) → IsDescending (f v)) → (vs : List X) → IsDescending (maxima (map f vs))
+IsDescending-maxima f falls [] = λ r. omega arith
+IsDescending-maxima f falls (v ∷ vs) = IsDescending-rank_maximum (f v) (maxima (map f vs)) (falls v) (IsDescending-maxima f falls vs)
 
 pub greatest-le-sum : (f : ℕ → List ℕ) (g : ℕ → ℕ) → ((v : ℕ) → g v ≡ sum (f v)) → (vs : List ℕ) → greatest (map g vs) ≤ sum (maxima (map f vs))
 greatest-le-sum f g same [] = omega arith

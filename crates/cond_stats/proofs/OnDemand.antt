@@ -19,7 +19,7 @@ use Rattle.cond_stats.specs.Leaves.{leaf_of, in_node, IsNodeSize}
 use Rattle.cond_stats.specs.Lists.{maxima, greatest, keys_with, is_frequent, rest, list_of_node, compressed_degrees}
 use Rattle.cond_stats.specs.Rows.{filter_values, keys_where}
 use Rattle.cond_stats.specs.Runs.{value_of_group}
-use Rattle.cond_stats.specs.Sorted.{IsSortedColumn, keys_at, degrees_of_group}
+use Rattle.cond_stats.specs.Sorted.{IsColumnByLeaves, keys_at, degrees_of_group}
 use Rattle.cond_stats.specs.Windows.{IsWindow}
 use Rattle.cond_stats.proofs.WindowKeys.{window_degrees, window_count}
 
@@ -79,7 +79,7 @@ node_inside size leaf other some from to =
     ]
 
 module _ {at_most : ℕ → ℕ → Bool} {column places : List ℕ} {groups : List Group} {cuts starts : List ℕ}
-    (sorted : IsSortedColumn at_most column places groups cuts starts) (joined : List ℕ) (same : length joined ≡ length column) where
+    (sorted : IsColumnByLeaves at_most column places groups cuts starts) (joined : List ℕ) (same : length joined ≡ length column) where
   pub front_values : map (value_of_group column) (take (min (length groups) 32) groups) ≡ frequent column
   front_values = ap (map (value_of_group column)) (sym (take-min 32 groups)) ∙ sym (take-map (value_of_group column) 32 groups) ∙ ap (take 32) sorted.groups_are.values
 

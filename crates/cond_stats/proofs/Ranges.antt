@@ -13,7 +13,7 @@ use Rattle.schema_types.specs.declared.types.Kind.{Kind}
 use Rattle.csv_tables.specs.Cells.{value_of_cell}
 use Rattle.csv_tables.specs.Values.{Value, Int, Text}
 use Rattle.cond_stats.specs.Columns.{value_le, cell_le, leaf_of_value, list_between, is_between}
-use Rattle.cond_stats.specs.Leaves.{cuts, leaf_of, leaf_above, node_size, in_node}
+use Rattle.cond_stats.specs.Leaves.{cuts, leaf_of, last_leaf_where, node_size, in_node}
 use Rattle.cond_stats.specs.Lists.{list_of_node, list_of_range}
 use Rattle.cond_stats.specs.Rows.{filter_values, keys_where}
 use Rattle.cond_stats.proofs.Dominating.{where_dominates}
@@ -25,7 +25,7 @@ unfolding cuts
 length-cuts at_most [] = omega arith
 length-cuts at_most (v ∷ vs) = omega arith
 
-pub leaf-below : (at_most : ℕ → ℕ → Bool) (column : List ℕ) (p : ℕ → Bool) → leaf_above at_most column p ≤ 31
+pub leaf-below : (at_most : ℕ → ℕ → Bool) (column : List ℕ) (p : ℕ → Bool) → last_leaf_where at_most column p ≤ 31
 leaf-below at_most column p = last_place-within p (cuts at_most column) 31 (length-cuts at_most column)
 
 pub range_dominates : (at_most : ℕ → ℕ → Bool) (k : ℕ) (rows : List (ℕ × ℕ)) (low high : ℕ) (p : ℕ → Bool) → low ≤ 31 → high ≤ 31

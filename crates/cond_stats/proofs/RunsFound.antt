@@ -18,7 +18,7 @@ abbrev pub StartsAscend : List Group → Type 0
 StartsAscend runs = (i j : ℕ) (none : Group) → i < j → j < length runs → (get_or runs i none).start < (get_or runs j none).start
 
 starts_ascend-push : (runs : List Group) (run : Group) → StartsAscend runs → All (λ before. before.start < run.start) runs → StartsAscend (runs ++ run ∷ [])
-starts_ascend-push runs run up behind i j none low high =
+starts_ascend-push runs run up earlier i j none low high =
     let first : (get_or (runs ++ run ∷ []) i none).start ≡ (get_or runs i none).start =
     ap (λ (r : Group). r.start) (get_or_append_left runs (run ∷ []) none i (omega (arith, high, length_push runs run))) in
     elim (cases_lt j (length runs)) [
@@ -27,7 +27,7 @@ starts_ascend-push runs run up behind i j none low high =
         arith,
         first,
         ap (λ (r : Group). r.start) (get_or_push runs run none j (omega (arith, h, high, length_push runs run))),
-        behind i none (omega (arith, high, length_push runs run)),
+        earlier i none (omega (arith, high, length_push runs run)),
       )
     ]
 
@@ -40,7 +40,7 @@ pub record RunsSoFar (numbers places : List ℕ) (runs : List Group) (start i : 
   pub each : All (IsRun numbers places) runs
   pub all : map (number_of_run numbers) runs ≡ different (take start numbers)
   pub ascend : StartsAscend runs
-  pub behind : All (λ run. run.start < start) runs
+  pub earlier : All (λ run. run.start < start) runs
 
 pub no_runs : (numbers places : List ℕ) → RunsSoFar numbers places [] 0 0
 no_runs numbers places = record {
@@ -51,11 +51,11 @@ no_runs numbers places = record {
   each = All-nil (IsRun numbers places);
   all = refl;
   ascend = λ i j none low high. absurd (omega arith);
-  behind = All-nil (λ (run : Group). run.start < 0);
+  earlier = All-nil (λ (run : Group). run.start < 0);
 }
 
-goes_on : (numbers : List ℕ) (i : ℕ) → i < length numbers → ends_run numbers i (get_or numbers i 0) ≡ false → (i + 1 < length numbers) × (get_or numbers (i + 1) 0 ≡ get_or numbers i 0)
-goes_on numbers i within same_run =
+next_is_same : (numbers : List ℕ) (i : ℕ) → i < length numbers → ends_run numbers i (get_or numbers i 0) ≡ false → (i + 1 < length numbers) × (get_or numbers (i + 1) 0 ≡ get_or numbers i 0)
+next_is_same numbers i within same_run =
     let last : eqb (i + 1) (length numbers) ≡ false = left (eqb (i + 1) (length numbers)) (not (eqb (get_or numbers (i + 1) 0) (get_or numbers i 0))) same_run in
     let same : eqb (get_or numbers (i + 1) 0) (get_or numbers i 0) ≡ true = right (eqb (i + 1) (length numbers)) (eqb (get_or numbers (i + 1) 0) (get_or numbers i 0)) same_run in
     (omega (arith, eqb-false (i + 1) (length numbers) last), eqb-true (get_or numbers (i + 1) 0) (get_or numbers i 0) same)
@@ -79,7 +79,7 @@ ends numbers i end_here room same = elim (or_cases (eqb (i + 1) (length numbers)
 pub run_goes_on : (numbers places : List ℕ) (runs : List Group) (start i : ℕ) → RunsSoFar numbers places runs start i → i < length numbers
     → ends_run numbers i (get_or numbers i 0) ≡ false → RunsSoFar numbers places runs start (i + 1)
 run_goes_on numbers places runs start i so within same_run =
-    let next = goes_on numbers i within same_run in
+    let next = next_is_same numbers i within same_run in
     record {
       within = omega (arith, so.within);
       more = λ some. next.0;
@@ -91,7 +91,7 @@ run_goes_on numbers places runs start i so within same_run =
       each = so.each;
       all = so.all;
       ascend = so.ascend;
-      behind = so.behind;
+      earlier = so.earlier;
     }
 
 pub run_ends : (numbers places : List ℕ) (runs : List Group) (start i : ℕ) (run : Group) → IsNonDecreasing numbers → RunsSoFar numbers places runs start i → i < length numbers
@@ -134,8 +134,8 @@ run_ends numbers places runs start i run up so within end_here first_is start_is
         higher = λ k low high. omega (arith, at_run, above k (omega (arith, count_is, start_is, so.within)) high);
       });
       all = map_push (number_of_run numbers) runs run ∙ ap (λ y. map (number_of_run numbers) runs ++ y ∷ []) at_run ∙ ap (λ s. s ++ x ∷ []) so.all ∙ sym one_more;
-      ascend = starts_ascend-push runs run so.ascend (λ k d h. omega (arith, so.behind k d h, start_is));
-      behind = All-push (λ (before : Group). before.start < i + 1) runs run (λ k d h. omega (arith, so.behind k d h, so.within)) (omega (arith, start_is, so.within));
+      ascend = starts_ascend-push runs run so.ascend (λ k d h. omega (arith, so.earlier k d h, start_is));
+      earlier = All-push (λ (before : Group). before.start < i + 1) runs run (λ k d h. omega (arith, so.earlier k d h, so.within)) (omega (arith, start_is, so.within));
     }
   where
     strictly : (x y z : ℕ) → x ≤ y → y ≤ z → (y ≡ x → ⊥) → x < z

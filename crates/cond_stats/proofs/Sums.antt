@@ -3,22 +3,22 @@ use Rattle.std.proofs.Common.{◌≡◌, ℕ, ◌+◌, min, Bool, true, false, c
 use Rattle.std.specs.List.{count_by}
 use Rattle.std.proofs.lemmas.List.{length-map}
 use Rattle.degree_sequences.specs.Degrees.{degree, degree_list}
-use Rattle.degree_sequences.specs.Falling.{IsFalling}
+use Rattle.degree_sequences.specs.Descending.{IsDescending}
 use Rattle.degree_sequences.specs.RunningSums.{cut_at}
 use Rattle.degree_sequences.proofs.CompressedLists.{sum-compressed}
-use Rattle.degree_sequences.proofs.DegreeLists.{IsFalling-degree_list, sum-degree_list}
-use Rattle.degree_sequences.proofs.Minima.{running_sum-cut_at, IsFalling-cut_at}
+use Rattle.degree_sequences.proofs.DegreeLists.{IsDescending-degree_list, sum-degree_list}
+use Rattle.degree_sequences.proofs.Minima.{running_sum-cut_at, IsDescending-cut_at}
 use Rattle.degree_sequences.proofs.RunningSums.{running_sum-past}
 use Rattle.cond_stats.specs.Frequency.{remaining}
 use Rattle.cond_stats.specs.Leaves.{leaf_of, in_node}
 use Rattle.cond_stats.specs.Lists.{maxima, greatest, whole, keys_with, is_frequent, rest, list_of_value, list_of_node, compressed_degrees}
 use Rattle.cond_stats.specs.Rows.{filter_values, joined_keys, keys_where}
 use Rattle.cond_stats.proofs.Dominating.{uncompressed_rest, rest-is}
-use Rattle.cond_stats.proofs.Maxima.{IsFalling-maxima, greatest-le-sum}
+use Rattle.cond_stats.proofs.Maxima.{IsDescending-maxima, greatest-le-sum}
 use Rattle.cond_stats.proofs.Members.{length-keys_where}
 
 pub sum-compressed_degrees : (k : ℕ) (keys : List ℕ) → sum (compressed_degrees k keys) ≡ length keys
-sum-compressed_degrees k keys = sum-compressed k (degree_list keys) (IsFalling-degree_list keys) ∙ sum-degree_list keys
+sum-compressed_degrees k keys = sum-compressed k (degree_list keys) (IsDescending-degree_list keys) ∙ sum-degree_list keys
 
 pub sum-whole : (k : ℕ) (rows : List (ℕ × ℕ)) → sum (whole k rows) ≡ length rows
 sum-whole k rows = sum-compressed_degrees k (joined_keys rows) ∙ length-map rows (λ row. row.1)
@@ -28,10 +28,10 @@ sum-cut_at s n =
     let r : ℕ = length s + length (cut_at s n) in
     omega (arith, running_sum-past (cut_at s n) r (omega arith), running_sum-past s r (omega arith), running_sum-cut_at s n r)
 
-pub IsFalling-uncompressed_rest : (rows : List (ℕ × ℕ)) → IsFalling (uncompressed_rest rows)
-IsFalling-uncompressed_rest rows =
-    IsFalling-cut_at (maxima (map (λ value. degree_list (keys_with value rows)) (remaining (filter_values rows)))) (greatest (map (degree (filter_values rows)) (remaining (filter_values rows))))
-    (IsFalling-maxima (λ value. degree_list (keys_with value rows)) (λ w. IsFalling-degree_list (keys_with w rows)) (remaining (filter_values rows)))
+pub IsDescending-uncompressed_rest : (rows : List (ℕ × ℕ)) → IsDescending (uncompressed_rest rows)
+IsDescending-uncompressed_rest rows =
+    IsDescending-cut_at (maxima (map (λ value. degree_list (keys_with value rows)) (remaining (filter_values rows)))) (greatest (map (degree (filter_values rows)) (remaining (filter_values rows))))
+    (IsDescending-maxima (λ value. degree_list (keys_with value rows)) (λ w. IsDescending-degree_list (keys_with w rows)) (remaining (filter_values rows)))
 
 pub sum-uncompressed_rest : (rows : List (ℕ × ℕ)) → sum (uncompressed_rest rows) ≡ greatest (map (degree (filter_values rows)) (remaining (filter_values rows)))
 sum-uncompressed_rest rows =
@@ -45,7 +45,7 @@ sum-uncompressed_rest rows =
     )
 
 pub sum-rest : (k : ℕ) (rows : List (ℕ × ℕ)) → sum (rest k rows) ≡ greatest (map (degree (filter_values rows)) (remaining (filter_values rows)))
-sum-rest k rows = ap sum (rest-is k rows) ∙ sum-compressed k (uncompressed_rest rows) (IsFalling-uncompressed_rest rows) ∙ sum-uncompressed_rest rows
+sum-rest k rows = ap sum (rest-is k rows) ∙ sum-compressed k (uncompressed_rest rows) (IsDescending-uncompressed_rest rows) ∙ sum-uncompressed_rest rows
 
 pub sum-list_of_value : (k : ℕ) (rows : List (ℕ × ℕ)) (v : ℕ)
     → sum (list_of_value k rows (Some v)) ≡ cond (is_frequent rows v) (degree (filter_values rows) v) (sum (rest k rows))

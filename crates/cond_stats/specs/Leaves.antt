@@ -28,12 +28,12 @@ last_place passes [] = 0
 last_place passes (x ∷ xs) = if list_any passes xs then suc (last_place passes xs) else 0
 
 -- the last leaf whose cut passes, or 0 where no cut passes
-abbrev pub leaf_above : (ℕ → ℕ → Bool) → List ℕ → (ℕ → Bool) → ℕ
-leaf_above at_most column passes = last_place passes (cuts at_most column)
+abbrev pub last_leaf_where : (ℕ → ℕ → Bool) → List ℕ → (ℕ → Bool) → ℕ
+last_leaf_where at_most column passes = last_place passes (cuts at_most column)
 
 -- the leaf of a value: the last leaf whose cut is at most the value, or 0 if there is no such cut
 abbrev pub leaf_of : (ℕ → ℕ → Bool) → List ℕ → ℕ → ℕ
-leaf_of at_most column value = leaf_above at_most column (λ cut. at_most cut value)
+leaf_of at_most column value = last_leaf_where at_most column (λ cut. at_most cut value)
 
 -- the size of the least node that holds both leaves. A node has a size of 1, 2, 4, 8, 16 or 32 leaves, and begins at a multiple of its size
 abbrev pub node_size : ℕ → ℕ → ℕ

@@ -1,4 +1,4 @@
-pub mod ByPlace
+pub mod CountingSort
 pub mod Rows
 pub mod Frequency
 pub mod Leaves

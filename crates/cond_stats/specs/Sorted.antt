@@ -8,12 +8,12 @@ use Rattle.cond_stats.specs.Leaves.{cuts}
 use Rattle.cond_stats.specs.Runs.{AreGroups, AreStarts}
 
 -- `places` lists the row numbers, each once. Rows of one value are together in this list (`groups`), and the rows of a leaf come before those of the
--- next leaf (`starts`). `cuts_of` has the column's cuts
-pub record IsSortedColumn (at_most : ℕ → ℕ → Bool) (column places : List ℕ) (groups : List Group) (cuts_of starts : List ℕ) : Type 0 where
+-- next leaf (`starts`). `its_cuts` has the column's cuts
+pub record IsColumnByLeaves (at_most : ℕ → ℕ → Bool) (column places : List ℕ) (groups : List Group) (its_cuts starts : List ℕ) : Type 0 where
   pub rows : length column < 2 ^ 32
   pub moved : IsPermutation (range_with_len 0 (length column)) places
   pub groups_are : AreGroups column places groups
-  pub cuts_are : cuts_of ≡ cuts at_most column
+  pub cuts_are : its_cuts ≡ cuts at_most column
   pub starts_are : AreStarts at_most column places starts
 
 -- the joined keys of the rows with these row numbers

@@ -20,8 +20,8 @@ pub record AreByText (texts : List (List ℕ)) (cells ordered : List ℕ) : Type
       → text_le texts (slice_index ordered i) (slice_index ordered j) ≡ true
 
 -- the index of a cell among the ordered cells, or 0 if it isn't one of them
-abbrev pub number_or_zero : List ℕ → ℕ → ℕ
-number_or_zero ordered cell = unwrap_or (position (nat_eq cell) ordered) 0
+abbrev pub rank_or_zero : List ℕ → ℕ → ℕ
+rank_or_zero ordered cell = unwrap_or (position (nat_eq cell) ordered) 0
 
 -- the text is the text of the cell, and is UTF-8
 pub record IsTextOf (texts : List (List ℕ)) (cell : ℕ) (text : List ℕ) : Type 0 where

@@ -11,7 +11,7 @@ ghost use Rattle.cond_stats.specs.Lists.{compressed_degrees, is_frequent, keys_w
 use crate::cut_leaves::{leaf_of_int, leaf_of_text};
 use crate::cuts::{cuts_of, leaf_starts};
 use crate::groups::{Group, by_frequency};
-use crate::lists::{group_of, list_at, rest_list, stretch, values_of};
+use crate::lists::{group_of, list_at, places_between, rest_list, values_of};
 use crate::order::{InOrder, in_order};
 use base_io::{NoMemory, Seq};
 use csv_tables::{Pool, cell_of};
@@ -36,13 +36,13 @@ pub struct FilterColumn<'a> {
 
 impl<'a> Model for FilterColumn<'a> {
     ghost use Rattle.cond_stats.specs.Columns.{CellColumn, cell_le};
-    ghost use Rattle.cond_stats.specs.Sorted.{IsSortedColumn};
+    ghost use Rattle.cond_stats.specs.Sorted.{IsColumnByLeaves};
 
     ghost Value = { CellColumn };
 
     ghost view = { λ f. record { texts = f.pool.now; kind = f.kind; cells = f.cells.now } };
 
-    ghost invariant = { λ f. IsSortedColumn
+    ghost invariant = { λ f. IsColumnByLeaves
         (cell_le f.pool.now f.kind) f.cells.now f.places.items f.groups.items f.cuts.items f.starts.items };
 }
 
@@ -162,7 +162,7 @@ impl<'a> FilterColumn<'a> {
         let first = (leaf / size * size) as usize;
         let from = self.starts[first];
         let to = self.starts[first + size as usize];
-        let places = stretch(self.places.as_slice(), from, to);
+        let places = places_between(self.places.as_slice(), from, to);
         list_at(*self.places.allocator(), joined, places, accuracy)
     }
 

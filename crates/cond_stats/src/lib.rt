@@ -16,8 +16,8 @@
 //! ```
 #![tactic(auto)]
 
-mod by_place;
 mod column;
+mod counting;
 mod cut_leaves;
 mod cuts;
 pub mod examples;

@@ -9,7 +9,7 @@ ghost use Rattle.cond_stats.specs.Runs.{value_of_group};
 ghost use Rattle.cond_stats.specs.Sorted.{keys_at, LiesWithin, degrees_of_group};
 
 use crate::groups::Group;
-use crate::rest::{cut, raise};
+use crate::rest::{cut, raise_maxima};
 use crate::whole::whole_list;
 use base_io::{NoMemory, Seq};
 use degree_lists::falling;
@@ -34,7 +34,7 @@ pub(crate) fn list_at(
 }
 
 /// The row numbers from index `from` on, and before index `to`.
-pub(crate) fn stretch(places: &[u32], from: u32, to: u32) -> &[u32]
+pub(crate) fn places_between(places: &[u32], from: u32, to: u32) -> &[u32]
     requires order { from ≤ to }
     requires within { to ≤ length places.now }
     ensures { result.now ≡ slice_range places.now from to }
@@ -88,7 +88,7 @@ pub(crate) fn rest_list(
     let mut most: u32 = 0;
     for group in groups {
         let degrees = degrees_of(alloc, joined, places, *group)?;
-        raise(&mut maxima, degrees.as_slice())?;
+        raise_maxima(&mut maxima, degrees.as_slice())?;
         most = most.max(group.count);
     }
     let list = cut(alloc, maxima.as_slice(), u64::from(most))?;

@@ -2,7 +2,7 @@
 //! number of its cell, and no text is compared for it.
 ghost use Rattle.std.specs.Prelude.{◌≡◌, map, All, IfOk};
 ghost use Rattle.degree_sequences.specs.Degrees.{different};
-ghost use Rattle.cond_stats.specs.Texts.{AreByText, IsTextOf, number_or_zero};
+ghost use Rattle.cond_stats.specs.Texts.{AreByText, IsTextOf, rank_or_zero};
 
 use crate::cut_leaves::text_at;
 use base_io::NoMemory;
@@ -78,7 +78,7 @@ pub(crate) fn numbered_by_rank(
     text_numbers: &IndexSet<u64>,
     cells: &[u64],
 ) -> Result<Vec<u64>, NoMemory>
-    ensures { IfOk result (λ numbers. numbers.items ≡ map (number_or_zero text_numbers.now.keys) cells.now) }
+    ensures { IfOk result (λ numbers. numbers.items ≡ map (rank_or_zero text_numbers.now.keys) cells.now) }
 {
     let mut numbers = Vec::with_capacity(alloc, cells.len())?;
     for cell in cells {
@@ -89,7 +89,7 @@ pub(crate) fn numbered_by_rank(
 
 // The rank of a cell, or 0 if the cell has no rank.
 fn rank_of(text_numbers: &IndexSet<u64>, cell: u64) -> u64
-    ensures { result ≡ number_or_zero text_numbers.now.keys cell }
+    ensures { result ≡ rank_or_zero text_numbers.now.keys cell }
 {
     match text_numbers.get_index_of(&cell) {
         Some(rank) => rank as u64,

@@ -13,7 +13,7 @@ use Rattle.join_graph.specs.Conjuncts.{equalities_of}
 use Rattle.join_graph.specs.Kept.{joins_within}
 use Rattle.tree_bounds.specs.TreeBounds.{EntryBounds}
 use Rattle.set_bounds.specs.AllSets.{in_every_set}
-use Rattle.set_bounds.proofs.Telling.{told_in}
+use Rattle.set_bounds.proofs.SetBySet.{told_in}
 use Rattle.sql_meaning.specs.Answers.{conjuncts_of}
 use Rattle.sql_meaning.specs.Levels.{all_hold, level_over, row_in}
 use Rattle.sql_meaning.specs.Tables.{Tables}
@@ -25,7 +25,7 @@ use Rattle.join_steps.specs.Plans.{IsPlanOf}
 use Rattle.join_steps.proofs.WholeScans.{size_count}
 use Rattle.table_stats.proofs.ValueNumbers.{have_keys}
 use Rattle.reduced_scans.proofs.FamilyRows.{row_low}
-use Rattle.counted_bounds.specs.Bounds.{AllAreCounted, Counted, counted_bound, counted_bounds_of_sets}
+use Rattle.counted_bounds.specs.Bounds.{AllPartsAreCounted, CountsMade, counted_bound, counted_bounds_of_sets}
 use Rattle.counted_bounds.proofs.NotAbove.{not_above}
 use Rattle.counted_bounds.proofs.QueryBounds.{exact, never_under}
 use Rattle.planning.specs.ListedBounds.{entry_bounds_over, set_bounds_over}
@@ -34,7 +34,7 @@ use Rattle.planning.proofs.FromLists.{dominate, have_lists, is_best_from, level_
 use Rattle.planning.proofs.Levels.{prefix_below, prefix_of}
 use Rattle.planning.proofs.ListBounds.{lists_stand, sizes_bound}
 
-module _ (counted : Counted) (query : Query) (tables : Tables) (lists : List (List ℕ)) where
+module _ (counted : CountsMade) (query : Query) (tables : Tables) (lists : List (List ℕ)) where
   abbrev sets : List ℕ
   sets = counted_bounds_of_sets counted query tables lists
 
@@ -51,7 +51,7 @@ module _ (counted : Counted) (query : Query) (tables : Tables) (lists : List (Li
   is_plan budget plan are few small made =
       plan_over_lists query tables lists sets (list_sizes query lists) bound_levels (sizes_bound query tables lists are) budget plan few small made
 
-  pub exact_at : (subset : ℕ) (order : List ℕ) → subset < 2 ^ length query.from → IsOrderOfSet (entries_of_set subset) order → AllAreCounted counted query tables subset
+  pub exact_at : (subset : ℕ) (order : List ℕ) → subset < 2 ^ length query.from → IsOrderOfSet (entries_of_set subset) order → AllPartsAreCounted counted query tables subset
       → all_hold (conjuncts_of query tables) [] (row_in [] []) ≡ true
       → get_or (counted_bounds_of_sets counted query tables lists) subset 0 ≡ saturated (length (level_over (conjuncts_of query tables) (list_at lists) order))
   exact_at subset order fits o all constants = at subset fits ∙ exact counted query tables lists subset order o all constants
@@ -59,7 +59,7 @@ module _ (counted : Counted) (query : Query) (tables : Tables) (lists : List (Li
   -- the bound is at most the budget, so it is below the top bound and isn't saturated
   pub level_exact : (budget k : ℕ) (plan : Plan) → length query.from ≤ most_entries → budget ≤ most_budget
       → plan_answer (counted_bounds_of_sets counted query tables lists) (list_sizes query lists) budget ≡ Ok plan → k < length query.from
-      → AllAreCounted counted query tables (set_of (take (k + 1) plan.order)) → all_hold (conjuncts_of query tables) [] (row_in [] []) ≡ true
+      → AllPartsAreCounted counted query tables (set_of (take (k + 1) plan.order)) → all_hold (conjuncts_of query tables) [] (row_in [] []) ≡ true
       → get_or plan.levels k 0 ≡ length (list_levels query tables lists plan.order (k + 1))
   level_exact budget k plan few small made low all constants =
       let n : ℕ = length query.from in

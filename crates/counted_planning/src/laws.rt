@@ -12,7 +12,7 @@ ghost use Rattle.sql_meaning.specs.Tables.{Tables};
 ghost use Rattle.level_bounds.specs.Orders.{IsOrderOfSet};
 ghost use Rattle.join_steps.specs.Lists.{AreOfScans, list_at, list_levels, list_sizes};
 ghost use Rattle.join_steps.specs.Plans.{IsPlanOf};
-ghost use Rattle.counted_bounds.specs.Bounds.{AllAreCounted, Counted, counted_bounds_of_sets};
+ghost use Rattle.counted_bounds.specs.Bounds.{AllPartsAreCounted, CountsMade, counted_bounds_of_sets};
 ghost use Rattle.reduced_scans.specs.Rounds.{reduced_of};
 ghost use Rattle.planning.specs.ListedBounds.{set_bounds_over};
 ghost use Rattle.planning.specs.Standing.{BoundLevels};
@@ -20,9 +20,9 @@ ghost use Rattle.planning.specs.Standing.{BoundLevels};
 /// Under whatever conjuncts sets are counted, no level over the lists has more rows than its set's bound, unless this bound is the top bound,
 /// 2^128 - 1. So no bound of a plan over lists of scanned rows is too low.
 pub fn counts_are_never_under()
-    ensures sets { (counted : Counted) (query : Query) (tables : Tables) (lists : List (List ℕ))
+    ensures sets { (counted : CountsMade) (query : Query) (tables : Tables) (lists : List (List ℕ))
         → BoundLevels query tables lists (counted_bounds_of_sets counted query tables lists) }
-    ensures plan { (counted : Counted) (query : Query) (tables : Tables) (lists : List (List ℕ)) (budget : ℕ) (plan : Plan)
+    ensures plan { (counted : CountsMade) (query : Query) (tables : Tables) (lists : List (List ℕ)) (budget : ℕ) (plan : Plan)
         → AreOfScans query tables lists → length query.from ≤ most_entries → budget ≤ most_budget
         → plan_answer (counted_bounds_of_sets counted query tables lists) (list_sizes query lists) budget ≡ Ok plan
         → IsPlanOf query tables lists plan }
@@ -32,15 +32,15 @@ pub fn counts_are_never_under()
 /// is the number of rows of each level over its entries, or 2^128 - 1 if this number is larger. A level of a plan whose set is counted in this way
 /// has exactly as many rows as the plan says.
 pub fn counts_are_exact()
-    ensures sets { (counted : Counted) (query : Query) (tables : Tables) (lists : List (List ℕ)) (subset : ℕ) (order : List ℕ)
-        → subset < 2 ^ length query.from → IsOrderOfSet (entries_of_set subset) order → AllAreCounted counted query tables subset
+    ensures sets { (counted : CountsMade) (query : Query) (tables : Tables) (lists : List (List ℕ)) (subset : ℕ) (order : List ℕ)
+        → subset < 2 ^ length query.from → IsOrderOfSet (entries_of_set subset) order → AllPartsAreCounted counted query tables subset
         → all_hold (conjuncts_of query tables) [] (row_in [] []) ≡ true
         → slice_index (counted_bounds_of_sets counted query tables lists) subset
         ≡ saturated (length (level_over (conjuncts_of query tables) (list_at lists) order)) }
-    ensures levels { (counted : Counted) (query : Query) (tables : Tables) (lists : List (List ℕ)) (budget k : ℕ) (plan : Plan)
+    ensures levels { (counted : CountsMade) (query : Query) (tables : Tables) (lists : List (List ℕ)) (budget k : ℕ) (plan : Plan)
         → length query.from ≤ most_entries → budget ≤ most_budget
         → plan_answer (counted_bounds_of_sets counted query tables lists) (list_sizes query lists) budget ≡ Ok plan → k < length query.from
-        → AllAreCounted counted query tables (set_of (take (k + 1) plan.order))
+        → AllPartsAreCounted counted query tables (set_of (take (k + 1) plan.order))
         → all_hold (conjuncts_of query tables) [] (row_in [] []) ≡ true
         → slice_index plan.levels k ≡ length (list_levels query tables lists plan.order (k + 1)) }
 {}
@@ -48,11 +48,11 @@ pub fn counts_are_exact()
 /// Under whatever conjuncts sets are counted, no bound is above the bound from degree sequences of the same lists, at any accuracy. The second
 /// clause is about the reduced scans.
 pub fn counts_are_not_above_degree_sequences()
-    ensures over_lists { (counted : Counted) (query : Query) (tables : Tables) (lists : List (List ℕ)) (accuracy subset : ℕ)
+    ensures over_lists { (counted : CountsMade) (query : Query) (tables : Tables) (lists : List (List ℕ)) (accuracy subset : ℕ)
         → AreOfScans query tables lists → subset < 2 ^ length query.from
         → slice_index (counted_bounds_of_sets counted query tables lists) subset
         ≤ slice_index (set_bounds_over query tables lists accuracy) subset }
-    ensures over_reduced_scans { (counted : Counted) (query : Query) (tables : Tables) (accuracy subset : ℕ) → subset < 2 ^ length query.from
+    ensures over_reduced_scans { (counted : CountsMade) (query : Query) (tables : Tables) (accuracy subset : ℕ) → subset < 2 ^ length query.from
         → slice_index (counted_bounds_of_sets counted query tables (reduced_of query tables)) subset
         ≤ slice_index (set_bounds_over query tables (reduced_of query tables) accuracy) subset }
 {}

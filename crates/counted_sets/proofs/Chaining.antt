@@ -2,7 +2,7 @@
 use Rattle.std.proofs.Common.{◌≡◌, ℕ, zero, suc, ◌<◌, ◌≤◌, [], ◌∷◌, length, refl, ap, sym, ◌∙◌, subst, arith, inl, inr}
 use Rattle.std.specs.Prelude.{◌⊎◌}
 use Rattle.std.proofs.lemmas.Bool.{cases_eq, eq-eqb, ne_eqb}
-use Rattle.counted_sets.specs.Chains.{last_before}
+use Rattle.counted_sets.specs.UseChains.{last_before}
 
 last_here : (key_of : ℕ → ℕ) (key n : ℕ) → key_of n ≡ key → last_before key_of key (suc n) ≡ suc n
 last_here key_of key n is = rw (eq-eqb (key_of n) key is) refl

@@ -1,4 +1,4 @@
 pub mod Chaining
 pub mod Listing
-pub mod Supply
+pub mod GiverCounts
 pub mod Removing

@@ -7,10 +7,10 @@ use Rattle.std.proofs.lemmas.List.{get_or-set_same, get_or-set_other, length-set
 use Rattle.row_buf.specs.Rows.{Rows}
 use Rattle.counted_sets.specs.declared.uses.Use.{Use}
 use Rattle.counted_sets.specs.Sets.{marked, IsGiven, IsConsistent, IsGreatest}
-use Rattle.counted_sets.specs.Chains.{AreUseChains, last_before}
-use Rattle.counted_sets.specs.Counts.{supply, item_at, need_at, use_at, AreGone, Extends, IsCounted, IsSafe, IsWorkOf}
+use Rattle.counted_sets.specs.UseChains.{AreUseChains, last_before}
+use Rattle.counted_sets.specs.Counts.{giver_count, item_at, need_at, use_at, NeedersAreUnmarked, Extends, CountsAreRight, IsSafe, IsWorkOf}
 use Rattle.counted_sets.proofs.Chaining.{last_has, last_within, none_after}
-use Rattle.counted_sets.proofs.Supply.{given-supply, place_of, stands_there, supply-given, supply-set, supply_last, supply_one, supply_other}
+use Rattle.counted_sets.proofs.GiverCounts.{given-giver_count, place_of, stands_there, giver_count-given, giver_count-set, supply_last, supply_one, supply_other}
 
 -- ---- for each use of `item`, along the item's chain, one count is lowered by one
 
@@ -19,7 +19,7 @@ pub record AreTaken (uses : List Use) (item : ℕ) (before counts : List ℕ) (a
   pub here : 0 < at → item_at uses (at - 1) ≡ item
   pub same_length : length counts ≡ length before
   pub taken : (slot : ℕ) → slot < length before
-      → get_or counts slot 0 + supply (λ i. i == item) uses slot (length uses) ≡ get_or before slot 0 + supply (λ i. i == item) uses slot at
+      → get_or counts slot 0 + giver_count (λ i. i == item) uses slot (length uses) ≡ get_or before slot 0 + giver_count (λ i. i == item) uses slot at
 
 last_is : (key_of : ℕ → ℕ) (key n at : ℕ) → last_before key_of key n ≡ at → 0 < at → key_of (at - 1) ≡ key
 last_is key_of key n zero is some = absurd (omega arith)
@@ -32,14 +32,14 @@ taken_none uses item keys at lasts befores before chains low is =
       within = omega (arith, last_within (item_at uses) item (length uses));
       here = last_is (item_at uses) item (length uses) at last;
       same_length = refl;
-      taken = λ slot h. ap (λ n. get_or before slot 0 + n) (supply_last uses slot item (length uses) ∙ ap (supply (λ i. i == item) uses slot) last);
+      taken = λ slot h. ap (λ n. get_or before slot 0 + n) (supply_last uses slot item (length uses) ∙ ap (giver_count (λ i. i == item) uses slot) last);
     }
 
-first_left : (uses : List Use) (item slot place : ℕ) → item_at uses place ≡ item → (use_at uses place).gives ≡ slot → supply (λ i. i == item) uses slot (suc place) ≡ 1 + supply (λ i. i == item) uses slot place
+first_left : (uses : List Use) (item slot place : ℕ) → item_at uses place ≡ item → (use_at uses place).gives ≡ slot → giver_count (λ i. i == item) uses slot (suc place) ≡ 1 + giver_count (λ i. i == item) uses slot place
 first_left uses item slot place here gives = supply_one (λ i. i == item) uses slot place (eq-eqb (item_at uses place) item here) gives
 
 pub taken_some : (uses : List Use) (item at slot : ℕ) (before counts : List ℕ) → 0 < at → slot ≡ (use_at uses (at - 1)).gives → slot < length before
-    → supply (λ i. i == item) uses slot (length uses) ≤ get_or before slot 0 → AreTaken uses item before counts at → 0 < get_or counts slot 0
+    → giver_count (λ i. i == item) uses slot (length uses) ≤ get_or before slot 0 → AreTaken uses item before counts at → 0 < get_or counts slot 0
 taken_some uses item zero slot before counts some is within enough so_far = absurd (omega arith)
 taken_some uses item (suc place) slot before counts some is within enough so_far =
     let e : suc place - 1 ≡ place = omega arith in
@@ -61,7 +61,7 @@ taken_one uses item (suc place) slot next keys lasts befores before counts chain
       within = omega (arith, last_within (item_at uses) item place);
       here = last_is (item_at uses) item place next last;
       same_length = length-set counts slot (get_or counts slot 0 - 1) ∙ so_far.same_length;
-      taken = λ q h. (let rest : supply (λ i. i == item) uses q place ≡ supply (λ i. i == item) uses q next = supply_last uses q item place ∙ ap (supply (λ i. i == item) uses q) last in
+      taken = λ q h. (let rest : giver_count (λ i. i == item) uses q place ≡ giver_count (λ i. i == item) uses q next = supply_last uses q item place ∙ ap (giver_count (λ i. i == item) uses q) last in
           elim (cases_eq q slot) [
             | inl same ↦ (let now : get_or (set counts slot (get_or counts slot 0 - 1)) q 0 ≡ get_or counts slot 0 - 1 =
                 ap (λ j. get_or (set counts slot (get_or counts slot 0 - 1)) j 0) same ∙ get_or-set_same counts slot (get_or counts slot 0 - 1) 0 (omega (arith, so_far.same_length)) in
@@ -82,19 +82,19 @@ back_before key_of (suc place) places next keys lasts befores chains some within
 
 -- ---- removing one item
 
-pub enough_left : (items slots : ℕ) (uses : List Use) (marks : List Bool) (counts : List ℕ) (work : Rows ℕ) (item : ℕ) → IsCounted items slots uses marks counts work → item < items → marked marks item ≡ true
-    → (slot : ℕ) → slot < length counts → supply (λ i. i == item) uses slot (length uses) ≤ get_or counts slot 0
+pub enough_left : (items slots : ℕ) (uses : List Use) (marks : List Bool) (counts : List ℕ) (work : Rows ℕ) (item : ℕ) → CountsAreRight items slots uses marks counts work → item < items → marked marks item ≡ true
+    → (slot : ℕ) → slot < length counts → giver_count (λ i. i == item) uses slot (length uses) ≤ get_or counts slot 0
 enough_left items slots uses marks counts work item counted h stands slot b =
-    omega (arith, counted.counted slot (omega (arith, counted.slot_count)), supply-set uses marks slot item (length uses) (omega (arith, counted.item_count)) stands)
+    omega (arith, counted.counted slot (omega (arith, counted.slot_count)), giver_count-set uses marks slot item (length uses) (omega (arith, counted.item_count)) stands)
 
-pub removed : (items slots : ℕ) (uses : List Use) (marks : List Bool) (counts new_counts : List ℕ) (work new_work : Rows ℕ) (item : ℕ) → IsCounted items slots uses marks counts work → item < items
+pub removed : (items slots : ℕ) (uses : List Use) (marks : List Bool) (counts new_counts : List ℕ) (work new_work : Rows ℕ) (item : ℕ) → CountsAreRight items slots uses marks counts work → item < items
     → marked marks item ≡ true → length new_counts ≡ length counts
-    → ((slot : ℕ) → slot < length counts → get_or new_counts slot 0 + supply (λ i. i == item) uses slot (length uses) ≡ get_or counts slot 0) → IsWorkOf new_counts new_work
-    → IsCounted items slots uses (set marks item false) new_counts new_work
+    → ((slot : ℕ) → slot < length counts → get_or new_counts slot 0 + giver_count (λ i. i == item) uses slot (length uses) ≡ get_or counts slot 0) → IsWorkOf new_counts new_work
+    → CountsAreRight items slots uses (set marks item false) new_counts new_work
 removed items slots uses marks counts new_counts work new_work item counted h stands size fell listed = record {
   item_count = length-set marks item false ∙ counted.item_count;
   slot_count = size ∙ counted.slot_count;
-  counted = λ slot b. omega (arith, fell slot (omega (arith, counted.slot_count)), counted.counted slot b, supply-set uses marks slot item (length uses) (omega (arith, counted.item_count)) stands);
+  counted = λ slot b. omega (arith, fell slot (omega (arith, counted.slot_count)), counted.counted slot b, giver_count-set uses marks slot item (length uses) (omega (arith, counted.item_count)) stands);
   listed = listed;
 }
 
@@ -104,11 +104,11 @@ not_marked marks item gone = ap (set marks item) (sym gone) ∙ set-get_or marks
 -- ---- why no consistent set loses an item
 
 -- if no marked item gives `slot`, a consistent set of marked items has no item that needs `slot`
-doomed : (items : ℕ) (uses : List Use) (marks : List Bool) (slot : ℕ) → supply (marked marks) uses slot (length uses) ≡ 0 → (other : ℕ → Bool) → IsConsistent items uses other
+not_in_consistent_set : (items : ℕ) (uses : List Use) (marks : List Bool) (slot : ℕ) → giver_count (marked marks) uses slot (length uses) ≡ 0 → (other : ℕ → Bool) → IsConsistent items uses other
     → ((i : ℕ) → other i ≡ true → marked marks i ≡ true) → (k : ℕ) → k < length uses → need_at uses k ≡ slot → other (item_at uses k) ≡ true → ⊥
-doomed items uses marks slot none other consistent within k h needs stands =
+not_in_consistent_set items uses marks slot none other consistent within k h needs stands =
     let given : IsGiven uses other (need_at uses k) = consistent.given (use_at uses k) (stands_there uses k h) stands in
-    omega (arith, none, given-supply (marked marks) uses slot (given.0, given.1, within given.0.item given.2, given.3 ∙ needs))
+    omega (arith, none, given-giver_count (marked marks) uses slot (given.0, given.1, within given.0.item given.2, given.3 ∙ needs))
 
 pub safe_none : (items : ℕ) (uses : List Use) (marks : List Bool) → IsSafe items uses marks marks
 safe_none items uses marks = record { fewer = λ i m. m; safe = λ other consistent within i stands. within i stands }
@@ -122,7 +122,7 @@ set_same marks item i same = elim (cases_lt item (length marks)) [
   | inr past ↦ get_or_past (set marks item false) i false (omega (arith, length-set marks item false, same))
 ]
 
-pub safe_one : (items : ℕ) (uses : List Use) (old marks : List Bool) (slot k : ℕ) → supply (marked old) uses slot (length uses) ≡ 0 → k < length uses → need_at uses k ≡ slot → IsSafe items uses old marks
+pub safe_one : (items : ℕ) (uses : List Use) (old marks : List Bool) (slot k : ℕ) → giver_count (marked old) uses slot (length uses) ≡ 0 → k < length uses → need_at uses k ≡ slot → IsSafe items uses old marks
     → IsSafe items uses old (set marks (item_at uses k) false)
 safe_one items uses old marks slot k none h needs so_far = record {
   fewer = λ i m. elim (cases_eq i (item_at uses k)) [
@@ -130,7 +130,7 @@ safe_one items uses old marks slot k none h needs so_far = record {
     | inr apart ↦ so_far.fewer i (sym (set_other marks (item_at uses k) i apart) ∙ m)
   ];
   safe = λ other consistent within i stands. elim (cases_eq i (item_at uses k)) [
-    | inl same ↦ absurd (doomed items uses old slot none other consistent within k h needs (subst (λ j. other j ≡ true) same stands))
+    | inl same ↦ absurd (not_in_consistent_set items uses old slot none other consistent within k h needs (subst (λ j. other j ≡ true) same stands))
     | inr apart ↦ set_other marks (item_at uses k) i apart ∙ so_far.safe other consistent within i stands
   ];
 }
@@ -174,7 +174,7 @@ gone_one uses slot keys (suc place) item next lasts befores marks chains some is
       ];
     }
 
-gone_still : (items : ℕ) (uses : List Use) (old new : List Bool) (slot : ℕ) → IsSafe items uses old new → AreGone uses slot old → AreGone uses slot new
+gone_still : (items : ℕ) (uses : List Use) (old new : List Bool) (slot : ℕ) → IsSafe items uses old new → NeedersAreUnmarked uses slot old → NeedersAreUnmarked uses slot new
 gone_still items uses old new slot safe gone k h needs = elim (cases_Bool (marked new (item_at uses k))) [
   | inl stays ↦ absurd (false≢true (sym (gone k h needs) ∙ safe.fewer (item_at uses k) stays))
   | inr goes ↦ goes
@@ -184,9 +184,9 @@ gone_still items uses old new slot safe gone k h needs = elim (cases_Bool (marke
 
 pub record Reducing (items slots : ℕ) (uses : List Use) (marks : List Bool) (counts : List ℕ) (work : Rows ℕ) (at : ℕ) : Type 0 where
   pub within : at ≤ length work.items
-  pub counted : IsCounted items slots uses marks counts work
+  pub counted : CountsAreRight items slots uses marks counts work
   pub safe : (other : ℕ → Bool) → IsConsistent items uses other → (item : ℕ) → other item ≡ true → marked marks item ≡ true
-  pub passed : (p : ℕ) → p < at → AreGone uses (get_or work.items p 0) marks
+  pub passed : (p : ℕ) → p < at → NeedersAreUnmarked uses (get_or work.items p 0) marks
 
 all_marked : (n i : ℕ) → i < n → marked (replicate n true) i ≡ true
 all_marked zero i h = absurd (omega arith)
@@ -197,18 +197,18 @@ length-all_marked : (n : ℕ) → length (replicate n true) ≡ n
 length-all_marked zero = refl
 length-all_marked (suc n) = ap suc (length-all_marked n)
 
-supply-all : (items n : ℕ) (uses : List Use) (slot : ℕ) → ((k : ℕ) → k < n → item_at uses k < items) → supply (marked (replicate items true)) uses slot n ≡ supply (λ item. true) uses slot n
-supply-all items zero uses slot within = refl
-supply-all items (suc n) uses slot within = rw (all_marked items (item_at uses n) (within n (omega arith)), supply-all items n uses slot (λ k h. within k (omega arith))) refl
+giver_count-all : (items n : ℕ) (uses : List Use) (slot : ℕ) → ((k : ℕ) → k < n → item_at uses k < items) → giver_count (marked (replicate items true)) uses slot n ≡ giver_count (λ item. true) uses slot n
+giver_count-all items zero uses slot within = refl
+giver_count-all items (suc n) uses slot within = rw (all_marked items (item_at uses n) (within n (omega arith)), giver_count-all items n uses slot (λ k h. within k (omega arith))) refl
 
 pub reducing_first : (items slots : ℕ) (uses : List Use) (marks : List Bool) (counts : List ℕ) (work : Rows ℕ) → ((k : ℕ) → k < length uses → item_at uses k < items) → marks ≡ replicate items true → length counts ≡ slots
-    → ((slot : ℕ) → slot < slots → get_or counts slot 0 ≡ supply (λ item. true) uses slot (length uses)) → IsWorkOf counts work → Reducing items slots uses marks counts work 0
+    → ((slot : ℕ) → slot < slots → get_or counts slot 0 ≡ giver_count (λ item. true) uses slot (length uses)) → IsWorkOf counts work → Reducing items slots uses marks counts work 0
 reducing_first items slots uses marks counts work low all size counted listed = record {
   within = omega arith;
   counted = record {
     item_count = ap length all ∙ length-all_marked items;
     slot_count = size;
-    counted = λ slot b. counted slot b ∙ sym (supply-all items (length uses) uses slot low) ∙ ap (λ m. supply (marked m) uses slot (length uses)) (sym all);
+    counted = λ slot b. counted slot b ∙ sym (giver_count-all items (length uses) uses slot low) ∙ ap (λ m. giver_count (marked m) uses slot (length uses)) (sym all);
     listed = listed;
   };
   safe = λ other consistent item stands. ap (λ m. marked m item) all ∙ all_marked items item (consistent.within item stands);
@@ -216,14 +216,14 @@ reducing_first items slots uses marks counts work low all size counted listed = 
 }
 
 pub reducing_next : (items slots : ℕ) (uses : List Use) (marks new_marks : List Bool) (counts new_counts : List ℕ) (work new_work : Rows ℕ) (at slot : ℕ) → at < length work.items → slot ≡ get_or work.items at 0
-    → Reducing items slots uses marks counts work at → AreGone uses slot new_marks → IsSafe items uses marks new_marks
-    → IsCounted items slots uses new_marks new_counts new_work → Extends work.items new_work.items → Reducing items slots uses new_marks new_counts new_work (at + 1)
+    → Reducing items slots uses marks counts work at → NeedersAreUnmarked uses slot new_marks → IsSafe items uses marks new_marks
+    → CountsAreRight items slots uses new_marks new_counts new_work → Extends work.items new_work.items → Reducing items slots uses new_marks new_counts new_work (at + 1)
 reducing_next items slots uses marks new_marks counts new_counts work new_work at slot h is so_far gone safe counted extends = record {
   within = omega (arith, extends.longer);
   counted = counted;
   safe = λ other consistent item stands. safe.safe other consistent (so_far.safe other consistent) item stands;
-  passed = λ p b. subst (λ q. AreGone uses q new_marks) (sym (extends.same p (omega arith))) (elim (cases_eq p at) [
-    | inl last ↦ subst (λ q. AreGone uses q new_marks) (is ∙ ap (λ j. get_or work.items j 0) (sym last)) gone
+  passed = λ p b. subst (λ q. NeedersAreUnmarked uses q new_marks) (sym (extends.same p (omega arith))) (elim (cases_eq p at) [
+    | inl last ↦ subst (λ q. NeedersAreUnmarked uses q new_marks) (is ∙ ap (λ j. get_or work.items j 0) (sym last)) gone
     | inr before ↦ gone_still items uses marks new_marks (get_or work.items p 0) safe (so_far.passed p (omega arith))
   ]);
 }
@@ -249,7 +249,7 @@ reduced items slots uses marks counts work at low ended so_far = record {
         let slot_low : need_at uses place.0 < slots = low place.0 place.1 in
         let stands : marked marks (item_at uses place.0) ≡ true = ap (λ (u : Use). marked marks u.item) place.2 ∙ m in
         subst (λ (u : Use). IsGiven uses (marked marks) u.needs) place.2 (elim (cases_lt 0 (get_or counts (need_at uses place.0) 0)) [
-          | inl some ↦ supply-given (marked marks) uses (need_at uses place.0) (omega (arith, so_far.counted.counted (need_at uses place.0) slot_low))
+          | inl some ↦ giver_count-given (marked marks) uses (need_at uses place.0) (omega (arith, so_far.counted.counted (need_at uses place.0) slot_low))
           | inr none ↦ (let there : Contains work.items (need_at uses place.0) = so_far.counted.listed.listed.all_there (need_at uses place.0) (omega (arith, so_far.counted.slot_count)) (omega arith) in
               let is : get_or work.items there.0 0 ≡ need_at uses place.0 = get_or_default work.items there.0 0 (need_at uses place.0) there.1 ∙ there.2 in
               absurd (false≢true (sym (so_far.passed there.0 (omega (arith, there.1)) place.0 place.1 (sym is)) ∙ stands)))

@@ -16,9 +16,9 @@ abbrev pub need_at : List Use → ℕ → ℕ
 need_at uses k = (use_at uses k).needs
 
 -- how many of the first n uses are of a kept item and give the slot
-abbrev pub supply : (ℕ → Bool) → List Use → ℕ → ℕ → ℕ
-supply kept uses slot zero = 0
-supply kept uses slot (suc n) = (if kept (item_at uses n) && ((use_at uses n).gives == slot) then 1 else 0) + supply kept uses slot n
+abbrev pub giver_count : (ℕ → Bool) → List Use → ℕ → ℕ → ℕ
+giver_count kept uses slot zero = 0
+giver_count kept uses slot (suc n) = (if kept (item_at uses n) && ((use_at uses n).gives == slot) then 1 else 0) + giver_count kept uses slot n
 
 -- how many of the counts are above 0
 abbrev pub positives : List ℕ → ℕ
@@ -44,10 +44,10 @@ pub record Extends (old new : List ℕ) : Type 0 where
   pub same : (p : ℕ) → p < length old → slice_index new p ≡ slice_index old p
 
 -- the count of a slot is how many uses of marked items give it, and the slots of count 0 are listed
-pub record IsCounted (items slots : ℕ) (uses : List Use) (marks : List Bool) (counts : List ℕ) (work : Rows ℕ) : Type 0 where
+pub record CountsAreRight (items slots : ℕ) (uses : List Use) (marks : List Bool) (counts : List ℕ) (work : Rows ℕ) : Type 0 where
   pub item_count : length marks ≡ items
   pub slot_count : length counts ≡ slots
-  pub counted : (slot : ℕ) → slot < slots → slice_index counts slot ≡ supply (marked marks) uses slot (length uses)
+  pub counted : (slot : ℕ) → slot < slots → slice_index counts slot ≡ giver_count (marked marks) uses slot (length uses)
   pub listed : IsWorkOf counts work
 
 -- no item is newly marked; and if all items of a consistent set were marked, all of them still are
@@ -57,5 +57,5 @@ pub record IsSafe (items : ℕ) (uses : List Use) (old new : List Bool) : Type 0
       → (item : ℕ) → other item ≡ true → marked new item ≡ true
 
 -- no item that needs the slot is marked
-abbrev pub AreGone : List Use → ℕ → List Bool → Type 0
-AreGone uses slot marks = (k : ℕ) → k < length uses → need_at uses k ≡ slot → marked marks (item_at uses k) ≡ false
+abbrev pub NeedersAreUnmarked : List Use → ℕ → List Bool → Type 0
+NeedersAreUnmarked uses slot marks = (k : ℕ) → k < length uses → need_at uses k ≡ slot → marked marks (item_at uses k) ≡ false

@@ -1,3 +1,3 @@
 pub mod Sets
-pub mod Chains
+pub mod UseChains
 pub mod Counts

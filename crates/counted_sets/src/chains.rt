@@ -1,6 +1,6 @@
 //! Links uses that have the same item, or that need the same slot, from the last use back to the first.
 ghost use Rattle.std.specs.Prelude.{◌≡◌, ◌+◌, ◌^◌, ◌<◌, ◌≤◌, All, IfOk, ℕ, length, slice_index};
-ghost use Rattle.counted_sets.specs.Chains.{AreUseChains, last_before};
+ghost use Rattle.counted_sets.specs.UseChains.{AreUseChains, last_before};
 ghost use Rattle.counted_sets.specs.Counts.{item_at, need_at};
 ghost use Rattle.counted_sets.specs.Sets.{IsUseOf};
 
@@ -12,14 +12,14 @@ use std::alloc::Global;
 /// `lasts` has for each key the last use with this key. `befores` has for each use the use before it with the same key. Both lists have uses by their
 /// indexes, counted from 1, and 0 means no use. A key is an item or a slot. The chains take 4 bytes for each key and for each use.
 #[derive(Drop)]
-pub(crate) struct Chains {
+pub(crate) struct UseChains {
     lasts: RowBuf<u32>,
     befores: RowBuf<u32>,
 }
 
-impl Chains {
+impl UseChains {
     // Empty chains with room for this many keys and uses (`places`).
-    fn new(alloc: Global, keys: u32, places: u64) -> Result<Chains, NoMemory>
+    fn new(alloc: Global, keys: u32, places: u64) -> Result<UseChains, NoMemory>
         ensures chains { IfOk result (λ chains. (key_of : ℕ → ℕ) → AreUseChains key_of keys 0 chains.lasts.items chains.befores.items) }
         ensures spare { IfOk result (λ chains. chains.befores.spare ≡ places) }
     {
@@ -28,7 +28,7 @@ impl Chains {
         lasts.fill(keys as u64, 0);
         let mut befores = RowBuf::new(alloc);
         befores.reserve(places)?;
-        Ok(Chains { lasts, befores })
+        Ok(UseChains { lasts, befores })
     }
 
     // Links one more use with this key.
@@ -67,12 +67,16 @@ impl Chains {
 }
 
 /// Chains of the uses of each item.
-pub(crate) fn chained_by_item(alloc: Global, items: u32, uses: &[Use]) -> Result<Chains, NoMemory>
+pub(crate) fn chained_by_item(
+    alloc: Global,
+    items: u32,
+    uses: &[Use],
+) -> Result<UseChains, NoMemory>
     requires items { All (λ u. u.item < items) uses.now }
     requires few { length uses.now < 2 ^ 32 }
     ensures { IfOk result (λ chains. AreUseChains (item_at uses.now) items (length uses.now) chains.lasts.items chains.befores.items) }
 {
-    let mut chains = Chains::new(alloc, items, uses.len() as u64)?;
+    let mut chains = UseChains::new(alloc, items, uses.len() as u64)?;
     'uses: for k in 0..uses.len() {
         chains.add(uses[k].item);
     }
@@ -80,12 +84,16 @@ pub(crate) fn chained_by_item(alloc: Global, items: u32, uses: &[Use]) -> Result
 }
 
 /// Chains of the uses that need each slot.
-pub(crate) fn chained_by_need(alloc: Global, slots: u32, uses: &[Use]) -> Result<Chains, NoMemory>
+pub(crate) fn chained_by_need(
+    alloc: Global,
+    slots: u32,
+    uses: &[Use],
+) -> Result<UseChains, NoMemory>
     requires slots { All (λ u. u.needs < slots) uses.now }
     requires few { length uses.now < 2 ^ 32 }
     ensures { IfOk result (λ chains. AreUseChains (need_at uses.now) slots (length uses.now) chains.lasts.items chains.befores.items) }
 {
-    let mut chains = Chains::new(alloc, slots, uses.len() as u64)?;
+    let mut chains = UseChains::new(alloc, slots, uses.len() as u64)?;
     'uses: for k in 0..uses.len() {
         chains.add(uses[k].needs);
     }

@@ -1,9 +1,9 @@
 //! Counts how many uses give each slot, and lists the slots whose count is 0. A use says that an item gives one slot and needs another one.
 ghost use Rattle.std.specs.Prelude.{◌≡◌, ◌==◌, ◌+◌, ◌-◌, ◌^◌, ◌<◌, ◌≤◌, ℕ, All, IfOk, length, slice_index, slice_set, true};
-ghost use Rattle.counted_sets.specs.Chains.{AreUseChains};
-ghost use Rattle.counted_sets.specs.Counts.{EmptySlotsAreListed, Extends, IsWorkOf, item_at, supply};
+ghost use Rattle.counted_sets.specs.UseChains.{AreUseChains};
+ghost use Rattle.counted_sets.specs.Counts.{EmptySlotsAreListed, Extends, IsWorkOf, item_at, giver_count};
 
-use crate::chains::Chains;
+use crate::chains::UseChains;
 use crate::uses::Use;
 use base_io::NoMemory;
 use row_buf::RowBuf;
@@ -15,7 +15,7 @@ pub(crate) fn count_all(alloc: Global, slots: u32, uses: &[Use]) -> Result<RowBu
     requires few { length uses.now < 2 ^ 32 }
     ensures length { IfOk result (λ counts. length counts.items ≡ slots) }
     ensures counts { IfOk result (λ counts. (slot : ℕ) → slot < slots
-        → slice_index counts.items slot ≡ supply (λ item. true) uses.now slot (length uses.now)) }
+        → slice_index counts.items slot ≡ giver_count (λ item. true) uses.now slot (length uses.now)) }
 {
     let mut counts = RowBuf::new(alloc);
     counts.reserve(slots as u64)?;
@@ -29,7 +29,10 @@ pub(crate) fn count_all(alloc: Global, slots: u32, uses: &[Use]) -> Result<RowBu
 }
 
 /// Lists the slots whose count is 0. The list has room for all other slots.
-pub(crate) fn zeros(alloc: Global, counts: &RowBuf<u32>) -> Result<RowBuf<u32>, NoMemory>
+pub(crate) fn slots_of_count_zero(
+    alloc: Global,
+    counts: &RowBuf<u32>,
+) -> Result<RowBuf<u32>, NoMemory>
     requires few { length counts.now.items < 2 ^ 32 }
     ensures { IfOk result (λ work. IsWorkOf counts.now.items work) }
 {
@@ -45,7 +48,7 @@ pub(crate) fn zeros(alloc: Global, counts: &RowBuf<u32>) -> Result<RowBuf<u32>, 
 }
 
 // Lowers the count of a slot by one, and appends the slot to `work` if its count is now 0.
-fn take_one(slot: u32, counts: &mut RowBuf<u32>, work: &mut RowBuf<u32>)
+fn lower_count(slot: u32, counts: &mut RowBuf<u32>, work: &mut RowBuf<u32>)
     requires within { slot < length counts.old.items }
     requires some { 0 < slice_index counts.old.items slot }
     requires listed { IsWorkOf counts.old.items work.old }
@@ -61,9 +64,9 @@ fn take_one(slot: u32, counts: &mut RowBuf<u32>, work: &mut RowBuf<u32>)
 }
 
 /// For each use of the item, lowers the count of the slot that the use gives by one.
-pub(crate) fn take_off(
+pub(crate) fn lower_counts(
     uses: &[Use],
-    of_item: &Chains,
+    of_item: &UseChains,
     item: u32,
     counts: &mut RowBuf<u32>,
     work: &mut RowBuf<u32>,
@@ -73,18 +76,18 @@ pub(crate) fn take_off(
         of_item.now.lasts.items of_item.now.befores.items }
     requires slots { All (λ u. u.gives < length counts.old.items) uses.now }
     requires enough { (slot : ℕ) → slot < length counts.old.items
-        → supply (λ i. i == item) uses.now slot (length uses.now) ≤ slice_index counts.old.items slot }
+        → giver_count (λ i. i == item) uses.now slot (length uses.now) ≤ slice_index counts.old.items slot }
     requires listed { IsWorkOf counts.old.items work.old }
     ensures length { length counts.new.items ≡ length counts.old.items }
     ensures counts { (slot : ℕ) → slot < length counts.old.items
-        → slice_index counts.new.items slot + supply (λ i. i == item) uses.now slot (length uses.now) ≡ slice_index counts.old.items slot }
+        → slice_index counts.new.items slot + giver_count (λ i. i == item) uses.now slot (length uses.now) ≡ slice_index counts.old.items slot }
     ensures listed { IsWorkOf counts.new.items work.new }
     ensures extends { Extends work.old.items work.new.items }
 {
     let mut at = of_item.last(item);
     'places: while at > 0 {
         let place = at - 1;
-        take_one(uses[place as usize].gives, counts, work);
+        lower_count(uses[place as usize].gives, counts, work);
         at = of_item.before(place);
     }
 }

@@ -1,11 +1,11 @@
 //! Removes items as long as a slot that they need has the count 0.
 ghost use Rattle.std.specs.Prelude.{◌≡◌, ◌^◌, ◌<◌, All, IfOk, false, length, slice_index, slice_set};
-ghost use Rattle.counted_sets.specs.Chains.{AreUseChains};
-ghost use Rattle.counted_sets.specs.Counts.{AreGone, Extends, IsCounted, IsSafe, item_at, need_at};
+ghost use Rattle.counted_sets.specs.UseChains.{AreUseChains};
+ghost use Rattle.counted_sets.specs.Counts.{NeedersAreUnmarked, Extends, CountsAreRight, IsSafe, item_at, need_at};
 ghost use Rattle.counted_sets.specs.Sets.{IsGreatest, IsUseOf, marked};
 
-use crate::chains::{Chains, chained_by_item, chained_by_need};
-use crate::counts::{count_all, take_off, zeros};
+use crate::chains::{UseChains, chained_by_item, chained_by_need};
+use crate::counts::{count_all, lower_counts, slots_of_count_zero};
 use crate::uses::Use;
 use base_io::NoMemory;
 use row_buf::RowBuf;
@@ -14,7 +14,7 @@ use std::alloc::Global;
 // Removes an item: it loses its mark, and the slots that it gives are counted down. An item without a mark was removed before.
 fn remove(
     uses: &[Use],
-    of_item: &Chains,
+    of_item: &UseChains,
     item: u32,
     marks: &mut RowBuf<bool>,
     counts: &mut RowBuf<u32>,
@@ -24,23 +24,23 @@ fn remove(
     requires slots { All (λ u. u.gives < length counts.old.items) uses.now }
     requires chains { AreUseChains (item_at uses.now) (length marks.old.items) (length uses.now)
         of_item.now.lasts.items of_item.now.befores.items }
-    requires counted { IsCounted (length marks.old.items) (length counts.old.items) uses.now marks.old.items counts.old.items work.old }
+    requires counted { CountsAreRight (length marks.old.items) (length counts.old.items) uses.now marks.old.items counts.old.items work.old }
     ensures marks { marks.new.items ≡ slice_set marks.old.items item false }
-    ensures counted { IsCounted (length marks.old.items) (length counts.old.items) uses.now marks.new.items counts.new.items work.new }
+    ensures counted { CountsAreRight (length marks.old.items) (length counts.old.items) uses.now marks.new.items counts.new.items work.new }
     ensures extends { Extends work.old.items work.new.items }
 {
     if !marks.get(item) {
         return;
     }
     marks.set(item, false);
-    take_off(uses, of_item, item, counts, work);
+    lower_counts(uses, of_item, item, counts, work);
 }
 
 // Removes every item that needs `slot`, which no remaining item gives.
 fn remove_needing(
     uses: &[Use],
-    of_item: &Chains,
-    needing: &Chains,
+    of_item: &UseChains,
+    needing: &UseChains,
     slot: u32,
     marks: &mut RowBuf<bool>,
     counts: &mut RowBuf<u32>,
@@ -53,10 +53,10 @@ fn remove_needing(
         of_item.now.lasts.items of_item.now.befores.items }
     requires needs { AreUseChains (need_at uses.now) (length counts.old.items) (length uses.now)
         needing.now.lasts.items needing.now.befores.items }
-    requires counted { IsCounted (length marks.old.items) (length counts.old.items) uses.now marks.old.items counts.old.items work.old }
-    ensures gone { AreGone uses.now slot marks.new.items }
+    requires counted { CountsAreRight (length marks.old.items) (length counts.old.items) uses.now marks.old.items counts.old.items work.old }
+    ensures gone { NeedersAreUnmarked uses.now slot marks.new.items }
     ensures safe { IsSafe (length marks.old.items) uses.now marks.old.items marks.new.items }
-    ensures counted { IsCounted (length marks.old.items) (length counts.old.items) uses.now marks.new.items counts.new.items work.new }
+    ensures counted { CountsAreRight (length marks.old.items) (length counts.old.items) uses.now marks.new.items counts.new.items work.new }
     ensures extends { Extends work.old.items work.new.items }
 {
     let mut at = needing.last(slot);
@@ -84,7 +84,7 @@ pub fn reduce(alloc: Global, items: u32, slots: u32, uses: &[Use]) -> Result<Row
     let of_item = chained_by_item(alloc, items, uses)?;
     let needing = chained_by_need(alloc, slots, uses)?;
     let mut counts = count_all(alloc, slots, uses)?;
-    let mut work = zeros(alloc, &counts)?;
+    let mut work = slots_of_count_zero(alloc, &counts)?;
     let mut marks = RowBuf::new(alloc);
     marks.reserve(items as u64)?;
     marks.fill(items as u64, true);

@@ -5,7 +5,7 @@ use Rattle.std.specs.List.{range_with_len}
 use Rattle.std.proofs.lemmas.Bool.{cases_lt, ne_eqb}
 use Rattle.std.proofs.lemmas.List.FromFn.{length-range_with_len, get_or-range_with_len}
 use Rattle.std.proofs.Math.Bool.{and-false}
-use Rattle.csv_tables.specs.Groups.{have_same_cells, repeat_from, IsFirst, IsRepeat}
+use Rattle.csv_tables.specs.FirstPlaces.{have_same_cells, repeat_from, IsFirst, IsRepeat}
 
 abbrev pub Ascend : List ℕ → ℕ → Type 0
 Ascend cells n = (i j : ℕ) → i < j → j < n → get_or cells i 0 < get_or cells j 0
@@ -51,7 +51,7 @@ no_repeat at (suc n) = rw (same_itself at) (no_repeat (at + 1) n)
 
 pub none_repeats : (columns : List (List ℕ)) (key : List ℕ) (rows : ℕ) → ((i j : ℕ) → j < i → i < rows → have_same_cells columns key i j ≡ false) → IsRepeat columns key rows None
 none_repeats columns key rows differ = record {
-  group = range_with_len 0 rows;
+  first_places = range_with_len 0 rows;
   long = length-range_with_len 0 rows;
   firsts = λ i l.
       let within : i < rows = omega (arith, l, length-range_with_len 0 rows) in

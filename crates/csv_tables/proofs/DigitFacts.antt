@@ -6,11 +6,11 @@ use Rattle.std.specs.Char.{is_ascii_digit}
 use Rattle.std.proofs.lemmas.Bool.{and_parts, le-leb, leb-true, ne_eqb, or_from}
 use Rattle.std.proofs.Math.Nat.{pow-le-pow_right}
 use Rattle.std.proofs.lemmas.List.{length-take-le}
-use Rattle.plain_records.specs.Places.{FieldSoFar}
+use Rattle.plain_records.specs.Offsets.{FieldSoFar}
 use Rattle.plain_records.specs.Plain.{ends_field, first_field}
-use Rattle.plain_records.proofs.PlaceFacts.{field_begins, field_byte, field_more, field_of}
+use Rattle.plain_records.proofs.OffsetFacts.{field_begins, field_byte, field_more, field_of}
 use Rattle.csv_tables.specs.Fields.{DigitsSoFar, IsShort}
-use Rattle.csv_tables.specs.Numbers.{decimal_after, greatest_magnitude, is_minus, is_numeral, number_of, signed, size_of, without_sign}
+use Rattle.csv_tables.specs.Numbers.{decimal_after, greatest_magnitude, is_minus, is_numeral, number_of, signed, magnitude_of, without_sign}
 use Rattle.csv_tables.proofs.NumberFacts.{few_digits, ten_more}
 
 -- the byte is one of the ten digits
@@ -73,7 +73,7 @@ numeral_of : (digits : List ℕ) → 0 < length digits → all_ascii_digits digi
 numeral_of [] l e = absurd (omega (arith, l))
 numeral_of (c ∷ cs) l e = e
 
-size_short : (digits : List ℕ) (size most : ℕ) → IsShort digits size → 10 ^ 18 ≤ most → size_of most digits ≡ Some size
+size_short : (digits : List ℕ) (size most : ℕ) → IsShort digits size → 10 ^ 18 ≤ most → magnitude_of most digits ≡ Some size
 size_short digits size most s l =
     let numeral : is_numeral digits ≡ true = numeral_of digits s.some s.digits_are in
     let spelled : decimal_after 0 digits ≡ size = s.spelled in
@@ -100,8 +100,8 @@ number_short digits size s =
     let minus : is_minus digits ≡ false = no_minus digits s.digits_are in
     let sign : without_sign digits ≡ digits = no_sign digits s.digits_are in
     let most : 10 ^ 18 ≤ greatest_magnitude false = lit≤ tt in
-    ap (λ b. option_map (signed b) (size_of (greatest_magnitude b) (without_sign digits))) minus
-    ∙ ap (λ ds. option_map (signed false) (size_of (greatest_magnitude false) ds)) sign
+    ap (λ b. option_map (signed b) (magnitude_of (greatest_magnitude b) (without_sign digits))) minus
+    ∙ ap (λ ds. option_map (signed false) (magnitude_of (greatest_magnitude false) ds)) sign
     ∙ ap (option_map (signed false)) (size_short digits size (greatest_magnitude false) s most)
 
 -- digits behind a minus sign spell a negative number, or 0

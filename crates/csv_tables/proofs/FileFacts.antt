@@ -15,11 +15,11 @@ use Rattle.csv_tables.specs.Header.{column_places}
 use Rattle.csv_tables.specs.Keys.{rows_with_keys}
 use Rattle.csv_tables.specs.Reads.{kinds_of, HoldsColumns}
 use Rattle.csv_tables.specs.Records.{records_of, Record}
-use Rattle.csv_tables.specs.Refused.{Refuses}
+use Rattle.csv_tables.specs.Refused.{IsRefusalOrNoMemory}
 use Rattle.csv_tables.specs.Rows.{rows_of_records}
 use Rattle.csv_tables.specs.Steps.{◌>>=◌}
 
-pub refuses_so : {A B : Type 0} (x : Result A TableError) (y : Result B TableError) → ((e : TableError) → x ≡ Err e → y ≡ Err e) → (e : TableError) → Refuses x e → Refuses y e
+pub refuses_so : {A B : Type 0} (x : Result A TableError) (y : Result B TableError) → ((e : TableError) → x ≡ Err e → y ≡ Err e) → (e : TableError) → IsRefusalOrNoMemory x e → IsRefusalOrNoMemory y e
 refuses_so x y h error.NoMemory r = tt
 refuses_so x y h (error.Utf8 at) r = h _ r
 refuses_so x y h (error.Header column) r = h _ r

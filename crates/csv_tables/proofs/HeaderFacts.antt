@@ -11,12 +11,12 @@ use Rattle.csv_tables.specs.declared.types.TableError.TheVariants as error
 use Rattle.schema_types.specs.declared.types.Column.{Column}
 use Rattle.csv_tables.specs.Records.{Record}
 
-abbrev pub listed : Option ℕ → List ℕ
-listed None = []
-listed (Some place) = place ∷ []
+abbrev pub as_list : Option ℕ → List ℕ
+as_list None = []
+as_list (Some place) = place ∷ []
 
 abbrev pub FoundSoFar : List ℕ → Record → Option ℕ → ℕ → Type 0
-FoundSoFar name fields found at = places_from 0 name fields ≡ listed found ++ places_from at name (drop at fields)
+FoundSoFar name fields found at = places_from 0 name fields ≡ as_list found ++ places_from at name (drop at fields)
 
 places_here : (name : List ℕ) (fields : Record) (at : ℕ) (field : List ℕ) → at < length fields → field_at fields at ≡ Some field
     → places_from at name (drop at fields) ≡ places_from at name (field ∷ drop (at + 1) fields)
@@ -26,7 +26,7 @@ places_here name fields at field within e =
 pub passed_over : (name : List ℕ) (fields : Record) (found : Option ℕ) (at : ℕ) (field : List ℕ) → at < length fields → field_at fields at ≡ Some field
     → str_eq_ignore_ascii_case field name ≡ false → FoundSoFar name fields found at → FoundSoFar name fields found (at + 1)
 passed_over name fields found at field within e differs so_far =
-    so_far ∙ ap (λ places. listed found ++ places) (places_here name fields at field within e ∙ rw differs refl)
+    so_far ∙ ap (λ places. as_list found ++ places) (places_here name fields at field within e ∙ rw differs refl)
 
 pub found_one : (name : List ℕ) (fields : Record) (found : Option ℕ) (at : ℕ) (field : List ℕ) → at < length fields → field_at fields at ≡ Some field
     → str_eq_ignore_ascii_case field name ≡ true → is_some found ≡ false → FoundSoFar name fields found at → FoundSoFar name fields (Some at) (at + 1)

@@ -23,7 +23,7 @@ use Rattle.schema_types.specs.declared.types.Kind.TheVariants as kind
 use Rattle.csv_tables.specs.declared.types.Repeat.{Repeat}
 use Rattle.csv_tables.specs.declared.types.TableError.TheVariants as error
 use Rattle.csv_tables.specs.Cells.{value_of_cell, row_of_columns, rows_of_columns, AreColumns, IsCell}
-use Rattle.csv_tables.specs.Groups.{have_same_cells, repeat_from, AreFirsts, IsFirst, IsRepeat}
+use Rattle.csv_tables.specs.FirstPlaces.{have_same_cells, repeat_from, AreFirsts, IsFirst, IsRepeat}
 use Rattle.csv_tables.specs.Keys.{are_same, first_repeat, key_values, or_rows, repeat_after, repeat_or, rows_with_keys}
 use Rattle.csv_tables.specs.Numbers.{bits_of, number_in}
 use Rattle.csv_tables.specs.Pools.{TextsAreDifferent}
@@ -103,41 +103,41 @@ place_nowhere p xs d fails =
     let test : nat_lt (length xs) (length xs) ≡ false = grind arith in
     ap (λ n. if nat_lt n (length xs) then Some n else None) (sym at) ∙ rw test refl
 
-repeats : (like : ℕ → ℕ → Bool) (all : List (List Value)) (group : List ℕ) → length group ≡ length all → AreFirsts like group
+repeats : (like : ℕ → ℕ → Bool) (all : List (List Value)) (first_places : List ℕ) → length first_places ≡ length all → AreFirsts like first_places
     → ((i j : ℕ) → i < length all → j < length all → are_same (get_or all i []) (get_or all j []) ≡ like i j)
-    → (seen rest : List (List Value)) → all ≡ seen ++ rest → repeat_after seen rest ≡ repeat_from (length seen) (drop (length seen) group)
-repeats like all group long firsts same seen [] e =
+    → (seen rest : List (List Value)) → all ≡ seen ++ rest → repeat_after seen rest ≡ repeat_from (length seen) (drop (length seen) first_places)
+repeats like all first_places long firsts same seen [] e =
     let size : length all ≡ length seen = ap length e ∙ ap length (append-nil seen) in
-    ap (repeat_from (length seen)) (sym (drop_all (length seen) group (omega (arith, long, size))))
-repeats like all group long firsts same seen (x ∷ rest) e =
+    ap (repeat_from (length seen)) (sym (drop_all (length seen) first_places (omega (arith, long, size))))
+repeats like all first_places long firsts same seen (x ∷ rest) e =
     let at = length seen in
     let size : length all ≡ length seen + suc (length rest) = ap length e ∙ length-append seen (x ∷ rest) in
-    let within : at < length group = omega (arith, long, size) in
+    let within : at < length first_places = omega (arith, long, size) in
     let inside : at < length all = omega (arith, size) in
-    let first = get_or group at 0 in
+    let first = get_or first_places at 0 in
     let known : IsFirst like at first = firsts at within in
     let this : get_or all at [] ≡ x = ap (λ l. get_or l at []) e ∙ get_or-append_seam seen x rest [] in
     let tests : (k : ℕ) → k < at → are_same x (get_or seen k []) ≡ like at k =
     λ k l.
     let there : get_or all k [] ≡ get_or seen k [] = ap (λ l. get_or l k []) e ∙ get_or-append seen (x ∷ rest) [] k l in
     ap (λ v. are_same v (get_or seen k [])) (sym this) ∙ ap (are_same (get_or all at [])) (sym there) ∙ same at k inside (omega (arith, l, inside)) in
-    let next : repeat_after (seen ++ x ∷ []) rest ≡ repeat_from (length (seen ++ x ∷ [])) (drop (length (seen ++ x ∷ [])) group) =
-    repeats like all group long firsts same (seen ++ x ∷ []) rest (e ∙ sym (append_assoc seen (x ∷ []) rest)) in
+    let next : repeat_after (seen ++ x ∷ []) rest ≡ repeat_from (length (seen ++ x ∷ [])) (drop (length (seen ++ x ∷ [])) first_places) =
+    repeats like all first_places long firsts same (seen ++ x ∷ []) rest (e ∙ sym (append_assoc seen (x ∷ []) rest)) in
     let one : length (seen ++ x ∷ []) ≡ at + 1 = length-append seen (x ∷ []) in
-    let here : drop at group ≡ first ∷ drop (at + 1) group = drop_more group at 0 within in
-    by seen x rest at first group known tests (next ∙ ap (λ n. repeat_from n (drop n group)) one) here refl
+    let here : drop at first_places ≡ first ∷ drop (at + 1) first_places = drop_more first_places at 0 within in
+    by seen x rest at first first_places known tests (next ∙ ap (λ n. repeat_from n (drop n first_places)) one) here refl
   where
-    by : (seen : List (List Value)) (x : List Value) (rest : List (List Value)) (at first : ℕ) (group : List ℕ) → IsFirst like at first
+    by : (seen : List (List Value)) (x : List Value) (rest : List (List Value)) (at first : ℕ) (first_places : List ℕ) → IsFirst like at first
         → ((k : ℕ) → k < at → are_same x (get_or seen k []) ≡ like at k)
-        → repeat_after (seen ++ x ∷ []) rest ≡ repeat_from (at + 1) (drop (at + 1) group)
-        → drop at group ≡ first ∷ drop (at + 1) group → at ≡ length seen
-        → repeat_after seen (x ∷ rest) ≡ repeat_from at (drop at group)
-    by seen x rest at first group known tests next here is = elim (cases_eq first at) [
+        → repeat_after (seen ++ x ∷ []) rest ≡ repeat_from (at + 1) (drop (at + 1) first_places)
+        → drop at first_places ≡ first ∷ drop (at + 1) first_places → at ≡ length seen
+        → repeat_after seen (x ∷ rest) ≡ repeat_from at (drop at first_places)
+    by seen x rest at first first_places known tests next here is = elim (cases_eq first at) [
       | inl same ↦
           let test : (first == at) ≡ true = grind (arith, same) in
           let none : position (are_same x) seen ≡ None = place_nowhere (are_same x) seen [] (λ k l. tests k (omega (arith, l, is)) ∙ known.least k (omega (arith, l, is, same))) in
           ap (λ o. repeat_or (repeat_after (seen ++ x ∷ []) rest) o (length seen + 1)) none ∙ next
-          ∙ sym (ap (repeat_from at) here ∙ ap (λ t. if t then repeat_from (at + 1) (drop (at + 1) group) else Some (record { later = at + 1; earlier = first + 1 })) test)
+          ∙ sym (ap (repeat_from at) here ∙ ap (λ t. if t then repeat_from (at + 1) (drop (at + 1) first_places) else Some (record { later = at + 1; earlier = first + 1 })) test)
       | inr ne ↦
           let test : (first == at) ≡ false = ne_eqb first at ne in
           let less : first < at = omega (arith, ne, known.at_most) in
@@ -145,7 +145,7 @@ repeats like all group long firsts same seen (x ∷ rest) e =
           place_there (are_same x) seen first [] (omega (arith, less, is)) (tests first less ∙ known.same) (λ k l. tests k (omega (arith, l, less)) ∙ known.least k l) in
           ap (λ o. repeat_or (repeat_after (seen ++ x ∷ []) rest) o (length seen + 1)) some
           ∙ ap (λ n. Some (record { later = n + 1; earlier = first + 1 })) (sym is)
-          ∙ sym (ap (repeat_from at) here ∙ ap (λ t. if t then repeat_from (at + 1) (drop (at + 1) group) else Some (record { later = at + 1; earlier = first + 1 })) test)
+          ∙ sym (ap (repeat_from at) here ∙ ap (λ t. if t then repeat_from (at + 1) (drop (at + 1) first_places) else Some (record { later = at + 1; earlier = first + 1 })) test)
     ]
 
 pub rows-length : (texts : List (List ℕ)) (kinds : List Kind) (columns : List (List ℕ)) (n : ℕ) → length (rows_of_columns texts kinds columns n) ≡ n
@@ -182,7 +182,7 @@ repeat_is texts different rows kinds columns h key there found is =
     let size : length all ≡ rows = map-length (key_values key) stated ∙ rows-length texts kinds columns rows in
     let at : (i : ℕ) → i < length all → get_or all i [] ≡ key_values key (row_of_columns texts kinds columns i) =
     λ i l. map-at (key_values key) stated i [] (omega (arith, l, size, rows-length texts kinds columns rows)) ∙ ap (key_values key) (rows-at texts kinds columns rows i [] (omega (arith, l, size))) in
-    repeats (have_same_cells columns key) all is.group (is.long ∙ sym size) is.firsts
+    repeats (have_same_cells columns key) all is.first_places (is.long ∙ sym size) is.firsts
     (λ i j l m. ap (λ v. are_same v (get_or all j [])) (at i l) ∙ ap (are_same (key_values key (row_of_columns texts kinds columns i))) (at j m)
     ∙ same_values texts different rows i j kinds columns (omega (arith, l, size)) (omega (arith, m, size)) h key there)
     [] all refl

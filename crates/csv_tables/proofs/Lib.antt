@@ -11,7 +11,7 @@ pub mod GrowFacts
 pub mod RowFacts
 pub mod FieldFacts
 pub mod TableFacts
-pub mod GroupFacts
+pub mod FirstPlaceFacts
 pub mod AscendFacts
 pub mod KeyFacts
 pub mod FileFacts

@@ -3,18 +3,18 @@ use Rattle.std.proofs.Common.{ℕ, ◌≡◌, ◌+◌, ◌-◌, ◌*◌, ◌^◌
 use Rattle.std.proofs.Math.Nat.{pow-le-pow_right}
 use Rattle.std.proofs.lemmas.Grind.{pow_more}
 use Rattle.std.specs.Prelude.{nat_le}
-use Rattle.csv_tables.specs.Numbers.{decimal_after, is_numeral, size_of}
+use Rattle.csv_tables.specs.Numbers.{decimal_after, is_numeral, magnitude_of}
 
 pub decimal_after-grows : (n : ℕ) (digits : List ℕ) → n ≤ decimal_after n digits
 decimal_after-grows n [] = omega arith
 decimal_after-grows n (c ∷ cs) = omega (arith, decimal_after-grows (n * 10 + (c - 48)) cs)
 
-pub too_large_by : (most : ℕ) (digits : List ℕ) (test : Bool) → is_numeral digits ≡ test → most < decimal_after 0 digits → size_of most digits ≡ None
+pub too_large_by : (most : ℕ) (digits : List ℕ) (test : Bool) → is_numeral digits ≡ test → most < decimal_after 0 digits → magnitude_of most digits ≡ None
 too_large_by most digits true e large = let above : nat_le (decimal_after 0 digits) most ≡ false = grind (arith, large) in rw (e, above) refl
 too_large_by most digits false e large = rw e refl
 
 -- more digits make no smaller number, so reading stops as soon as the number is above `most`
-pub too_large : (most : ℕ) (digits : List ℕ) (size c : ℕ) (rest : List ℕ) → decimal_after 0 digits ≡ decimal_after size (c ∷ rest) → most < size * 10 + (c - 48) → size_of most digits ≡ None
+pub too_large : (most : ℕ) (digits : List ℕ) (size c : ℕ) (rest : List ℕ) → decimal_after 0 digits ≡ decimal_after size (c ∷ rest) → most < size * 10 + (c - 48) → magnitude_of most digits ≡ None
 too_large most digits size c rest e large =
     let grows = decimal_after-grows (size * 10 + (c - 48)) rest in
     let more : most < decimal_after 0 digits = omega (arith, e, grows, large) in

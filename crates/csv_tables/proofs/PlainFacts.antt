@@ -6,14 +6,14 @@ use Rattle.std.proofs.lemmas.Bool.{and_parts, cases_lt, eq-eqb, eqb-false, eqb-t
 use Rattle.csv.specs.Reading.{strip_bom}
 use Rattle.schema_types.specs.declared.types.Column.{Column}
 use Rattle.plain_records.specs.Plain.{after_line, ends_line, first_record, has_quote, is_quote, plain_records}
-use Rattle.plain_records.proofs.PlaceFacts.{no_more_records, one_record}
+use Rattle.plain_records.proofs.OffsetFacts.{no_more_records, one_record}
 use Rattle.plain_records.proofs.RecordFacts.{plain_is}
 use Rattle.csv_tables.specs.declared.types.TableError.{TableError}
 use Rattle.csv_tables.specs.Cells.{rows_of_columns}
 use Rattle.csv_tables.specs.Fields.{IsBehind}
 use Rattle.csv_tables.specs.Reads.{kinds_of}
 use Rattle.csv_tables.specs.Records.{records_of, Record}
-use Rattle.csv_tables.specs.Refused.{Refuses}
+use Rattle.csv_tables.specs.Refused.{IsRefusalOrNoMemory}
 use Rattle.csv_tables.specs.Rows.{row_of_record, rows_of_records}
 use Rattle.csv_tables.proofs.FileFacts.{refuses_so}
 use Rattle.csv_tables.proofs.StepFacts.{read_refused}
@@ -114,11 +114,11 @@ row_behind bytes at next after l stands b same =
     one_record bytes at l stands ∙ ap (λ rest. first_record (drop at bytes) ∷ rest) (sym (ap plain_records b.rest) ∙ same)
 
 -- a record that is refused
-pub rows_refused : (columns : List Column) (places : List ℕ) (width : ℕ) (records left after : List Record) (fields : Record) (old texts found : List (List ℕ)) (rows : ℕ) (e : TableError)
-    → RowsSoFar columns places width records left old texts found rows → left ≡ fields ∷ after → Refuses (row_of_record columns places width (rows + 1) fields) e
-    → Refuses (rows_of_records columns places width 1 records) e
-rows_refused columns places width records left after fields old texts found rows e so_far is refused =
+pub rows_refused : (columns : List Column) (places : List ℕ) (width : ℕ) (records remaining after : List Record) (fields : Record) (old texts found : List (List ℕ)) (rows : ℕ) (e : TableError)
+    → RowsSoFar columns places width records remaining old texts found rows → remaining ≡ fields ∷ after → IsRefusalOrNoMemory (row_of_record columns places width (rows + 1) fields) e
+    → IsRefusalOrNoMemory (rows_of_records columns places width 1 records) e
+rows_refused columns places width records remaining after fields old texts found rows e so_far is refused =
     refuses_so (row_of_record columns places width (rows + 1) fields) (rows_of_records columns places width 1 records)
-    (λ x bad. read_refused (rows_of_records columns places width 1 records) (rows_of_columns texts (kinds_of columns) found rows) (rows_of_records columns places width (rows + 1) left)
+    (λ x bad. read_refused (rows_of_records columns places width 1 records) (rows_of_columns texts (kinds_of columns) found rows) (rows_of_records columns places width (rows + 1) remaining)
     (row_of_record columns places width (rows + 1) fields) x (rows_of_records columns places width (rows + 1 + 1) after) so_far.read
     (ap (rows_of_records columns places width (rows + 1)) is) bad) e refused

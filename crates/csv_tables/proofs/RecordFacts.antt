@@ -12,33 +12,33 @@ use Rattle.csv.specs.declared.parser.Terminator.TheVariants as term
 use Rattle.csv.specs.declared.parser.State.TheVariants as st
 
 -- if a step ends a record, no record is begun in the state after it, so the end of the text ends no record there
-record Closes (r : State × Action) : Type 0 where
+record EndsCleanly (r : State × Action) : Type 0 where
   closes : is_end r.1 ≡ true → ends_at_end r.0 ≡ false
 
-pick : (b : Bool) (x y : State × Action) → Closes x → Closes y → Closes (if b then x else y)
+pick : (b : Bool) (x y : State × Action) → EndsCleanly x → EndsCleanly y → EndsCleanly (if b then x else y)
 pick true x y p q = p
 pick false x y p q = q
 
-goes_on : (s : State) (a : Action) → is_end a ≡ false → Closes (s, a)
+goes_on : (s : State) (a : Action) → is_end a ≡ false → EndsCleanly (s, a)
 goes_on s a e = record { closes = λ h. absurd (cc) }
 
 after_end_closes : (t : Terminator) (c : ℕ) → ends_at_end (after_end t c) ≡ false
 after_end_closes term.CRLF c = elim (c == carriage_return) as (λ v. ends_at_end (if v then st.AfterCr else st.StartRecord) ≡ false) [ true ↦ refl | false ↦ refl ]
 after_end_closes (term.Any t) c = refl
 
-in_field_closes : (cfg : Config) (c : ℕ) → Closes (in_field cfg c)
+in_field_closes : (cfg : Config) (c : ℕ) → EndsCleanly (in_field cfg c)
 in_field_closes cfg c =
     pick (c == cfg.delimiter) _ _ (goes_on _ _ refl)
     (pick (ends_with cfg.terminator c) _ _ (record { closes = λ e. after_end_closes cfg.terminator c }) (goes_on _ _ refl))
 
-start_field_closes : (cfg : Config) (c : ℕ) → Closes (start_field cfg c)
+start_field_closes : (cfg : Config) (c : ℕ) → EndsCleanly (start_field cfg c)
 start_field_closes cfg c = pick (cfg.quoting && (c == cfg.quote)) _ _ (goes_on _ _ refl) (in_field_closes cfg c)
 
-start_record_closes : (cfg : Config) (c : ℕ) → Closes (start_record cfg c)
+start_record_closes : (cfg : Config) (c : ℕ) → EndsCleanly (start_record cfg c)
 start_record_closes cfg c =
     pick (ends_with cfg.terminator c) _ _ (goes_on _ _ refl) (pick (is_byte cfg.comment c) _ _ (goes_on _ _ refl) (start_field_closes cfg c))
 
-step_closes : (cfg : Config) (s : State) (c : ℕ) → Closes (step cfg s c)
+step_closes : (cfg : Config) (s : State) (c : ℕ) → EndsCleanly (step cfg s c)
 step_closes cfg st.StartRecord c = start_record_closes cfg c
 step_closes cfg st.StartField c = start_field_closes cfg c
 step_closes cfg st.InField c = in_field_closes cfg c
@@ -54,12 +54,12 @@ from_if true q p x e = inl (refl, cc)
 from_if false q p x e = inr (refl, e)
 
 -- a record takes at least one byte, unless it is begun and the text is at its end
-record Takes (s : State) (xs : List ℕ) (p : Read) : Type 0 where
+record TakesAByte (s : State) (xs : List ℕ) (p : Read) : Type 0 where
   pub closed : ends_at_end p.1 ≡ false
   pub less : ends_at_end s ≡ false → length p.2 < length xs
   pub no_more : length p.2 ≤ length xs
 
-next_takes : (cfg : Config) (s : State) (fields : List (List ℕ)) (field xs : List ℕ) (p : Read) → next_record cfg s fields field xs ≡ Some p → Takes s xs p
+next_takes : (cfg : Config) (s : State) (fields : List (List ℕ)) (field xs : List ℕ) (p : Read) → next_record cfg s fields field xs ≡ Some p → TakesAByte s xs p
 unfolding next_record
 next_takes cfg s fields field [] p e =
     elim (from_if (ends_at_end s) _ p None e) [

@@ -3,9 +3,9 @@ use Rattle.std.proofs.Common.{◌≡◌, ℕ, ◌+◌, ◌-◌, ◌<◌, ◌≤�
 use Rattle.std.specs.Prelude.{All, IfSome, IsUtf8, Some}
 use Rattle.std.proofs.lemmas.List.{append-nil, drop_min, length-map, length-take-le, map-append, take_all, take_more_set, length-set}
 use Rattle.std.proofs.lemmas.List.Elements.{All-nil, All-push}
-use Rattle.plain_records.specs.Plain.{after_line, ends_line, first_field, first_record, front, is_comma}
+use Rattle.plain_records.specs.Plain.{after_line, ends_line, first_field, first_record, before_first, is_comma}
 use Rattle.plain_records.proofs.LineFacts.{split_first}
-use Rattle.plain_records.proofs.PlaceFacts.{line_ends, line_goes_on, text_behind, text_of_field, text_past_field}
+use Rattle.plain_records.proofs.OffsetFacts.{line_ends, line_goes_on, text_behind, text_of_field, text_past_field}
 use Rattle.csv_tables.specs.declared.fields.Field.{Field}
 use Rattle.csv_tables.specs.Fields.{record_of, text_of, IsFieldAt, IsSpan, ReadsRecord}
 use Rattle.csv_tables.specs.Numbers.{number_of}
@@ -93,7 +93,7 @@ last_field bytes start at place fields field s text f e within last =
     }
 
 some_field : (bytes : List ℕ) → 0 < length (first_record bytes)
-some_field bytes = rw (split_first is_comma (front ends_line bytes)) (omega arith)
+some_field bytes = rw (split_first is_comma (before_first ends_line bytes)) (omega arith)
 
 -- if `place` fields were read and the record goes on, the record has further fields
 pub more_fields : (bytes : List ℕ) (start at place : ℕ) (fields : List Field) → FieldsSoFar bytes start at place fields → place ≤ length fields → place < length (first_record (drop start bytes))

@@ -89,9 +89,9 @@ rows_of_columns-more texts rows kinds columns row cells h c =
     (rows-alike texts texts kinds columns (add_row columns cells) rows (λ at l. add_row-before texts rows at kinds columns row cells l h c))
     ∙ ap (λ r. rows_of_columns texts kinds columns rows ++ r ∷ []) (add_row-last texts rows kinds columns row cells h c)
 
--- `rows` records are read into the columns `found`, the records in `left` remain, and the pool has grown from `old` to `texts`
-pub record RowsSoFar (columns : List Column) (places : List ℕ) (width : ℕ) (records left : List Record) (old texts found : List (List ℕ)) (rows : ℕ) : Type 0 where
-  pub read : ReadTo (rows_of_records columns places width 1 records) (rows_of_columns texts (kinds_of columns) found rows) (rows_of_records columns places width (rows + 1) left)
+-- `rows` records are read into the columns `found`, the records in `remaining` remain, and the pool has grown from `old` to `texts`
+pub record RowsSoFar (columns : List Column) (places : List ℕ) (width : ℕ) (records remaining : List Record) (old texts found : List (List ℕ)) (rows : ℕ) : Type 0 where
+  pub read : ReadTo (rows_of_records columns places width 1 records) (rows_of_columns texts (kinds_of columns) found rows) (rows_of_records columns places width (rows + 1) remaining)
   pub are : AreColumns texts rows (kinds_of columns) found
   pub begins : PoolBeginsWith old texts
   pub few : length texts ≤ length old + 64 * rows
@@ -107,12 +107,12 @@ rows_none columns places width records texts found e = record {
   limit = omega arith;
 }
 
-pub rows_more : (columns : List Column) (places : List ℕ) (width : ℕ) (records left after : List Record) (fields : Record) (old texts new found : List (List ℕ)) (rows : ℕ) (cells : List ℕ)
-    → RowsSoFar columns places width records left old texts found rows → left ≡ fields ∷ after
+pub rows_more : (columns : List Column) (places : List ℕ) (width : ℕ) (records remaining after : List Record) (fields : Record) (old texts new found : List (List ℕ)) (rows : ℕ) (cells : List ℕ)
+    → RowsSoFar columns places width records remaining old texts found rows → remaining ≡ fields ∷ after
     → HoldsRow (row_of_record columns places width (rows + 1) fields) new (kinds_of columns) cells
     → PoolBeginsWith texts new → length new ≤ length texts + 64 → rows + 1 ≤ 4000000
     → RowsSoFar columns places width records after old new (add_row found cells) (rows + 1)
-rows_more columns places width records left after fields old texts new found rows cells so_far e row grew few limit =
+rows_more columns places width records remaining after fields old texts new found rows cells so_far e row grew few limit =
     let kinds = kinds_of columns in
     let there = columns-grown texts new rows kinds found grew so_far.are in
     let same : rows_of_columns new kinds (add_row found cells) (rows + 1) ≡ rows_of_columns texts kinds found rows ++ row.row ∷ [] =

@@ -1,7 +1,7 @@
 -- The fields of a record, in bytes without a quotation mark. `start`, `first`, `end` and `next` are byte offsets.
 use Rattle.std.specs.Prelude.{ℕ, ◌≡◌, ◌-◌, ◌^◌, ◌<◌, ◌≤◌, List, drop, length, map, take, All, IfSome, IsUtf8, Some, true}
 use Rattle.std.specs.Str.{all_ascii_digits}
-use Rattle.plain_records.specs.Places.{FieldSoFar, IsField}
+use Rattle.plain_records.specs.Offsets.{FieldSoFar, IsField}
 use Rattle.plain_records.specs.Plain.{after_line, first_field, first_record}
 use Rattle.csv_tables.specs.declared.fields.Field.{Field}
 use Rattle.csv_tables.specs.Numbers.{decimal_after, number_of}

@@ -1,7 +1,7 @@
 pub mod Cells
 pub mod Fields
 pub mod Files
-pub mod Groups
+pub mod FirstPlaces
 pub mod Header
 pub mod Keys
 pub mod Numbers

@@ -24,8 +24,8 @@ decimal_after n [] = n
 decimal_after n (c ∷ cs) = decimal_after (n * 10 + (c - 48)) cs
 
 -- the number that these bytes spell, if they are digits and the number is at most `most`
-abbrev pub size_of : ℕ → List ℕ → Option ℕ
-size_of most digits =
+abbrev pub magnitude_of : ℕ → List ℕ → Option ℕ
+magnitude_of most digits =
     if is_numeral digits && nat_le (decimal_after 0 digits) most then Some (decimal_after 0 digits) else None
 
 -- the greatest magnitude of a signed number of 64 bits: `true` for numbers below 0, `false` for the others
@@ -40,7 +40,7 @@ signed false size = pos size
 
 -- the number that a field spells: an optional sign, then digits, in the signed range of 64 bits
 abbrev pub number_of : List ℕ → Option ℤ
-number_of field = option_map (signed (is_minus field)) (size_of (greatest_magnitude (is_minus field)) (without_sign field))
+number_of field = option_map (signed (is_minus field)) (magnitude_of (greatest_magnitude (is_minus field)) (without_sign field))
 
 -- the cell of a number: its 64 bits in two's complement
 abbrev pub bits_of : ℤ → ℕ

@@ -32,8 +32,8 @@ records_in state None = []
 records_in state (Some bytes) = records_from default_config (length bytes + 1) state bytes
 
 -- the records that a reader has yet to give
-abbrev pub left : Source → List Record
-left reader = records_in (reader_state reader) (unread reader)
+abbrev pub remaining : Source → List Record
+remaining reader = records_in (reader_state reader) (unread reader)
 
 -- the reader is between two records, has at most 64 MiB of text left, and gives each field untrimmed
 pub record IsReading (reader : Source) : Type 0 where

@@ -4,11 +4,11 @@ use Rattle.csv_tables.specs.declared.types.TableError.{TableError}
 use Rattle.csv_tables.specs.declared.types.TableError.TheVariants as error
 
 -- the error is too little memory, or exactly the refusal that the specification gives
-abbrev pub Refuses : {A : Type 0} → Result A TableError → TableError → Type 0
-Refuses stated error.NoMemory = ⊤
-Refuses stated (error.Utf8 at) = stated ≡ Err (error.Utf8 at)
-Refuses stated (error.Header column) = stated ≡ Err (error.Header column)
-Refuses stated (error.Width row found) = stated ≡ Err (error.Width row found)
-Refuses stated (error.Field row column) = stated ≡ Err (error.Field row column)
-Refuses stated (error.Key row earlier) = stated ≡ Err (error.Key row earlier)
-Refuses stated (error.Limit found) = stated ≡ Err (error.Limit found)
+abbrev pub IsRefusalOrNoMemory : {A : Type 0} → Result A TableError → TableError → Type 0
+IsRefusalOrNoMemory stated error.NoMemory = ⊤
+IsRefusalOrNoMemory stated (error.Utf8 at) = stated ≡ Err (error.Utf8 at)
+IsRefusalOrNoMemory stated (error.Header column) = stated ≡ Err (error.Header column)
+IsRefusalOrNoMemory stated (error.Width row found) = stated ≡ Err (error.Width row found)
+IsRefusalOrNoMemory stated (error.Field row column) = stated ≡ Err (error.Field row column)
+IsRefusalOrNoMemory stated (error.Key row earlier) = stated ≡ Err (error.Key row earlier)
+IsRefusalOrNoMemory stated (error.Limit found) = stated ≡ Err (error.Limit found)

@@ -1,6 +1,6 @@
 //! Reads the fields of a record one after another, from bytes without a quotation mark.
 ghost use Rattle.std.specs.Prelude.{◌≡◌, ◌+◌, ◌<◌, ◌≤◌, ◌≢◌, ◌^◌, [], drop, false, length, neg_ℤ, option_map, pos, slice_index, true, IfSome, IsUtf8, MatchOption};
-ghost use Rattle.plain_records.specs.Places.{FieldSoFar, IsField};
+ghost use Rattle.plain_records.specs.Offsets.{FieldSoFar, IsField};
 ghost use Rattle.plain_records.specs.Plain.{first_field, first_record, is_comma as stops_comma};
 ghost use Rattle.csv_tables.specs.Fields.{DigitsSoFar, IsFieldAt, IsShort, ReadsRecord};
 
@@ -62,32 +62,32 @@ fn is_at_end(bytes: &[u8], place: usize) -> bool
 
 // The end of a field, and the number that its digits spell, if that number is known.
 #[derive(Clone, Copy)]
-struct Sized {
+struct UnsignedField {
     size: Option<u64>,
     end: usize,
 }
 
 // Reads the rest of the field that begins at `start`, from the offset `first` on. The number is known if this rest is one to eighteen digits.
 #[inline]
-fn read_size(bytes: &[u8], start: usize, first: usize) -> Sized
+fn read_unsigned(bytes: &[u8], start: usize, first: usize) -> UnsignedField
     requires { FieldSoFar bytes.now start first }
     ensures field { IsField bytes.now start result.end }
     ensures size { IfSome result.size (IsShort (first_field (drop first bytes.now))) }
 {
     let digits = read_digits(bytes, first);
     if digits.end == first {
-        return Sized {
+        return UnsignedField {
             size: None,
             end: field_end(bytes, start, first),
         };
     }
     if !is_at_end(bytes, digits.end) {
-        return Sized {
+        return UnsignedField {
             size: None,
             end: field_end(bytes, start, digits.end),
         };
     }
-    Sized {
+    UnsignedField {
         size: Some(digits.size),
         end: digits.end,
     }
@@ -130,14 +130,14 @@ fn read_number(bytes: &[u8], start: usize) -> Field
     ensures { IsFieldAt bytes.now start result }
 {
     if is_minus(bytes, start) {
-        let sized = read_size(bytes, start, start + 1);
+        let sized = read_unsigned(bytes, start, start + 1);
         Field {
             start,
             end: sized.end,
             number: below_zero(sized.size),
         }
     } else {
-        let sized = read_size(bytes, start, start);
+        let sized = read_unsigned(bytes, start, start);
         Field {
             start,
             end: sized.end,

@@ -3,7 +3,7 @@ ghost use Rattle.std.specs.Prelude.{◌≡◌, ◌<◌, ◌≤◌, All, Err, IfE
 ghost use Rattle.std.specs.Str.{str_eq_ignore_ascii_case};
 ghost use Rattle.csv.specs.Records.{fields_of};
 ghost use Rattle.csv_tables.specs.Header.{column_place as named_place, column_places};
-ghost use Rattle.csv_tables.specs.Refused.{Refuses};
+ghost use Rattle.csv_tables.specs.Refused.{IsRefusalOrNoMemory};
 
 use crate::TableError;
 use csv::ByteRecord;
@@ -47,7 +47,7 @@ pub(crate) fn places_of(
     requires { length columns.now ≤ 64 }
     ensures ok { IfOk result (λ places. column_places 0 columns.now (fields_of header.now) ≡ Ok places.items) }
     ensures long { IfOk result (λ places. length places.items ≡ length columns.now) }
-    ensures refused { IfErr result (Refuses (column_places 0 columns.now (fields_of header.now))) }
+    ensures refused { IfErr result (IsRefusalOrNoMemory (column_places 0 columns.now (fields_of header.now))) }
 {
     let mut places = Vec::new(alloc);
     'columns: for (number, column) in columns.iter().enumerate() {

@@ -4,10 +4,10 @@ ghost use Rattle.std.specs.HashMap.{get};
 ghost use Rattle.limits.specs.Profile.{most_rows};
 ghost use Rattle.schema_types.specs.Validity.{IsValidTable};
 ghost use Rattle.csv_tables.specs.Cells.{rows_of_columns, AreColumns};
-ghost use Rattle.csv_tables.specs.Groups.{are_alike, have_same_cells, repeat_from, same_pair, AreFirsts, IsRepeat};
+ghost use Rattle.csv_tables.specs.FirstPlaces.{are_alike, have_same_cells, repeat_from, same_pair, AreFirsts, IsRepeat};
 ghost use Rattle.csv_tables.specs.Keys.{rows_with_keys};
 ghost use Rattle.csv_tables.specs.Reads.{kinds_of};
-ghost use Rattle.csv_tables.specs.Refused.{Refuses};
+ghost use Rattle.csv_tables.specs.Refused.{IsRefusalOrNoMemory};
 
 use crate::TableError;
 use crate::pool::Pool;
@@ -18,7 +18,11 @@ use std::alloc::Global;
 use std::collections::HashMap;
 
 // The row index that `seen` has for `pair`. If `seen` doesn't have the pair yet, it gets the pair with the index `at`, which is then the result.
-fn first_of(seen: &mut HashMap<(u32, u64), u32>, pair: (u32, u64), at: u32) -> Result<u32, NoMemory>
+fn first_or_insert(
+    seen: &mut HashMap<(u32, u64), u32>,
+    pair: (u32, u64),
+    at: u32,
+) -> Result<u32, NoMemory>
     ensures first { IfOk result (λ first. first ≡ unwrap_or (get same_pair seen.old pair) at) }
     ensures kept { IfOk result (λ first. (q : ℕ × ℕ)
         → get same_pair seen.new q ≡ (if same_pair pair q then Some first else get same_pair seen.old q)) }
@@ -30,27 +34,27 @@ fn first_of(seen: &mut HashMap<(u32, u64), u32>, pair: (u32, u64), at: u32) -> R
     Ok(at)
 }
 
-// Before, `group` has a number for each row. Afterwards it has for each row the index of the first row with the same number and the same cell.
-fn number_pairs(alloc: Global, group: &mut [u32], cells: &[u64]) -> Result<(), NoMemory>
-    requires long { length group.old ≡ length cells.now }
+// Before, `first_places` has a number for each row. Afterwards it has for each row the index of the first row with the same number and the same cell.
+fn number_pairs(alloc: Global, first_places: &mut [u32], cells: &[u64]) -> Result<(), NoMemory>
+    requires long { length first_places.old ≡ length cells.now }
     requires few { length cells.now ≤ most_rows }
-    ensures { OnOk result (AreFirsts (are_alike group.old cells.now) group.new) }
+    ensures { OnOk result (AreFirsts (are_alike first_places.old cells.now) first_places.new) }
 {
     let mut seen = HashMap::new(alloc);
     'rows: for (at, cell) in cells.iter().enumerate() {
-        let pair = (group[at], *cell);
-        group[at] = first_of(&mut seen, pair, at as u32)?;
+        let pair = (first_places[at], *cell);
+        first_places[at] = first_or_insert(&mut seen, pair, at as u32)?;
     }
     Ok(())
 }
 
 // The first row whose number isn't its own index, and the row that this number names. Both are given as numbers of records, counted from 1.
-fn repeat_in(group: &[u32]) -> Option<Repeat>
-    requires few { length group.now ≤ most_rows }
-    requires below { (i : ℕ) → i < length group.now → slice_index group.now i ≤ i }
-    ensures { result ≡ repeat_from 0 group.now }
+fn repeat_in(first_places: &[u32]) -> Option<Repeat>
+    requires few { length first_places.now ≤ most_rows }
+    requires below { (i : ℕ) → i < length first_places.now → slice_index first_places.now i ≤ i }
+    ensures { result ≡ repeat_from 0 first_places.now }
 {
-    'rows: for (at, first) in group.iter().enumerate() {
+    'rows: for (at, first) in first_places.iter().enumerate() {
         if *first as usize != at {
             return Some(Repeat {
                 later: at as u32 + 1,
@@ -103,11 +107,15 @@ fn repeat_of_key(
     if has_ascending(key, columns, rows) {
         return Ok(None);
     }
-    let mut group = vec![in alloc; 0u32; rows as usize]?;
+    let mut first_places = vec![in alloc; 0u32; rows as usize]?;
     'columns: for column in key {
-        number_pairs(alloc, &mut group, columns[*column as usize].as_slice())?;
+        number_pairs(
+            alloc,
+            &mut first_places,
+            columns[*column as usize].as_slice(),
+        )?;
     }
-    Ok(repeat_in(&group))
+    Ok(repeat_in(&first_places))
 }
 
 /// Checks that no two rows have the same values in a key. It refuses the first key, in declared order, that has a repeat.
@@ -124,7 +132,7 @@ pub(crate) fn check_keys(
     ensures ok { let stated = rows_of_columns pool.now (kinds_of table.now.columns) columns.now rows
         in OnOk result (rows_with_keys table.now.keys stated ≡ Ok stated) }
     ensures refused { let stated = rows_of_columns pool.now (kinds_of table.now.columns) columns.now rows
-        in IfErr result (Refuses (rows_with_keys table.now.keys stated)) }
+        in IfErr result (IsRefusalOrNoMemory (rows_with_keys table.now.keys stated)) }
 {
     // The contract of `len` says that the pool's texts are different, so equal values have equal cells.
     let _count = pool.len();

@@ -1,6 +1,6 @@
 //! Reads the number that a field spells.
 ghost use Rattle.std.specs.Prelude.{◌≡◌, ◌<◌, ◌≤◌, ◌^◌, false, length, option_map, true};
-ghost use Rattle.csv_tables.specs.Numbers.{greatest_magnitude, number_of as spelled, signed, size_of as spelled_size};
+ghost use Rattle.csv_tables.specs.Numbers.{greatest_magnitude, number_of as spelled, signed, magnitude_of as spelled_size};
 
 // This many digits spell a number below 10^18, so no step has to test for overflow.
 const SHORT: usize = 18;
@@ -46,7 +46,7 @@ fn long_size(digits: &[u8], most: u64) -> Option<u64>
 }
 
 // The number that digits spell. It is None if there are no bytes, if a byte isn't a digit, or if the number is above `most`.
-fn size_of(digits: &[u8], most: u64) -> Option<u64>
+fn magnitude_of(digits: &[u8], most: u64) -> Option<u64>
     requires { most ≤ 2 ^ 63 }
     ensures { result ≡ spelled_size most digits.now }
 {
@@ -64,7 +64,7 @@ fn size_of(digits: &[u8], most: u64) -> Option<u64>
 fn at_least_zero(digits: &[u8]) -> Option<i64>
     ensures { result ≡ option_map (signed false) (spelled_size (greatest_magnitude false) digits.now) }
 {
-    let size = size_of(digits, (1 << 63) - 1)?;
+    let size = magnitude_of(digits, (1 << 63) - 1)?;
     Some(size as i64)
 }
 
@@ -72,7 +72,7 @@ fn at_least_zero(digits: &[u8]) -> Option<i64>
 fn at_most_zero(digits: &[u8]) -> Option<i64>
     ensures { result ≡ option_map (signed true) (spelled_size (greatest_magnitude true) digits.now) }
 {
-    let size = size_of(digits, 1 << 63)?;
+    let size = magnitude_of(digits, 1 << 63)?;
     Some((-(size as i128)) as i64)
 }
 

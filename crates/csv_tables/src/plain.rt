@@ -8,7 +8,7 @@ ghost use Rattle.csv_tables.specs.Fields.{record_of, text_of, IsBehind, IsSpan};
 ghost use Rattle.csv_tables.specs.Pools.{PoolBeginsWith};
 ghost use Rattle.csv_tables.specs.Reads.{kinds_of, HoldsColumns, HoldsRow};
 ghost use Rattle.csv_tables.specs.Records.{Record};
-ghost use Rattle.csv_tables.specs.Refused.{Refuses};
+ghost use Rattle.csv_tables.specs.Refused.{IsRefusalOrNoMemory};
 ghost use Rattle.csv_tables.specs.Rows.{row_of_record, rows_of_records, values_of_record};
 ghost use Rattle.csv_tables.specs.Values.{value_of_field};
 
@@ -109,7 +109,7 @@ fn read_values(
     requires room { length pool.old + 64 < 4294967295 }
     ensures ok { OnOk result
         (HoldsRow (values_of_record number 0 columns.now places.now (record_of bytes.now fields.now)) pool.new (kinds_of columns.now) cells.new.items) }
-    ensures refused { IfErr result (Refuses (values_of_record number 0 columns.now places.now (record_of bytes.now fields.now))) }
+    ensures refused { IfErr result (IsRefusalOrNoMemory (values_of_record number 0 columns.now places.now (record_of bytes.now fields.now))) }
     ensures begins { PoolBeginsWith pool.old pool.new }
     ensures few { length pool.new ≤ length pool.old + length columns.now }
 {
@@ -149,7 +149,7 @@ fn read_record_at(
     ensures ok { IfOk result (λ _. HoldsRow (row_of_record columns.now places.now (length numbers.now) number (first_record (drop start bytes.now)))
         pool.new (kinds_of columns.now) cells.new.items) }
     ensures next { IfOk result (IsBehind bytes.now start) }
-    ensures refused { IfErr result (Refuses (row_of_record columns.now places.now (length numbers.now) number (first_record (drop start bytes.now)))) }
+    ensures refused { IfErr result (IsRefusalOrNoMemory (row_of_record columns.now places.now (length numbers.now) number (first_record (drop start bytes.now)))) }
     ensures begins { PoolBeginsWith pool.old pool.new }
     ensures few { number ≤ most_rows → length pool.new ≤ length pool.old + 64 }
     ensures past { most_rows < number → pool.new ≡ pool.old }
@@ -241,7 +241,7 @@ pub(crate) fn read_plain_rows(
         (λ found. HoldsColumns (rows_of_records columns.now places.now width 1 (plain_records (drop start bytes.now))) pool.new
         (kinds_of columns.now) found.0.items found.1) }
     ensures limit { IfOk result (λ found. found.1 ≤ most_rows) }
-    ensures refused { IfErr result (Refuses (rows_of_records columns.now places.now width 1 (plain_records (drop start bytes.now)))) }
+    ensures refused { IfErr result (IsRefusalOrNoMemory (rows_of_records columns.now places.now width 1 (plain_records (drop start bytes.now)))) }
     ensures begins { PoolBeginsWith pool.old pool.new }
     ensures few { length pool.new ≤ length pool.old + 256000000 }
 {

@@ -5,8 +5,8 @@ ghost use Rattle.limits.specs.Profile.{most_rows};
 ghost use Rattle.csv.specs.Records.{fields_of, AllText};
 ghost use Rattle.csv_tables.specs.Cells.{value_of_cell, IsCell};
 ghost use Rattle.csv_tables.specs.Pools.{PoolBeginsWith};
-ghost use Rattle.csv_tables.specs.Records.{left, IsReading};
-ghost use Rattle.csv_tables.specs.Refused.{Refuses};
+ghost use Rattle.csv_tables.specs.Records.{remaining, IsReading};
+ghost use Rattle.csv_tables.specs.Refused.{IsRefusalOrNoMemory};
 ghost use Rattle.csv_tables.specs.Rows.{row_of_record, rows_of_records, values_of_record};
 ghost use Rattle.csv_tables.specs.Values.{value_of_field};
 ghost use Rattle.csv_tables.specs.Reads.{add_row, kinds_of, HoldsColumns, HoldsRow};
@@ -95,7 +95,7 @@ fn read_row(
     requires room { length pool.old + 64 < 4294967295 }
     ensures ok { OnOk result
         (HoldsRow (values_of_record number 0 columns.now places.now (fields_of row.now)) pool.new (kinds_of columns.now) cells.new.items) }
-    ensures refused { IfErr result (Refuses (values_of_record number 0 columns.now places.now (fields_of row.now))) }
+    ensures refused { IfErr result (IsRefusalOrNoMemory (values_of_record number 0 columns.now places.now (fields_of row.now))) }
     ensures begins { PoolBeginsWith pool.old pool.new }
     ensures few { length pool.new ≤ length pool.old + length columns.now }
 {
@@ -140,7 +140,7 @@ fn read_record(
     requires room { length pool.old + 64 < 4294967295 }
     ensures ok { OnOk result
         (HoldsRow (row_of_record columns.now places.now width number (fields_of row.now)) pool.new (kinds_of columns.now) cells.new.items) }
-    ensures refused { IfErr result (Refuses (row_of_record columns.now places.now width number (fields_of row.now))) }
+    ensures refused { IfErr result (IsRefusalOrNoMemory (row_of_record columns.now places.now width number (fields_of row.now))) }
     ensures begins { PoolBeginsWith pool.old pool.new }
     ensures few { number ≤ most_rows → length pool.new ≤ length pool.old + 64 }
     ensures past { most_rows < number → pool.new ≡ pool.old }
@@ -186,10 +186,10 @@ pub(crate) fn read_rows(
     requires columns { length columns.now ≤ 64 }
     requires room { length pool.old ≤ 4000000000 }
     ensures ok { IfOk result
-        (λ found. HoldsColumns (rows_of_records columns.now places.now width 1 (left reader.old)) pool.new
+        (λ found. HoldsColumns (rows_of_records columns.now places.now width 1 (remaining reader.old)) pool.new
         (kinds_of columns.now) found.0.items found.1) }
     ensures limit { IfOk result (λ found. found.1 ≤ most_rows) }
-    ensures refused { IfErr result (Refuses (rows_of_records columns.now places.now width 1 (left reader.old))) }
+    ensures refused { IfErr result (IsRefusalOrNoMemory (rows_of_records columns.now places.now width 1 (remaining reader.old))) }
     ensures begins { PoolBeginsWith pool.old pool.new }
     ensures few { length pool.new ≤ length pool.old + 256000000 }
 {

@@ -12,7 +12,7 @@ ghost use Rattle.csv_tables.specs.Files.{rows_of_file, rows_under_header};
 ghost use Rattle.csv_tables.specs.Pools.{PoolBeginsWith};
 ghost use Rattle.csv_tables.specs.Reads.{kinds_of, HoldsColumns};
 ghost use Rattle.csv_tables.specs.Records.{records_of};
-ghost use Rattle.csv_tables.specs.Refused.{Refuses};
+ghost use Rattle.csv_tables.specs.Refused.{IsRefusalOrNoMemory};
 
 use crate::header::places_of;
 use crate::keys::check_keys;
@@ -87,7 +87,7 @@ fn read_columns(
         (λ found. HoldsColumns (rows_under_header columns.now (records_of (strip_bom bytes.now))) pool.new
         (kinds_of columns.now) found.0.items found.1) }
     ensures limit { IfOk result (λ found. found.1 ≤ most_rows) }
-    ensures refused { IfErr result (Refuses (rows_under_header columns.now (records_of (strip_bom bytes.now)))) }
+    ensures refused { IfErr result (IsRefusalOrNoMemory (rows_under_header columns.now (records_of (strip_bom bytes.now)))) }
     ensures begins { PoolBeginsWith pool.old pool.new }
     ensures more { length pool.new ≤ length pool.old + 256000000 }
 {
@@ -123,7 +123,7 @@ pub fn read_table(
     // The rows of the cells are the rows of the file. An error is the file's refusal, or says that memory was too little.
     ensures rows { IfOk result (λ cells. rows_of_file table.now bytes.now ≡ Ok (rows_of_cells pool.new cells)) }
     ensures cells { IfOk result (AreCellsOf table.now pool.new) }
-    ensures refused { IfErr result (Refuses (rows_of_file table.now bytes.now)) }
+    ensures refused { IfErr result (IsRefusalOrNoMemory (rows_of_file table.now bytes.now)) }
 
     ensures begins { PoolBeginsWith pool.old pool.new }
     ensures more { length pool.new ≤ length pool.old + 256000000 }

@@ -8,9 +8,9 @@ use Rattle.std.proofs.lemmas.Bool.{cases_Bool, eqb-true, eq-eqb, ne_eqb, false�
 use Rattle.std.proofs.lemmas.Map.Keys.{IsDistinct-head, IsDistinct-tail}
 use Rattle.degree_sequences.specs.Degrees.{degree, different, degree_list}
 use Rattle.degree_sequences.proofs.Counting.{is_in, sum_by-both, sum_by-filter, sum_by-map, none_kept, IsDistinct-filter, IsDistinct-different}
-use Rattle.degree_sequences.proofs.Places.{one_weight}
-use Rattle.degree_sequences.proofs.FallingOrder.{IsFalling-in_falling_order}
-use Rattle.degree_lists.proofs.FallingCounts.{same_falling, sum_by-in_falling_order}
+use Rattle.degree_sequences.proofs.Indices.{one_weight}
+use Rattle.degree_sequences.proofs.DescendingOrder.{IsDescending-sorted_descending}
+use Rattle.degree_lists.proofs.FallingCounts.{same_falling, sum_by-sorted_descending}
 use Rattle.degree_lists.proofs.OneMoreKey.{is_in-filtered, is_in-degree}
 
 none_in : (x : ℕ) (D : List ℕ) → AllByRecursion (λ y. eqb x y ≡ false) D → is_in D x ≡ false
@@ -53,13 +53,13 @@ same_members h (d ∷ D) E ad ae same =
 
 pub same_degrees : (L M : List ℕ) → ((a : ℕ) → degree L a ≡ degree M a) → degree_list L ≡ degree_list M
 same_degrees L M same =
-    same_falling (degree_list L) (degree_list M) (IsFalling-in_falling_order (map (degree L) (different L))) (IsFalling-in_falling_order (map (degree M) (different M)))
+    same_falling (degree_list L) (degree_list M) (IsDescending-sorted_descending (map (degree L) (different L))) (IsDescending-sorted_descending (map (degree M) (different M)))
     (λ f. sums L f ∙ same_members (λ a. f (degree L a)) (different L) (different M) (IsDistinct-different L) (IsDistinct-different M)
     (λ x. is_in-degree L x ∙ ap (ltb 0) (same x) ∙ sym (is_in-degree M x))
     ∙ along (different M) f ∙ sym (sums M f))
   where
     sums : (L : List ℕ) (f : ℕ → ℕ) → sum_by f (degree_list L) ≡ sum_by (λ a. f (degree L a)) (different L)
-    sums L f = sum_by-in_falling_order f (map (degree L) (different L)) ∙ sum_by-map f (degree L) (different L)
+    sums L f = sum_by-sorted_descending f (map (degree L) (different L)) ∙ sum_by-map f (degree L) (different L)
 
     along : (D : List ℕ) (f : ℕ → ℕ) → sum_by (λ a. f (degree L a)) D ≡ sum_by (λ a. f (degree M a)) D
     along [] f = refl

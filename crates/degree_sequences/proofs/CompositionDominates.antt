@@ -9,11 +9,11 @@ use Rattle.std.proofs.lemmas.List.FromFn.{length-range_with_len}
 use Rattle.degree_sequences.proofs.ByRank.{get_or-rank_product}
 use Rattle.degree_sequences.proofs.Counting.{All-filter, IsDistinct-different, IsDistinct-filter, everywhere, is_in, is_in-different, sum_by-both, sum_by-filter, sum_by-map, sum_by-nothing, sum_by-same, weaker}
 use Rattle.degree_sequences.proofs.DegreeLists.{places_fit}
-use Rattle.degree_sequences.proofs.Places.{All-range, IsDistinct-range, count_by-degree, count_by-le-places, is_in-range, key_weight, length-le-members, sum_by-keys, sum_by-places}
+use Rattle.degree_sequences.proofs.Indices.{All-range, IsDistinct-range, count_by-degree, count_by-le-places, is_in-range, key_weight, length-le-members, sum_by-keys, sum_by-places}
 use Rattle.degree_sequences.proofs.ProductDominates.{rank_product_dominates}
 use Rattle.degree_sequences.proofs.RowWeights.{get_or-row_weights, spreads}
 use Rattle.degree_sequences.proofs.RunningSums.{running_sum-agree, running_sum-block_sums, running_sum-le-sum, running_sum-mono, running_sum-ones, running_sum-trimmed}
-use Rattle.degree_sequences.proofs.Spread.{IsFalling-spread, cut, get_or-spread, running_sum-cut, running_sum-cut_product-le, spread}
+use Rattle.degree_sequences.proofs.Spread.{IsDescending-spread, cut_with_zeros, get_or-spread, running_sum-cut_with_zeros, running_sum-cut_product-le, spread}
 use Rattle.degree_sequences.specs.ByRank.{rank_product}
 use Rattle.degree_sequences.specs.Composition.{ChildLists, block_sums, composed, root_total, row_weights, weight_by_rank}
 use Rattle.degree_sequences.specs.Degrees.{degree, different}
@@ -29,15 +29,15 @@ All-below n (a ∷ A) = elim (cases_Bool (ltb a n)) [
   | inr e ↦ rw e (All-below n A)
 ]
 
-pub keys_dominated : (g keys : List ℕ) → DominatesKeys g keys → (B : List ℕ) → IsDistinct eqb B → AllByRecursion (λ b. b < length keys) B
-    → DominatesWeights (cut g (length B)) (degree (map (λ i. get_or keys i 0) B))
-keys_dominated g keys dom B apart below E apart_E =
+pub keys_of_rows_dominated : (g keys : List ℕ) → DominatesKeys g keys → (B : List ℕ) → IsDistinct eqb B → AllByRecursion (λ b. b < length keys) B
+    → DominatesWeights (cut_with_zeros g (length B)) (degree (map (λ i. get_or keys i 0) B))
+keys_of_rows_dominated g keys dom B apart below E apart_E =
     let key : ℕ → ℕ = λ i. get_or keys i 0 in
     let K : List ℕ = map key B in
     omega (
       arith,
       count_by-degree K E apart_E,
-      running_sum-cut g (length B) (length E),
+      running_sum-cut_with_zeros g (length B) (length E),
       count_by-le-length (is_in E) K,
       length-map B key,
       sum_by-map (λ x. cond (is_in E x) 1 0) key B,
@@ -59,8 +59,8 @@ child_dominates n c k d A apart =
     let D : List ℕ = different K in
     let m : ℕ = length B in
     let short : m ≤ length A = omega (arith, length-filter (λ i. ltb i n) A, count_by-le-length (λ i. ltb i n) A) in
-    let law : DominatesWeights (rank_product (cut c.column m) c.class) (λ a. degree K a * k.weight a) =
-    rank_product_dominates (cut c.column m) c.class (degree K) k.weight d.class_falls (keys_dominated c.column k.keys d.column B apart_B below) d.class in
+    let law : DominatesWeights (rank_product (cut_with_zeros c.column m) c.class) (λ a. degree K a * k.weight a) =
+    rank_product_dominates (cut_with_zeros c.column m) c.class (degree K) k.weight d.class_falls (keys_of_rows_dominated c.column k.keys d.column B apart_B below) d.class in
     omega (
       arith,
       sum_by-filter (λ i. ltb i n) (λ i. k.weight (key i)) A,
@@ -89,7 +89,7 @@ rows_dominated total n fits (c ∷ cs) (k ∷ ks) all A apart =
     omega (
       arith,
       sum_by-same (λ i. cond (ltb i n) (k.weight (get_or k.keys i 0) * weight_of_row ks i) 0) (λ i. v i * w i) both A,
-      rank_product_dominates (spreads cs total) (spread c.column c.class) v w (IsFalling-spread c.column c.class all.0.class_falls)
+      rank_product_dominates (spreads cs total) (spread c.column c.class) v w (IsDescending-spread c.column c.class all.0.class_falls)
           (rows_dominated total n fits cs ks all.1) (child_dominates n c k all.0) A apart,
     )
   where

@@ -2,22 +2,22 @@
 use Rattle.std.proofs.Common.{List, [], ap, arith, get_or, inl, inr, length, ltb, min, suc, sum, sym, zero, zero-add, ℕ, ◌*◌, ◌+◌, ◌-◌, ◌<◌, ◌∷◌, ◌≡◌, ◌≤◌}
 use Rattle.std.proofs.Math.Nat.{mul-le-mul_left, mul-zero}
 use Rattle.std.proofs.lemmas.Bool.{cases_lt, cond_both, ltb-false, ltb-true}
-use Rattle.degree_sequences.proofs.DegreeLists.{IsFalling-degree_list, degree_list_dominates}
-use Rattle.degree_sequences.proofs.FallingLists.{IsFalling-cons, falls_to}
+use Rattle.degree_sequences.proofs.DegreeLists.{IsDescending-degree_list, degree_list_dominates}
+use Rattle.degree_sequences.proofs.FallingLists.{IsDescending-cons, falls_to}
 use Rattle.degree_sequences.proofs.Heads.{heads-above, heads-fall, heads-near}
 use Rattle.degree_sequences.proofs.Ranks.{rank_least, rank_mono, rank_reaches}
 use Rattle.degree_sequences.proofs.RunningSums.{running_sum-le-sum, running_sum-mono, running_sum-past, running_sum-suc, running_sum-whole}
 use Rattle.degree_sequences.specs.Compression.{compressed, compressed_from, heads, slope}
 use Rattle.degree_sequences.specs.Degrees.{degree_list}
 use Rattle.degree_sequences.specs.Domination.{DominatesKeys}
-use Rattle.degree_sequences.specs.Falling.{IsFalling}
+use Rattle.degree_sequences.specs.Descending.{IsDescending}
 use Rattle.degree_sequences.specs.Rank.{rank}
 use Rattle.degree_sequences.specs.RunningSums.{running_sum}
 
-pub slope-above : (k : ℕ) (f : List ℕ) → IsFalling f → (i : ℕ) → get_or f i 0 ≤ get_or (heads k f) i 0
+pub slope-above : (k : ℕ) (f : List ℕ) → IsDescending f → (i : ℕ) → get_or f i 0 ≤ get_or (heads k f) i 0
 slope-above k f fall i = heads-above k (get_or f 0 0) f fall (omega arith) i
 
-pub step_above : (k : ℕ) (f : List ℕ) → IsFalling f → (i m : ℕ) → running_sum f i ≤ m → m < sum f → running_sum f (suc i) ≤ m + min (slope k f m) (sum f - m)
+pub step_above : (k : ℕ) (f : List ℕ) → IsDescending f → (i m : ℕ) → running_sum f i ≤ m → m < sum f → running_sum f (suc i) ≤ m + min (slope k f m) (sum f - m)
 step_above k f fall i m ahead short =
     let j : ℕ = rank f (suc m) in
     let within : running_sum f (suc i) ≤ sum f = running_sum-le-sum f (suc i) in
@@ -26,7 +26,7 @@ step_above k f fall i m ahead short =
       | inr here ↦ omega (arith, within, running_sum-suc f i, falls_to f fall (j - 1) i (omega arith), slope-above k f fall (j - 1))
     ]
 
-pub compressed_from-above : (k : ℕ) (f : List ℕ) → IsFalling f → (n i m : ℕ) → running_sum f i ≤ m → (r : ℕ) → r ≤ n
+pub compressed_from-above : (k : ℕ) (f : List ℕ) → IsDescending f → (n i m : ℕ) → running_sum f i ≤ m → (r : ℕ) → r ≤ n
     → running_sum f (i + r) ≤ m + running_sum (compressed_from k f n m) r
 compressed_from-above k f fall n i m ahead zero h = let e : i + 0 ≡ i = omega arith in rw e (omega arith)
 compressed_from-above k f fall zero i m ahead (suc r) h = absurd (omega arith)
@@ -46,7 +46,7 @@ compressed_from-within k f (suc n) m h (suc r) =
     (λ e. omega (arith, compressed_from-within k f n (m + next) (omega arith) r))
     (λ e. omega arith)
 
-pub compressed-above : (k : ℕ) (f : List ℕ) → IsFalling f → (r : ℕ) → running_sum f r ≤ running_sum (compressed k f) r
+pub compressed-above : (k : ℕ) (f : List ℕ) → IsDescending f → (r : ℕ) → running_sum f r ≤ running_sum (compressed k f) r
 compressed-above k f fall r = elim (cases_lt (length f) r) [
   | inl past ↦ (let e : 0 + length f ≡ length f = omega arith in
       omega (
@@ -61,7 +61,7 @@ compressed-above k f fall r = elim (cases_lt (length f) r) [
       omega (arith, ap (running_sum f) e, compressed_from-above k f fall (length f) 0 0 (omega arith) r within))
 ]
 
-pub sum-compressed : (k : ℕ) (f : List ℕ) → IsFalling f → sum (compressed k f) ≡ sum f
+pub sum-compressed : (k : ℕ) (f : List ℕ) → IsDescending f → sum (compressed k f) ≡ sum f
 sum-compressed k f fall =
     omega (
       arith,
@@ -72,7 +72,7 @@ sum-compressed k f fall =
       running_sum-whole (compressed k f),
     )
 
-pub slope-near : (k : ℕ) (f : List ℕ) → IsFalling f → (i m : ℕ) → running_sum f i ≤ m → m < sum f → k * slope k f m ≤ (k + 1) * get_or f i 0
+pub slope-near : (k : ℕ) (f : List ℕ) → IsDescending f → (i m : ℕ) → running_sum f i ≤ m → m < sum f → k * slope k f m ≤ (k + 1) * get_or f i 0
 slope-near k f fall i m ahead short =
     let j : ℕ = rank f (suc m) in
     let far : i < j = elim (cases_lt i j) [
@@ -81,7 +81,7 @@ slope-near k f fall i m ahead short =
     ] in
     omega (arith, heads-near k (get_or f 0 0) f (j - 1), mul-le-mul_left (k + 1) (falls_to f fall i (j - 1) (omega arith)))
 
-pub compressed_from-near : (k : ℕ) (f : List ℕ) → IsFalling f → (n i m : ℕ) → running_sum f i ≤ m → (r : ℕ)
+pub compressed_from-near : (k : ℕ) (f : List ℕ) → IsDescending f → (n i m : ℕ) → running_sum f i ≤ m → (r : ℕ)
     → k * get_or (compressed_from k f n m) r 0 ≤ (k + 1) * get_or f (i + r) 0
 compressed_from-near k f fall zero i m ahead r = omega (arith, mul-zero k)
 compressed_from-near k f fall (suc n) i m ahead zero =
@@ -100,20 +100,20 @@ compressed_from-near k f fall (suc n) i m ahead (suc r) =
     rw (sym at) (compressed_from-near k f fall n (suc i) (m + next) (step_above k f fall i m ahead (ltb-true m (sum f) e)) r))
     (λ e. omega (arith, mul-zero k))
 
-pub compressed-near : (k : ℕ) (f : List ℕ) → IsFalling f → (r : ℕ) → k * get_or (compressed k f) r 0 ≤ (k + 1) * get_or f r 0
+pub compressed-near : (k : ℕ) (f : List ℕ) → IsDescending f → (r : ℕ) → k * get_or (compressed k f) r 0 ≤ (k + 1) * get_or f r 0
 compressed-near k f fall r = rw zero-add at (compressed_from-near k f fall (length f) 0 0 (omega arith) r)
 
-pub slope-fall : (k : ℕ) (f : List ℕ) → IsFalling f → (m m' : ℕ) → m ≤ m' → m' < sum f → slope k f m' ≤ slope k f m
+pub slope-fall : (k : ℕ) (f : List ℕ) → IsDescending f → (m m' : ℕ) → m ≤ m' → m' < sum f → slope k f m' ≤ slope k f m
 slope-fall k f fall m m' h within =
     falls_to (heads k f) (heads-fall k (get_or f 0 0) f fall (omega arith)) (rank f (suc m) - 1) (rank f (suc m') - 1)
     (omega (arith, rank_mono f (suc m) (suc m') (omega arith) (omega arith) within))
 
-pub compressed_from-falls : (k : ℕ) (f : List ℕ) → IsFalling f → (n m : ℕ) → IsFalling (compressed_from k f n m)
+pub compressed_from-falls : (k : ℕ) (f : List ℕ) → IsDescending f → (n m : ℕ) → IsDescending (compressed_from k f n m)
 compressed_from-falls k f fall zero m = λ r. omega arith
 compressed_from-falls k f fall (suc n) m =
     let next : ℕ = min (slope k f m) (sum f - m) in
-    cond_both (ltb m (sum f)) (next ∷ compressed_from k f n (m + next)) [] IsFalling
-    (λ e. IsFalling-cons next (compressed_from k f n (m + next)) (first n (m + next) next (λ within. omega (arith, slope-fall k f fall m (m + next) (omega arith) within))) (compressed_from-falls k f fall n (m + next)))
+    cond_both (ltb m (sum f)) (next ∷ compressed_from k f n (m + next)) [] IsDescending
+    (λ e. IsDescending-cons next (compressed_from k f n (m + next)) (first n (m + next) next (λ within. omega (arith, slope-fall k f fall m (m + next) (omega arith) within))) (compressed_from-falls k f fall n (m + next)))
     (λ e r. omega arith)
   where
     first : (n m' b : ℕ) → (m' < sum f → min (slope k f m') (sum f - m') ≤ b) → get_or (compressed_from k f n m') 0 0 ≤ b
@@ -122,8 +122,8 @@ compressed_from-falls k f fall (suc n) m =
         (λ e. le (ltb-true m' (sum f) e))
         (λ e. omega arith)
 
-pub IsFalling-compressed : (k : ℕ) (f : List ℕ) → IsFalling f → IsFalling (compressed k f)
-IsFalling-compressed k f fall = compressed_from-falls k f fall (length f) 0
+pub IsDescending-compressed : (k : ℕ) (f : List ℕ) → IsDescending f → IsDescending (compressed k f)
+IsDescending-compressed k f fall = compressed_from-falls k f fall (length f) 0
 
 pub compressed_dominates : (k : ℕ) (L : List ℕ) → DominatesKeys (compressed k (degree_list L)) L
-compressed_dominates k L A apart = omega (arith, degree_list_dominates L A apart, compressed-above k (degree_list L) (IsFalling-degree_list L) (length A))
+compressed_dominates k L A apart = omega (arith, degree_list_dominates L A apart, compressed-above k (degree_list L) (IsDescending-degree_list L) (length A))

@@ -3,26 +3,26 @@ use Rattle.std.proofs.Common.{List, arith, length, map, sum, true, ℕ, ◌≡�
 use Rattle.std.proofs.lemmas.List.Sums.{sum-map}
 use Rattle.std.specs.List.{count_by}
 use Rattle.degree_sequences.proofs.Counting.{IsDistinct-different, all-count, count_by-is_in, count_by-keys, is_in, is_in-different}
-use Rattle.degree_sequences.proofs.FallingOrder.{IsFalling-in_falling_order, picked-le, sum-in_falling_order}
+use Rattle.degree_sequences.proofs.DescendingOrder.{IsDescending-sorted_descending, picked-le, sum-sorted_descending}
 use Rattle.degree_sequences.proofs.RunningSums.{running_sum-mono, running_sum-le-sum}
 use Rattle.degree_sequences.specs.Degrees.{degree, degree_list, different}
-use Rattle.degree_sequences.proofs.Places.{count_by-degree, count_by-passing}
+use Rattle.degree_sequences.proofs.Indices.{count_by-degree, count_by-passing}
 use Rattle.degree_sequences.specs.Domination.{DominatesKeys, DominatesWeights}
-use Rattle.degree_sequences.specs.Falling.{IsFalling}
+use Rattle.degree_sequences.specs.Descending.{IsDescending}
 
 pub sum-degree_list : (L : List ℕ) → sum (degree_list L) ≡ length L
 sum-degree_list L =
     let D : List ℕ = different L in
     omega (
       arith,
-      sum-in_falling_order (map (degree L) D),
+      sum-sorted_descending (map (degree L) D),
       sum-map (degree L) D,
       count_by-keys (λ x. true) D (IsDistinct-different L) L (is_in-different L),
       all-count L,
     )
 
-pub IsFalling-degree_list : (L : List ℕ) → IsFalling (degree_list L)
-IsFalling-degree_list L = IsFalling-in_falling_order (map (degree L) (different L))
+pub IsDescending-degree_list : (L : List ℕ) → IsDescending (degree_list L)
+IsDescending-degree_list L = IsDescending-sorted_descending (map (degree L) (different L))
 
 pub degree_list_dominates : (L : List ℕ) → DominatesKeys (degree_list L) L
 degree_list_dominates L A apart =

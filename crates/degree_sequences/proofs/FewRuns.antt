@@ -9,7 +9,7 @@ use Rattle.degree_sequences.proofs.Heads.{IsLater, heads-between, heads-le}
 use Rattle.degree_sequences.proofs.Ranks.{rank_least, rank_mono, rank_reaches}
 use Rattle.degree_sequences.proofs.RunningSums.{running_sum-mono, running_sum-past}
 use Rattle.degree_sequences.specs.Compression.{compressed, compressed_from, slope}
-use Rattle.degree_sequences.specs.Falling.{IsFalling}
+use Rattle.degree_sequences.specs.Descending.{IsDescending}
 use Rattle.degree_sequences.specs.Rank.{rank}
 use Rattle.degree_sequences.specs.Runs.{runs, runs_after}
 
@@ -129,7 +129,7 @@ few_from k kpos f pos (suc n) m d h = elim (cases_lt m (sum f)) [
           )
         ])
 
-pub slope_pos : (k : ℕ) (f : List ℕ) → IsFalling f → All (λ x. 0 < x) f → (m : ℕ) → m < sum f → 0 < slope k f m
+pub slope_pos : (k : ℕ) (f : List ℕ) → IsDescending f → All (λ x. 0 < x) f → (m : ℕ) → m < sum f → 0 < slope k f m
 slope_pos k f fall pos m h =
     let r : ℕ = rank f (suc m) in
     let low : 0 < r = elim (cases_lt 0 r) [ inl j ↦ j | inr j ↦ absurd (omega (arith, running_sum-mono f r 0 j, rank_reaches f (suc m) h)) ] in
@@ -147,7 +147,7 @@ has_room k h d pos small =
     let most : suc h * x ≤ 2 ^ d * x = mul-le-mul_right x (omega arith) in
     omega (arith, suc-mul h x, digits_suffice k pos d)
 
-pub compressed_is_short : (k : ℕ) → 0 < k → (f : List ℕ) → IsFalling f → All (λ x. 0 < x) f → (d : ℕ) → get_or f 0 0 < 2 ^ d → runs (compressed k f) ≤ k * d + 1
+pub compressed_is_short : (k : ℕ) → 0 < k → (f : List ℕ) → IsDescending f → All (λ x. 0 < x) f → (d : ℕ) → get_or f 0 0 < 2 ^ d → runs (compressed k f) ≤ k * d + 1
 compressed_is_short k kpos f fall pos d h =
     let first : slope k f 0 < 2 ^ d = omega (arith, heads-le k (get_or f 0 0) f (rank f 1 - 1)) in
     omega (

@@ -2,11 +2,11 @@
 use Rattle.std.proofs.Common.{List, [], arith, get_or, inl, inr, ltb, refl, suc, zero, ℕ, ◌*◌, ◌+◌, ◌<◌, ◌∷◌, ◌≡◌, ◌≤◌, ◌⊎◌}
 use Rattle.std.proofs.Math.Nat.{add-mul, mul-le-mul_left, mul-le-mul_right, mul-zero}
 use Rattle.std.proofs.lemmas.Bool.{cases_lt, cond_both, ltb-false, ltb-true}
-use Rattle.degree_sequences.proofs.FallingLists.{IsFalling-cons}
+use Rattle.degree_sequences.proofs.FallingLists.{IsDescending-cons}
 use Rattle.degree_sequences.specs.Compression.{heads_from}
-use Rattle.degree_sequences.specs.Falling.{IsFalling}
+use Rattle.degree_sequences.specs.Descending.{IsDescending}
 
-pub heads-above : (k h : ℕ) (s : List ℕ) → IsFalling s → get_or s 0 0 ≤ h → (i : ℕ) → get_or s i 0 ≤ get_or (heads_from k h s) i 0
+pub heads-above : (k h : ℕ) (s : List ℕ) → IsDescending s → get_or s 0 0 ≤ h → (i : ℕ) → get_or s i 0 ≤ get_or (heads_from k h s) i 0
 heads-above k h [] fall below i = omega arith
 heads-above k h (x ∷ s) fall below zero = cond_both (ltb ((k + 1) * x) (k * h)) x h (λ y. x ≤ get_or (y ∷ heads_from k y s) 0 0)
     (λ e. omega arith)
@@ -28,11 +28,11 @@ pub heads-head : (k h : ℕ) (s : List ℕ) → get_or s 0 0 ≤ h → get_or (h
 heads-head k h [] below = omega arith
 heads-head k h (x ∷ s) below = cond_both (ltb ((k + 1) * x) (k * h)) x h (λ y. get_or (y ∷ heads_from k y s) 0 0 ≤ h) (λ e. below) (λ e. omega arith)
 
-pub heads-fall : (k h : ℕ) (s : List ℕ) → IsFalling s → get_or s 0 0 ≤ h → IsFalling (heads_from k h s)
+pub heads-fall : (k h : ℕ) (s : List ℕ) → IsDescending s → get_or s 0 0 ≤ h → IsDescending (heads_from k h s)
 heads-fall k h [] fall below = λ r. omega arith
-heads-fall k h (x ∷ s) fall below = cond_both (ltb ((k + 1) * x) (k * h)) x h (λ y. IsFalling (y ∷ heads_from k y s))
-    (λ e. IsFalling-cons x (heads_from k x s) (heads-head k x s (fall 0)) (heads-fall k x s (λ r. fall (suc r)) (fall 0)))
-    (λ e. IsFalling-cons h (heads_from k h s) (heads-head k h s (omega (arith, fall 0))) (heads-fall k h s (λ r. fall (suc r)) (omega (arith, fall 0))))
+heads-fall k h (x ∷ s) fall below = cond_both (ltb ((k + 1) * x) (k * h)) x h (λ y. IsDescending (y ∷ heads_from k y s))
+    (λ e. IsDescending-cons x (heads_from k x s) (heads-head k x s (fall 0)) (heads-fall k x s (λ r. fall (suc r)) (fall 0)))
+    (λ e. IsDescending-cons h (heads_from k h s) (heads-head k h s (omega (arith, fall 0))) (heads-fall k h s (λ r. fall (suc r)) (omega (arith, fall 0))))
 
 pub lower_head : (k x h : ℕ) → (k + 1) * x < k * h → x < h
 lower_head k x h less = elim (cases_lt x h) [

@@ -3,12 +3,12 @@ pub mod FallingLists
 pub mod Minima
 pub mod Summation
 pub mod ByRank
-pub mod FallingOrder
+pub mod DescendingOrder
 pub mod Counting
 pub mod DegreeLists
 pub mod ProductDominates
 pub mod Ranks
-pub mod Places
+pub mod Indices
 pub mod Spread
 pub mod RowWeights
 pub mod CompositionDominates

@@ -4,9 +4,9 @@ use Rattle.std.proofs.lemmas.Bool.{cases_lt}
 use Rattle.std.proofs.lemmas.List.{length-map}
 use Rattle.std.specs.List.{range_with_len}
 use Rattle.std.proofs.lemmas.List.FromFn.{length-range_with_len}
-use Rattle.degree_sequences.proofs.FallingLists.{IsFalling-from_sums, sums_fall}
+use Rattle.degree_sequences.proofs.FallingLists.{IsDescending-from_sums, sums_fall}
 use Rattle.degree_sequences.proofs.RunningSums.{running_sum-mono, running_sum-past, running_sum-trimmed}
-use Rattle.degree_sequences.specs.Falling.{IsFalling}
+use Rattle.degree_sequences.specs.Descending.{IsDescending}
 use Rattle.degree_sequences.specs.RunningSums.{cut_at, lesser, running_sum, with_running_sums}
 
 abbrev pub steps : (ℕ → ℕ) → ℕ → ℕ → List ℕ
@@ -56,10 +56,10 @@ running_sum-cut_at s n r =
     (λ r h. omega (arith, running_sum-past s r (omega arith), running_sum-past s (length s) (omega arith)))
     r
 
-pub IsFalling-lesser : (s t : List ℕ) → IsFalling s → IsFalling t → IsFalling (lesser s t)
-IsFalling-lesser s t fs ft = IsFalling-from_sums (lesser s t)
+pub IsDescending-lesser : (s t : List ℕ) → IsDescending s → IsDescending t → IsDescending (lesser s t)
+IsDescending-lesser s t fs ft = IsDescending-from_sums (lesser s t)
     (λ r. omega (arith, running_sum-lesser s t r, running_sum-lesser s t (suc r), running_sum-lesser s t (suc (suc r)), sums_fall s fs r, sums_fall t ft r))
 
-pub IsFalling-cut_at : (s : List ℕ) (n : ℕ) → IsFalling s → IsFalling (cut_at s n)
-IsFalling-cut_at s n fs = IsFalling-from_sums (cut_at s n)
+pub IsDescending-cut_at : (s : List ℕ) (n : ℕ) → IsDescending s → IsDescending (cut_at s n)
+IsDescending-cut_at s n fs = IsDescending-from_sums (cut_at s n)
     (λ r. omega (arith, running_sum-cut_at s n r, running_sum-cut_at s n (suc r), running_sum-cut_at s n (suc (suc r)), sums_fall s fs r, running_sum-mono s r (suc r) (omega arith)))

@@ -7,13 +7,13 @@ use Rattle.std.proofs.lemmas.List.Sums.{sum_by-cons}
 use Rattle.std.proofs.lemmas.Map.Keys.{IsDistinct-cons, IsDistinct-head, IsDistinct-tail}
 use Rattle.std.specs.List.{AllByRecursion, IsDistinct, sum_by}
 use Rattle.degree_sequences.proofs.Counting.{IsDistinct-nil}
-use Rattle.degree_sequences.proofs.FallingOrder.{IsFalling-in_falling_order}
+use Rattle.degree_sequences.proofs.DescendingOrder.{IsDescending-sorted_descending}
 use Rattle.degree_sequences.proofs.RunningSums.{running_sum-mono}
 use Rattle.degree_sequences.proofs.Summation.{sum_below, sum_below-list, sum_below-mul-le, sum_below-product, sum_below-same}
 use Rattle.degree_sequences.specs.ByRank.{rank_product}
-use Rattle.degree_sequences.specs.Degrees.{in_falling_order, put_in}
+use Rattle.degree_sequences.specs.Degrees.{sorted_descending, inserted_descending}
 use Rattle.degree_sequences.specs.Domination.{DominatesWeights}
-use Rattle.degree_sequences.specs.Falling.{IsFalling}
+use Rattle.degree_sequences.specs.Descending.{IsDescending}
 use Rattle.degree_sequences.specs.RunningSums.{running_sum}
 
 abbrev pub put_by : (ℕ → ℕ) → ℕ → List ℕ → List ℕ
@@ -25,17 +25,17 @@ abbrev pub by_weight : (ℕ → ℕ) → List ℕ → List ℕ
 by_weight w [] = []
 by_weight w (a ∷ A) = put_by w a (by_weight w A)
 
-pub map-put_by : (w : ℕ → ℕ) (a : ℕ) (bs : List ℕ) → map w (put_by w a bs) ≡ put_in (w a) (map w bs)
+pub map-put_by : (w : ℕ → ℕ) (a : ℕ) (bs : List ℕ) → map w (put_by w a bs) ≡ inserted_descending (w a) (map w bs)
 map-put_by w a [] = refl
 map-put_by w a (b ∷ bs) =
-    elim (leb (w b) (w a)) as (λ t. map w (cond t (a ∷ (b ∷ bs)) (b ∷ put_by w a bs)) ≡ cond t (w a ∷ (w b ∷ map w bs)) (w b ∷ put_in (w a) (map w bs))) [
+    elim (leb (w b) (w a)) as (λ t. map w (cond t (a ∷ (b ∷ bs)) (b ∷ put_by w a bs)) ≡ cond t (w a ∷ (w b ∷ map w bs)) (w b ∷ inserted_descending (w a) (map w bs))) [
       | true ↦ refl
       | false ↦ ap (λ (s : List ℕ). w b ∷ s) (map-put_by w a bs)
     ]
 
-pub map-by_weight : (w : ℕ → ℕ) (A : List ℕ) → map w (by_weight w A) ≡ in_falling_order (map w A)
+pub map-by_weight : (w : ℕ → ℕ) (A : List ℕ) → map w (by_weight w A) ≡ sorted_descending (map w A)
 map-by_weight w [] = refl
-map-by_weight w (a ∷ A) = map-put_by w a (by_weight w A) ∙ ap (put_in (w a)) (map-by_weight w A)
+map-by_weight w (a ∷ A) = map-put_by w a (by_weight w A) ∙ ap (inserted_descending (w a)) (map-by_weight w A)
 
 pub sum_by-put_by : (w f : ℕ → ℕ) (a : ℕ) (bs : List ℕ) → sum_by f (put_by w a bs) ≡ f a + sum_by f bs
 sum_by-put_by w f a [] = omega arith
@@ -105,7 +105,7 @@ pub sum_by-product : (v w : ℕ → ℕ) (A : List ℕ) → sum_by (λ a. v a * 
 sum_by-product v w [] = refl
 sum_by-product v w (a ∷ A) = omega (arith, sum_by-product v w A, sum_by-cons (λ a. v a * w a) a A)
 
-pub rank_product_dominates : (s t : List ℕ) (v w : ℕ → ℕ) → IsFalling t → DominatesWeights s v → DominatesWeights t w
+pub rank_product_dominates : (s t : List ℕ) (v w : ℕ → ℕ) → IsDescending t → DominatesWeights s v → DominatesWeights t w
     → DominatesWeights (rank_product s t) (λ a. v a * w a)
 rank_product_dominates s t v w fall dom_v dom_w A apart =
     let n : ℕ = length A in
@@ -115,7 +115,7 @@ rank_product_dominates s t v w fall dom_v dom_w A apart =
     let W : ℕ → ℕ = λ r. get_or (map w B) r 0 in
     let at_s : ℕ → ℕ = λ r. get_or s r 0 in
     let at_t : ℕ → ℕ = λ r. get_or t r 0 in
-    let class_falls : IsFalling (map v B) = rw (map-by_weight v A) (IsFalling-in_falling_order (map v A)) in
+    let class_falls : IsDescending (map v B) = rw (map-by_weight v A) (IsDescending-sorted_descending (map v A)) in
     let whole : sum_by (λ a. v a * w a) A ≡ sum_below (λ r. V r * W r) n =
     sym (sum_by-by_weight v (λ a. v a * w a) A) ∙ sum_by-product v w B ∙ ap (sum_below (λ r. V r * W r)) (length-by_weight v A) in
     let one : sum_below (λ r. V r * W r) n ≤ V 0 * 0 + sum_below (λ r. V r * at_t r) n =

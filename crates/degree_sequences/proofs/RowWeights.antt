@@ -4,28 +4,28 @@ use Rattle.std.proofs.Math.Nat.{mul_comm}
 use Rattle.std.proofs.lemmas.List.{get_or-map, get_or-replicate}
 use Rattle.std.proofs.lemmas.List.FromFn.{get_or-range_with_len, length-range_with_len}
 use Rattle.std.specs.List.{AllByRecursion, AllZip, range_with_len}
-use Rattle.degree_sequences.proofs.ByRank.{IsFalling-rank_product, get_or-rank_product, rank_product-above}
-use Rattle.degree_sequences.proofs.FallingLists.{IsFalling-from_sums, window}
+use Rattle.degree_sequences.proofs.ByRank.{IsDescending-rank_product, get_or-rank_product, rank_product-above}
+use Rattle.degree_sequences.proofs.FallingLists.{IsDescending-from_sums, window}
 use Rattle.degree_sequences.proofs.RunningSums.{sum-above, running_sum-agree, running_sum-block_sums, running_sum-le-sum, running_sum-mono, running_sum-ones, running_sum-suc, running_sum-trimmed}
-use Rattle.degree_sequences.proofs.Spread.{IsFalling-spread, get_or-spread, spread, spread-above}
+use Rattle.degree_sequences.proofs.Spread.{IsDescending-spread, get_or-spread, spread, spread-above}
 use Rattle.degree_sequences.specs.ByRank.{rank_product}
 use Rattle.degree_sequences.specs.Composition.{ChildLists, block_sums, composed, row_weights, weight_by_rank}
-use Rattle.degree_sequences.specs.Falling.{IsFalling}
-use Rattle.degree_sequences.specs.Families.{ChildIsAbove, ColumnFalls, IsChildOf}
+use Rattle.degree_sequences.specs.Descending.{IsDescending}
+use Rattle.degree_sequences.specs.ComparedChildren.{ChildIsAbove, ColumnIsDescending, IsChildOf}
 use Rattle.degree_sequences.specs.Rank.{rank}
-use Rattle.degree_sequences.specs.RunningSums.{IsAbove, running_sum}
+use Rattle.degree_sequences.specs.RunningSums.{HasHigherSums, running_sum}
 
 -- for each child, its class list is spread over its column: element r is repeated as often as element r of the column says
 abbrev pub spreads : List ChildLists → ℕ → List ℕ
 spreads [] n = replicate n 1
 spreads (c ∷ cs) n = rank_product (spreads cs n) (spread c.column c.class)
 
-pub IsFalling-ones : (n : ℕ) → IsFalling (replicate n 1)
-IsFalling-ones n = IsFalling-from_sums (replicate n 1) (λ r. omega (arith, running_sum-ones n r, running_sum-ones n (suc r), running_sum-ones n (suc (suc r))))
+pub IsDescending-ones : (n : ℕ) → IsDescending (replicate n 1)
+IsDescending-ones n = IsDescending-from_sums (replicate n 1) (λ r. omega (arith, running_sum-ones n r, running_sum-ones n (suc r), running_sum-ones n (suc (suc r))))
 
-pub IsFalling-spreads : (total n : ℕ) (cs : List ChildLists) → AllByRecursion (IsChildOf total) cs → IsFalling (spreads cs n)
-IsFalling-spreads total n [] all = IsFalling-ones n
-IsFalling-spreads total n (c ∷ cs) all = IsFalling-rank_product (spreads cs n) (spread c.column c.class) (IsFalling-spreads total n cs all.1) (IsFalling-spread c.column c.class all.0.class_falls)
+pub IsDescending-spreads : (total n : ℕ) (cs : List ChildLists) → AllByRecursion (IsChildOf total) cs → IsDescending (spreads cs n)
+IsDescending-spreads total n [] all = IsDescending-ones n
+IsDescending-spreads total n (c ∷ cs) all = IsDescending-rank_product (spreads cs n) (spread c.column c.class) (IsDescending-spreads total n cs all.1) (IsDescending-spread c.column c.class all.0.class_falls)
 
 pub get_or-row_weights : (cs : List ChildLists) (total k : ℕ) → k < total → get_or (row_weights cs total) k 0 ≡ weight_by_rank cs (suc k)
 get_or-row_weights cs total k h =
@@ -50,8 +50,8 @@ running_sum-composition g cs r = running_sum-trimmed (block_sums g (row_weights 
 pub running_sum-composed : (g : List ℕ) (cs : List ChildLists) → AllByRecursion (IsChildOf (sum g)) cs → (r : ℕ) → running_sum (composed g cs) r ≡ running_sum (spreads cs (sum g)) (running_sum g r)
 running_sum-composed g cs all r = running_sum-composition g cs r ∙ running_sum-weights (sum g) cs all (running_sum g r) (running_sum-le-sum g r)
 
-pub IsFalling-composed : (g : List ℕ) (cs : List ChildLists) → IsFalling g → AllByRecursion (IsChildOf (sum g)) cs → IsFalling (composed g cs)
-IsFalling-composed g cs fall ok = IsFalling-from_sums (composed g cs) (λ r.
+pub IsDescending-composed : (g : List ℕ) (cs : List ChildLists) → IsDescending g → AllByRecursion (IsChildOf (sum g)) cs → IsDescending (composed g cs)
+IsDescending-composed g cs fall ok = IsDescending-from_sums (composed g cs) (λ r.
     let u : List ℕ = spreads cs (sum g) in
     let one : running_sum g r + get_or g r 0 ≡ running_sum g (suc r) = sym (running_sum-suc g r) in
     let two : running_sum g (suc r) + get_or g (suc r) 0 ≡ running_sum g (suc (suc r)) = sym (running_sum-suc g (suc r)) in
@@ -62,23 +62,23 @@ IsFalling-composed g cs fall ok = IsFalling-from_sums (composed g cs) (λ r.
       running_sum-composed g cs ok (suc (suc r)),
       ap (running_sum u) one,
       ap (running_sum u) two,
-      window u (IsFalling-spreads (sum g) (sum g) cs ok) (running_sum g r) (running_sum g (suc r)) (get_or g r 0) (get_or g (suc r) 0) (running_sum-mono g r (suc r) (omega arith)) (fall r),
+      window u (IsDescending-spreads (sum g) (sum g) cs ok) (running_sum g r) (running_sum g (suc r)) (get_or g r 0) (get_or g (suc r) 0) (running_sum-mono g r (suc r) (omega arith)) (fall r),
     ))
 
 -- only the columns of the lower lists (`ds`) have to be in descending order
 pub spreads-above : (total total' : ℕ) → total' ≤ total → (cs ds : List ChildLists) → AllByRecursion (IsChildOf total) cs → AllByRecursion (IsChildOf total') ds
-    → AllByRecursion ColumnFalls ds → AllZip ChildIsAbove cs ds → IsAbove (spreads cs total) (spreads ds total')
+    → AllByRecursion ColumnIsDescending ds → AllZip ChildIsAbove cs ds → HasHigherSums (spreads cs total) (spreads ds total')
 spreads-above total total' h [] [] ok ok' fall all = λ r. omega (arith, running_sum-ones total r, running_sum-ones total' r)
 spreads-above total total' h [] (d ∷ ds) ok ok' fall all = absurd all
 spreads-above total total' h (c ∷ cs) [] ok ok' fall all = absurd all
 spreads-above total total' h (c ∷ cs) (d ∷ ds) ok ok' fall all =
     rank_product-above (spreads cs total) (spread c.column c.class) (spreads ds total') (spread d.column d.class)
-    (IsFalling-spread c.column c.class ok.0.class_falls) (IsFalling-spreads total' total' ds ok'.1)
+    (IsDescending-spread c.column c.class ok.0.class_falls) (IsDescending-spreads total' total' ds ok'.1)
     (spreads-above total total' h cs ds ok.1 ok'.1 fall.1 all.1)
     (spread-above c.column c.class d.column d.class ok.0.class_falls fall.0 all.0.column all.0.class)
 
 pub composed-above : (g h : List ℕ) (cs ds : List ChildLists) → AllByRecursion (IsChildOf (sum g)) cs → AllByRecursion (IsChildOf (sum h)) ds
-    → AllByRecursion ColumnFalls ds → IsAbove g h → AllZip ChildIsAbove cs ds → IsAbove (composed g cs) (composed h ds)
+    → AllByRecursion ColumnIsDescending ds → HasHigherSums g h → AllZip ChildIsAbove cs ds → HasHigherSums (composed g cs) (composed h ds)
 composed-above g h cs ds ok ok' fall above all r =
     omega (
       arith,

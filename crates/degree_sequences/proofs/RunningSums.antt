@@ -4,8 +4,8 @@ use Rattle.std.proofs.Math.Nat.{suc-add}
 use Rattle.std.proofs.lemmas.List.Sums.{sum_by-cons}
 use Rattle.degree_sequences.proofs.Summation.{sum_below-list, sum_below-same}
 use Rattle.degree_sequences.specs.Composition.{block_sums}
-use Rattle.degree_sequences.specs.Falling.{onto, trimmed}
-use Rattle.degree_sequences.specs.RunningSums.{running_sum, IsAbove}
+use Rattle.degree_sequences.specs.Descending.{cons_unless_zero_at_end, trimmed}
+use Rattle.degree_sequences.specs.RunningSums.{running_sum, HasHigherSums}
 
 pub running_sum-nil : (r : ℕ) → running_sum [] r ≡ 0
 running_sum-nil zero = refl
@@ -38,20 +38,20 @@ running_sum-le-sum s zero = omega arith
 running_sum-le-sum [] (suc r) = omega arith
 running_sum-le-sum (x ∷ s) (suc r) = omega (arith, running_sum-le-sum s r, sum_by-cons (λ (y : ℕ). y) x s)
 
-pub sum-above : (s t : List ℕ) → IsAbove s t → sum t ≤ sum s
+pub sum-above : (s t : List ℕ) → HasHigherSums s t → sum t ≤ sum s
 sum-above s t above = omega (arith, running_sum-whole t, above (length t), running_sum-le-sum s (length t))
 
--- `onto` leaves out only zeros at the end, so running sums stay the same
-pub running_sum-onto : (x : ℕ) (s : List ℕ) (r : ℕ) → running_sum (onto x s) r ≡ running_sum (x ∷ s) r
-running_sum-onto zero [] zero = refl
-running_sum-onto zero [] (suc r) = omega (arith, running_sum-nil r)
-running_sum-onto zero (y ∷ s) r = refl
-running_sum-onto (suc x) s r = refl
+-- `cons_unless_zero_at_end` leaves out only zeros at the end, so running sums stay the same
+pub running_sum-cons_unless_zero_at_end : (x : ℕ) (s : List ℕ) (r : ℕ) → running_sum (cons_unless_zero_at_end x s) r ≡ running_sum (x ∷ s) r
+running_sum-cons_unless_zero_at_end zero [] zero = refl
+running_sum-cons_unless_zero_at_end zero [] (suc r) = omega (arith, running_sum-nil r)
+running_sum-cons_unless_zero_at_end zero (y ∷ s) r = refl
+running_sum-cons_unless_zero_at_end (suc x) s r = refl
 
 pub running_sum-trimmed : (s : List ℕ) (r : ℕ) → running_sum (trimmed s) r ≡ running_sum s r
 running_sum-trimmed [] r = refl
-running_sum-trimmed (x ∷ s) zero = running_sum-onto x (trimmed s) zero
-running_sum-trimmed (x ∷ s) (suc r) = running_sum-onto x (trimmed s) (suc r) ∙ ap (λ n. x + n) (running_sum-trimmed s r)
+running_sum-trimmed (x ∷ s) zero = running_sum-cons_unless_zero_at_end x (trimmed s) zero
+running_sum-trimmed (x ∷ s) (suc r) = running_sum-cons_unless_zero_at_end x (trimmed s) (suc r) ∙ ap (λ n. x + n) (running_sum-trimmed s r)
 
 pub running_sum-add : (u : List ℕ) (i j : ℕ) → running_sum u (i + j) ≡ running_sum u i + running_sum (drop i u) j
 running_sum-add u zero j = simp zero-add

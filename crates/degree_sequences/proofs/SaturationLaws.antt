@@ -4,7 +4,7 @@ use Rattle.std.proofs.Math.Nat.{mul-le-mul_left, mul-le-mul_right, mul-zero, mul
 use Rattle.std.proofs.lemmas.Bool.{cases_lt}
 use Rattle.degree_sequences.specs.ByRank.{rank_product}
 use Rattle.degree_sequences.specs.Composition.{block_sums}
-use Rattle.degree_sequences.specs.Falling.{onto, trimmed}
+use Rattle.degree_sequences.specs.Descending.{cons_unless_zero_at_end, trimmed}
 use Rattle.degree_sequences.specs.RunningSums.{running_sum}
 use Rattle.degree_sequences.specs.Saturation.{saturated}
 
@@ -44,15 +44,15 @@ pub saturated-block_sums : (g u : List ℕ) → map saturated (block_sums g (map
 saturated-block_sums [] u = refl
 saturated-block_sums (x ∷ g) u = rw (saturated-running_sum u x, drop-saturated x u, saturated-block_sums g (drop x u)) refl
 
-pub onto-pos : (n : ℕ) (s : List ℕ) → 0 < n → onto n s ≡ n ∷ s
-onto-pos zero s h = absurd (omega arith)
-onto-pos (suc n) s h = refl
+pub cons_unless_zero_at_end-pos : (n : ℕ) (s : List ℕ) → 0 < n → cons_unless_zero_at_end n s ≡ n ∷ s
+cons_unless_zero_at_end-pos zero s h = absurd (omega arith)
+cons_unless_zero_at_end-pos (suc n) s h = refl
 
-pub saturated-onto : (x : ℕ) (s : List ℕ) → map saturated (onto x s) ≡ onto (saturated x) (map saturated s)
-saturated-onto zero [] = refl
-saturated-onto zero (y ∷ s) = refl
-saturated-onto (suc x) s = sym (onto-pos (saturated (suc x)) (map saturated s) (omega arith))
+pub saturated-cons_unless_zero_at_end : (x : ℕ) (s : List ℕ) → map saturated (cons_unless_zero_at_end x s) ≡ cons_unless_zero_at_end (saturated x) (map saturated s)
+saturated-cons_unless_zero_at_end zero [] = refl
+saturated-cons_unless_zero_at_end zero (y ∷ s) = refl
+saturated-cons_unless_zero_at_end (suc x) s = sym (cons_unless_zero_at_end-pos (saturated (suc x)) (map saturated s) (omega arith))
 
 pub saturated-trimmed : (s : List ℕ) → map saturated (trimmed s) ≡ trimmed (map saturated s)
 saturated-trimmed [] = refl
-saturated-trimmed (x ∷ s) = saturated-onto x (trimmed s) ∙ ap (onto (saturated x)) (saturated-trimmed s)
+saturated-trimmed (x ∷ s) = saturated-cons_unless_zero_at_end x (trimmed s) ∙ ap (cons_unless_zero_at_end (saturated x)) (saturated-trimmed s)

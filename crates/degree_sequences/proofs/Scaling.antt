@@ -5,13 +5,13 @@ use Rattle.std.proofs.lemmas.List.{append-nil}
 use Rattle.std.specs.List.{AllByRecursion}
 use Rattle.degree_sequences.proofs.Blocks.{run-add}
 use Rattle.degree_sequences.proofs.ByRank.{rank_product-above}
-use Rattle.degree_sequences.proofs.RowWeights.{IsFalling-spreads, running_sum-composed, spreads}
+use Rattle.degree_sequences.proofs.RowWeights.{IsDescending-spreads, running_sum-composed, spreads}
 use Rattle.degree_sequences.proofs.RunningSums.{running_sum-le-sum, running_sum-mono, running_sum-nil, running_sum-ones, running_sum-whole}
-use Rattle.degree_sequences.proofs.Spread.{IsFalling-front, IsFalling-spread, running_sum-front, spread, spread-above, tail_of}
+use Rattle.degree_sequences.proofs.Spread.{IsDescending-front, IsDescending-spread, running_sum-front, spread, spread-above, tail_of}
 use Rattle.degree_sequences.specs.ByRank.{rank_product}
 use Rattle.degree_sequences.specs.Composition.{ChildLists, composed}
-use Rattle.degree_sequences.specs.Falling.{IsFalling}
-use Rattle.degree_sequences.specs.Families.{ColumnFalls, IsChildOf, IsNear, SumsAreWithin, MatchedChild, factors, scales}
+use Rattle.degree_sequences.specs.Descending.{IsDescending}
+use Rattle.degree_sequences.specs.ComparedChildren.{ColumnIsDescending, IsChildOf, IsNear, SumsAreWithin, MatchedChild, factors, scales}
 use Rattle.degree_sequences.specs.RunningSums.{running_sum}
 
 abbrev pub scale : ℕ → List ℕ → List ℕ
@@ -27,8 +27,8 @@ get_or-scale c [] r = sym (mul-zero c)
 get_or-scale c (x ∷ s) zero = refl
 get_or-scale c (x ∷ s) (suc r) = get_or-scale c s r
 
-pub IsFalling-scale : (c : ℕ) (s : List ℕ) → IsFalling s → IsFalling (scale c s)
-IsFalling-scale c s fall r = omega (arith, get_or-scale c s r, get_or-scale c s (suc r), mul-le-mul_left c (fall r))
+pub IsDescending-scale : (c : ℕ) (s : List ℕ) → IsDescending s → IsDescending (scale c s)
+IsDescending-scale c s fall r = omega (arith, get_or-scale c s r, get_or-scale c s (suc r), mul-le-mul_left c (fall r))
 
 pub rank_product-scale : (c e : ℕ) (s t : List ℕ) → rank_product (scale c s) (scale e t) ≡ scale (c * e) (rank_product s t)
 rank_product-scale c e [] t = refl
@@ -38,12 +38,12 @@ rank_product-scale c e (x ∷ s) (y ∷ t) = rw (times c x e y, rank_product-sca
     times : (c x e y : ℕ) → (c * x) * (e * y) ≡ (c * e) * (x * y)
     times c x e y = omega arith
 
-pub rank_product-near : (b c d e : ℕ) (s t s' t' : List ℕ) → IsFalling t → IsFalling s' → SumsAreWithin b c s' s → SumsAreWithin d e t' t
+pub rank_product-near : (b c d e : ℕ) (s t s' t' : List ℕ) → IsDescending t → IsDescending s' → SumsAreWithin b c s' s → SumsAreWithin d e t' t
     → SumsAreWithin (b * d) (c * e) (rank_product s' t') (rank_product s t)
 rank_product-near b c d e s t s' t' ft fs' near_s near_t r =
     omega (
       arith,
-      rank_product-above (scale c s) (scale e t) (scale b s') (scale d t') (IsFalling-scale e t ft) (IsFalling-scale b s' fs')
+      rank_product-above (scale c s) (scale e t) (scale b s') (scale d t') (IsDescending-scale e t ft) (IsDescending-scale b s' fs')
           (λ r. omega (arith, near_s r, running_sum-scale c s r, running_sum-scale b s' r)) (λ r. omega (arith, near_t r, running_sum-scale e t r, running_sum-scale d t' r)) r,
       ap (λ u. running_sum u r) (rank_product-scale c e s t),
       ap (λ u. running_sum u r) (rank_product-scale b d s' t'),
@@ -88,14 +88,14 @@ pub spread-stretched : (c : ℕ) (g v : List ℕ) → spread (scale c g) v ≡ s
 spread-stretched c [] v = refl
 spread-stretched c (x ∷ g) v = ap (λ (u : List ℕ). replicate (c * x) (get_or v 0 0) ++ u) (spread-stretched c g (tail_of v)) ∙ stretched-front c x (get_or v 0 0) (spread g (tail_of v))
 
-pub stretched-head : (c : ℕ) (u : List ℕ) (b : ℕ) → IsFalling u → get_or u 0 0 ≤ b → get_or (stretched c u) 0 0 ≤ b
+pub stretched-head : (c : ℕ) (u : List ℕ) (b : ℕ) → IsDescending u → get_or u 0 0 ≤ b → get_or (stretched c u) 0 0 ≤ b
 stretched-head c [] b fall h = omega arith
 stretched-head zero (x ∷ u) b fall h = stretched-head zero u b (λ r. fall (suc r)) (omega (arith, fall 0))
 stretched-head (suc c) (x ∷ u) b fall h = h
 
-pub IsFalling-stretched : (c : ℕ) (u : List ℕ) → IsFalling u → IsFalling (stretched c u)
-IsFalling-stretched c [] fall = λ r. omega arith
-IsFalling-stretched c (x ∷ u) fall = IsFalling-front c x (stretched c u) (stretched-head c u x (λ r. fall (suc r)) (fall 0)) (IsFalling-stretched c u (λ r. fall (suc r)))
+pub IsDescending-stretched : (c : ℕ) (u : List ℕ) → IsDescending u → IsDescending (stretched c u)
+IsDescending-stretched c [] fall = λ r. omega arith
+IsDescending-stretched c (x ∷ u) fall = IsDescending-front c x (stretched c u) (stretched-head c u x (λ r. fall (suc r)) (fall 0)) (IsDescending-stretched c u (λ r. fall (suc r)))
 
 pub scale-front : (c x y : ℕ) (s : List ℕ) → scale c (replicate x y ++ s) ≡ replicate x (c * y) ++ scale c s
 scale-front c zero y s = refl
@@ -110,12 +110,12 @@ spread-scale c [] v = refl
 spread-scale c (x ∷ g) v =
     rw (get_or-scale c v 0, tail_of-scale c v, spread-scale c g (tail_of v)) (sym (scale-front c x (get_or v 0 0) (spread g (tail_of v))))
 
-pub spread-near : (a e b c : ℕ) (g v f w : List ℕ) → IsFalling w → IsFalling g → SumsAreWithin a e g f → SumsAreWithin b c v w
+pub spread-near : (a e b c : ℕ) (g v f w : List ℕ) → IsDescending w → IsDescending g → SumsAreWithin a e g f → SumsAreWithin b c v w
     → SumsAreWithin b c (stretched a (spread g v)) (stretched e (spread f w))
 spread-near a e b c g v f w fw fg near_g near_v r =
     omega (
       arith,
-      spread-above (scale e f) (scale c w) (scale a g) (scale b v) (IsFalling-scale c w fw) (IsFalling-scale a g fg)
+      spread-above (scale e f) (scale c w) (scale a g) (scale b v) (IsDescending-scale c w fw) (IsDescending-scale a g fg)
           (λ r. omega (arith, near_g r, running_sum-scale e f r, running_sum-scale a g r)) (λ r. omega (arith, near_v r, running_sum-scale c w r, running_sum-scale b v r)) r,
       ap (λ u. running_sum u r) (spread-scale c (scale e f) w),
       ap (λ u. running_sum u r) (spread-scale b (scale a g) v),
@@ -138,7 +138,7 @@ abbrev pub exacts : List MatchedChild → List ChildLists
 exacts ms = map (λ m. m.exact) ms
 
 pub spreads-near : (a n k : ℕ) → a * n ≤ (a + 1) * k → (ms : List MatchedChild) → AllByRecursion (IsNear a) ms
-    → AllByRecursion (IsChildOf n) (nears ms) → AllByRecursion (IsChildOf k) (exacts ms) → AllByRecursion ColumnFalls (nears ms)
+    → AllByRecursion (IsChildOf n) (nears ms) → AllByRecursion (IsChildOf k) (exacts ms) → AllByRecursion ColumnIsDescending (nears ms)
     → SumsAreWithin (scales ms) (factors ms) (stretched a (spreads (nears ms) n)) (stretched (a + 1) (spreads (exacts ms) k))
 spreads-near a n k h [] near ok ok' fall r = omega (arith, running_sum-stretched-ones a n r, running_sum-stretched-ones (a + 1) k r)
 spreads-near a n k h (m ∷ ms) near ok ok' fall r =
@@ -148,15 +148,15 @@ spreads-near a n k h (m ∷ ms) near ok ok' fall r =
     let t : List ℕ = spread m.exact.column m.exact.class in
     let both : (scales ms * m.scale) * running_sum (rank_product (stretched a s') (stretched a t')) r ≤ (factors ms * m.factor) * running_sum (rank_product (stretched (a + 1) s) (stretched (a + 1) t)) r =
     rank_product-near (scales ms) (factors ms) m.scale m.factor (stretched (a + 1) s) (stretched (a + 1) t) (stretched a s') (stretched a t')
-    (IsFalling-stretched (a + 1) t (IsFalling-spread m.exact.column m.exact.class ok'.0.class_falls))
-    (IsFalling-stretched a s' (IsFalling-spreads n n (nears ms) ok.1))
+    (IsDescending-stretched (a + 1) t (IsDescending-spread m.exact.column m.exact.class ok'.0.class_falls))
+    (IsDescending-stretched a s' (IsDescending-spreads n n (nears ms) ok.1))
     (spreads-near a n k h ms near.1 ok.1 ok'.1 fall.1)
     (spread-near a (a + 1) m.scale m.factor m.near.column m.near.class m.exact.column m.exact.class ok'.0.class_falls fall.0 near.0.column near.0.class) r in
     rw (mul_comm m.scale (scales ms), mul_comm m.factor (factors ms), sym (rank_product-stretched a s' t'), sym (rank_product-stretched (a + 1) s t)) both
 
 pub composed-near : (a : ℕ) (g f : List ℕ) (ms : List MatchedChild) → SumsAreWithin a (a + 1) g f → AllByRecursion (IsNear a) ms
     → AllByRecursion (IsChildOf (sum g)) (map (λ m. m.near) ms) → AllByRecursion (IsChildOf (sum f)) (map (λ m. m.exact) ms)
-    → AllByRecursion ColumnFalls (map (λ m. m.near) ms)
+    → AllByRecursion ColumnIsDescending (map (λ m. m.near) ms)
     → SumsAreWithin (a * scales ms) ((a + 1) * factors ms) (composed g (map (λ m. m.near) ms)) (composed f (map (λ m. m.exact) ms))
 composed-near a g f ms near_g near ok ok' fall r =
     let u : List ℕ = spreads (exacts ms) (sum f) in

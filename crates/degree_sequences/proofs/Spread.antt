@@ -1,36 +1,36 @@
--- A list is cut at a sum (`cut`), and the elements of a list are spread over rows (`spread`). The lemmas are about the running sums of both.
+-- A list is cut at a sum (`cut_with_zeros`), and the elements of a list are spread over rows (`spread`). The lemmas are about the running sums of both.
 use Rattle.std.proofs.Common.{List, [], ap, arith, false, get_or, inl, inr, leb, length, length-append, max, min, refl, replicate, suc, sum, sym, true, zero, ℕ, ◌*◌, ◌++◌, ◌+◌, ◌-◌, ◌<◌, ◌∙◌, ◌∷◌, ◌≡◌, ◌≤◌}
 use Rattle.std.proofs.Math.Nat.{suc-mul, zero-mul}
 use Rattle.std.proofs.lemmas.Bool.{cases_lt, le-leb, lt-leb}
 use Rattle.std.proofs.lemmas.List.{length-replicate}
 use Rattle.std.proofs.lemmas.List.Sums.{sum_by-cons}
 use Rattle.degree_sequences.proofs.ByRank.{length-rank_product-le, rank_product-above}
-use Rattle.degree_sequences.proofs.FallingLists.{IsFalling-from_sums, sums_fall}
+use Rattle.degree_sequences.proofs.FallingLists.{IsDescending-from_sums, sums_fall}
 use Rattle.degree_sequences.proofs.Ranks.{rank_pos}
 use Rattle.degree_sequences.proofs.RunningSums.{running_sum-le-sum, running_sum-mono, running_sum-nil, running_sum-past}
 use Rattle.degree_sequences.proofs.Summation.{sum_below, sum_below-product, sum_below-same}
 use Rattle.degree_sequences.specs.ByRank.{rank_product}
-use Rattle.degree_sequences.specs.Falling.{IsFalling}
+use Rattle.degree_sequences.specs.Descending.{IsDescending}
 use Rattle.degree_sequences.specs.Rank.{rank}
-use Rattle.degree_sequences.specs.RunningSums.{IsAbove, running_sum}
+use Rattle.degree_sequences.specs.RunningSums.{HasHigherSums, running_sum}
 
--- `cut g m` has the first elements of g, cut so that they sum to at most m, and then zeros
-abbrev pub cut : List ℕ → ℕ → List ℕ
-cut [] m = []
-cut (x ∷ g) m = min x m ∷ cut g (m - x)
+-- `cut_with_zeros g m` has the first elements of g, cut so that they sum to at most m, and then zeros
+abbrev pub cut_with_zeros : List ℕ → ℕ → List ℕ
+cut_with_zeros [] m = []
+cut_with_zeros (x ∷ g) m = min x m ∷ cut_with_zeros g (m - x)
 
-pub running_sum-cut : (g : List ℕ) (m r : ℕ) → running_sum (cut g m) r ≡ min (running_sum g r) m
-running_sum-cut g m zero = omega arith
-running_sum-cut [] m (suc r) = omega arith
-running_sum-cut (x ∷ g) m (suc r) = omega (arith, running_sum-cut g (m - x) r)
+pub running_sum-cut_with_zeros : (g : List ℕ) (m r : ℕ) → running_sum (cut_with_zeros g m) r ≡ min (running_sum g r) m
+running_sum-cut_with_zeros g m zero = omega arith
+running_sum-cut_with_zeros [] m (suc r) = omega arith
+running_sum-cut_with_zeros (x ∷ g) m (suc r) = omega (arith, running_sum-cut_with_zeros g (m - x) r)
 
-pub length-cut : (g : List ℕ) (m : ℕ) → length (cut g m) ≡ length g
-length-cut [] m = refl
-length-cut (x ∷ g) m = ap suc (length-cut g (m - x))
+pub length-cut_with_zeros : (g : List ℕ) (m : ℕ) → length (cut_with_zeros g m) ≡ length g
+length-cut_with_zeros [] m = refl
+length-cut_with_zeros (x ∷ g) m = ap suc (length-cut_with_zeros g (m - x))
 
-pub IsFalling-cut : (g : List ℕ) (m : ℕ) → IsFalling g → IsFalling (cut g m)
-IsFalling-cut g m fall = IsFalling-from_sums (cut g m)
-    (λ r. omega (arith, running_sum-cut g m r, running_sum-cut g m (suc r), running_sum-cut g m (suc (suc r)), sums_fall g fall r, running_sum-mono g r (suc r) (omega arith)))
+pub IsDescending-cut_with_zeros : (g : List ℕ) (m : ℕ) → IsDescending g → IsDescending (cut_with_zeros g m)
+IsDescending-cut_with_zeros g m fall = IsDescending-from_sums (cut_with_zeros g m)
+    (λ r. omega (arith, running_sum-cut_with_zeros g m r, running_sum-cut_with_zeros g m (suc r), running_sum-cut_with_zeros g m (suc (suc r)), sums_fall g fall r, running_sum-mono g r (suc r) (omega arith)))
 
 abbrev pub tail_of : List ℕ → List ℕ
 tail_of [] = []
@@ -40,9 +40,9 @@ pub get_or-tail_of : (v : List ℕ) (i : ℕ) → get_or (tail_of v) i 0 ≡ get
 get_or-tail_of [] i = refl
 get_or-tail_of (y ∷ v) i = refl
 
-pub IsFalling-tail_of : (v : List ℕ) → IsFalling v → IsFalling (tail_of v)
-IsFalling-tail_of [] fall = λ r. omega arith
-IsFalling-tail_of (y ∷ v) fall = λ r. fall (suc r)
+pub IsDescending-tail_of : (v : List ℕ) → IsDescending v → IsDescending (tail_of v)
+IsDescending-tail_of [] fall = λ r. omega arith
+IsDescending-tail_of (y ∷ v) fall = λ r. fall (suc r)
 
 -- `spread g v` repeats each element of v as often as the element of g at the same index says
 abbrev pub spread : List ℕ → List ℕ → List ℕ
@@ -94,69 +94,69 @@ running_sum-front (suc x) y s (suc m) =
     let rest : suc m - suc x ≡ m - x = omega arith in
     omega (arith, running_sum-front x y s m, ap (λ k. k * y) one, ap (running_sum s) rest, suc-mul (min x m) y)
 
-pub sum_below-cut : (g v : List ℕ) (m : ℕ) → sum_below (λ r. get_or (cut g m) r 0 * get_or v r 0) (length g) ≡ running_sum (spread g v) m
-sum_below-cut [] v m = sym (running_sum-nil m)
-sum_below-cut (x ∷ g) v m =
-    let same : sum_below (λ r. get_or (cut g (m - x)) r 0 * get_or v (suc r) 0) (length g) ≡ sum_below (λ r. get_or (cut g (m - x)) r 0 * get_or (tail_of v) r 0) (length g) =
-    sum_below-same (λ r. get_or (cut g (m - x)) r 0 * get_or v (suc r) 0) (λ r. get_or (cut g (m - x)) r 0 * get_or (tail_of v) r 0) (length g)
-    (λ r h. ap (λ k. get_or (cut g (m - x)) r 0 * k) (sym (get_or-tail_of v r))) in
-    omega (arith, same, sum_below-cut g (tail_of v) (m - x), running_sum-front x (get_or v 0 0) (spread g (tail_of v)) m)
+pub sum_below-cut_with_zeros : (g v : List ℕ) (m : ℕ) → sum_below (λ r. get_or (cut_with_zeros g m) r 0 * get_or v r 0) (length g) ≡ running_sum (spread g v) m
+sum_below-cut_with_zeros [] v m = sym (running_sum-nil m)
+sum_below-cut_with_zeros (x ∷ g) v m =
+    let same : sum_below (λ r. get_or (cut_with_zeros g (m - x)) r 0 * get_or v (suc r) 0) (length g) ≡ sum_below (λ r. get_or (cut_with_zeros g (m - x)) r 0 * get_or (tail_of v) r 0) (length g) =
+    sum_below-same (λ r. get_or (cut_with_zeros g (m - x)) r 0 * get_or v (suc r) 0) (λ r. get_or (cut_with_zeros g (m - x)) r 0 * get_or (tail_of v) r 0) (length g)
+    (λ r h. ap (λ k. get_or (cut_with_zeros g (m - x)) r 0 * k) (sym (get_or-tail_of v r))) in
+    omega (arith, same, sum_below-cut_with_zeros g (tail_of v) (m - x), running_sum-front x (get_or v 0 0) (spread g (tail_of v)) m)
 
-pub running_sum-cut_product-le : (g v : List ℕ) (m n : ℕ) → running_sum (rank_product (cut g m) v) n ≤ running_sum (spread g v) m
+pub running_sum-cut_product-le : (g v : List ℕ) (m n : ℕ) → running_sum (rank_product (cut_with_zeros g m) v) n ≤ running_sum (spread g v) m
 running_sum-cut_product-le g v m n =
     omega (
       arith,
-      sum_below-cut g v m,
-      sum_below-product (cut g m) v (length g),
-      running_sum-le-sum (rank_product (cut g m) v) n,
-      running_sum-past (rank_product (cut g m) v) (length g) (omega (arith, length-rank_product-le (cut g m) v, length-cut g m)),
+      sum_below-cut_with_zeros g v m,
+      sum_below-product (cut_with_zeros g m) v (length g),
+      running_sum-le-sum (rank_product (cut_with_zeros g m) v) n,
+      running_sum-past (rank_product (cut_with_zeros g m) v) (length g) (omega (arith, length-rank_product-le (cut_with_zeros g m) v, length-cut_with_zeros g m)),
     )
 
-pub running_sum-spread : (g v : List ℕ) (m r : ℕ) → length g ≤ r → running_sum (rank_product (cut g m) v) r ≡ running_sum (spread g v) m
+pub running_sum-spread : (g v : List ℕ) (m r : ℕ) → length g ≤ r → running_sum (rank_product (cut_with_zeros g m) v) r ≡ running_sum (spread g v) m
 running_sum-spread g v m r h =
     omega (
       arith,
-      sum_below-cut g v m,
-      sum_below-product (cut g m) v (length g),
-      running_sum-past (rank_product (cut g m) v) (length g) (omega (arith, length-rank_product-le (cut g m) v, length-cut g m)),
-      running_sum-past (rank_product (cut g m) v) r (omega (arith, length-rank_product-le (cut g m) v, length-cut g m)),
+      sum_below-cut_with_zeros g v m,
+      sum_below-product (cut_with_zeros g m) v (length g),
+      running_sum-past (rank_product (cut_with_zeros g m) v) (length g) (omega (arith, length-rank_product-le (cut_with_zeros g m) v, length-cut_with_zeros g m)),
+      running_sum-past (rank_product (cut_with_zeros g m) v) r (omega (arith, length-rank_product-le (cut_with_zeros g m) v, length-cut_with_zeros g m)),
     )
 
-pub IsFalling-front : (x y : ℕ) (s : List ℕ) → get_or s 0 0 ≤ y → IsFalling s → IsFalling (replicate x y ++ s)
-IsFalling-front zero y s h fall = fall
-IsFalling-front (suc zero) y s h fall = λ r. step r
+pub IsDescending-front : (x y : ℕ) (s : List ℕ) → get_or s 0 0 ≤ y → IsDescending s → IsDescending (replicate x y ++ s)
+IsDescending-front zero y s h fall = fall
+IsDescending-front (suc zero) y s h fall = λ r. step r
   where
     step : (r : ℕ) → get_or (y ∷ s) (suc r) 0 ≤ get_or (y ∷ s) r 0
     step zero = h
     step (suc r) = fall r
-IsFalling-front (suc (suc x)) y s h fall = λ r. step (IsFalling-front (suc x) y s h fall) r
+IsDescending-front (suc (suc x)) y s h fall = λ r. step (IsDescending-front (suc x) y s h fall) r
   where
-    step : IsFalling (y ∷ (replicate x y ++ s)) → (r : ℕ) → get_or (y ∷ (y ∷ (replicate x y ++ s))) (suc r) 0 ≤ get_or (y ∷ (y ∷ (replicate x y ++ s))) r 0
+    step : IsDescending (y ∷ (replicate x y ++ s)) → (r : ℕ) → get_or (y ∷ (y ∷ (replicate x y ++ s))) (suc r) 0 ≤ get_or (y ∷ (y ∷ (replicate x y ++ s))) r 0
     step ih zero = omega arith
     step ih (suc r) = ih r
 
-pub spread-head : (g v : List ℕ) (m : ℕ) → IsFalling v → get_or v 0 0 ≤ m → get_or (spread g v) 0 0 ≤ m
+pub spread-head : (g v : List ℕ) (m : ℕ) → IsDescending v → get_or v 0 0 ≤ m → get_or (spread g v) 0 0 ≤ m
 spread-head [] v m fall h = omega arith
 spread-head (zero ∷ g) v m fall h = spread-head g (tail_of v) m (λ r. tail_falls v fall r) (omega (arith, h, get_or-tail_of v 0, fall 0))
   where
-    tail_falls : (v : List ℕ) → IsFalling v → IsFalling (tail_of v)
+    tail_falls : (v : List ℕ) → IsDescending v → IsDescending (tail_of v)
     tail_falls [] fall = λ r. omega arith
     tail_falls (y ∷ v) fall = λ r. fall (suc r)
 spread-head (suc x ∷ g) v m fall h = h
 
-pub IsFalling-spread : (g v : List ℕ) → IsFalling v → IsFalling (spread g v)
-IsFalling-spread [] v fall = λ r. omega arith
-IsFalling-spread (x ∷ g) v fall = IsFalling-front x (get_or v 0 0) (spread g (tail_of v))
-    (spread-head g (tail_of v) (get_or v 0 0) (IsFalling-tail_of v fall) (omega (arith, get_or-tail_of v 0, fall 0)))
-    (IsFalling-spread g (tail_of v) (IsFalling-tail_of v fall))
+pub IsDescending-spread : (g v : List ℕ) → IsDescending v → IsDescending (spread g v)
+IsDescending-spread [] v fall = λ r. omega arith
+IsDescending-spread (x ∷ g) v fall = IsDescending-front x (get_or v 0 0) (spread g (tail_of v))
+    (spread-head g (tail_of v) (get_or v 0 0) (IsDescending-tail_of v fall) (omega (arith, get_or-tail_of v 0, fall 0)))
+    (IsDescending-spread g (tail_of v) (IsDescending-tail_of v fall))
 
-pub spread-above : (g v g' v' : List ℕ) → IsFalling v → IsFalling g' → IsAbove g g' → IsAbove v v' → IsAbove (spread g v) (spread g' v')
+pub spread-above : (g v g' v' : List ℕ) → IsDescending v → IsDescending g' → HasHigherSums g g' → HasHigherSums v v' → HasHigherSums (spread g v) (spread g' v')
 spread-above g v g' v' fv fg' above_g above_v m =
     let n : ℕ = max (length g) (length g') in
     omega (
       arith,
       running_sum-spread g v m n (omega arith),
       running_sum-spread g' v' m n (omega arith),
-      rank_product-above (cut g m) v (cut g' m) v' fv (IsFalling-cut g' m fg')
-          (λ r. omega (arith, running_sum-cut g m r, running_sum-cut g' m r, above_g r)) above_v n,
+      rank_product-above (cut_with_zeros g m) v (cut_with_zeros g' m) v' fv (IsDescending-cut_with_zeros g' m fg')
+          (λ r. omega (arith, running_sum-cut_with_zeros g m r, running_sum-cut_with_zeros g' m r, above_g r)) above_v n,
     )

@@ -1,7 +1,7 @@
 -- Composition: a table's list for its parent column, made from the lists of its columns and of its children.
 use Rattle.std.specs.Prelude.{ℕ, ◌-◌, ◌*◌, List, [], ◌∷◌, map, drop, slice_index}
 use Rattle.std.specs.List.{sum, range_with_len}
-use Rattle.degree_sequences.specs.Falling.{trimmed}
+use Rattle.degree_sequences.specs.Descending.{trimmed}
 use Rattle.degree_sequences.specs.RunningSums.{running_sum}
 use Rattle.degree_sequences.specs.Rank.{rank}
 

@@ -12,15 +12,15 @@ different [] = []
 different (key ∷ keys) = key ∷ filter (λ other. not (other == key)) (different keys)
 
 -- a list in descending order with n inserted, so that it stays in this order
-abbrev pub put_in : ℕ → List ℕ → List ℕ
-put_in n [] = n ∷ []
-put_in n (m ∷ ms) = if nat_le m n then n ∷ (m ∷ ms) else (m ∷ put_in n ms)
+abbrev pub inserted_descending : ℕ → List ℕ → List ℕ
+inserted_descending n [] = n ∷ []
+inserted_descending n (m ∷ ms) = if nat_le m n then n ∷ (m ∷ ms) else (m ∷ inserted_descending n ms)
 
 -- the numbers in descending order
-abbrev pub in_falling_order : List ℕ → List ℕ
-in_falling_order [] = []
-in_falling_order (n ∷ ns) = put_in n (in_falling_order ns)
+abbrev pub sorted_descending : List ℕ → List ℕ
+sorted_descending [] = []
+sorted_descending (n ∷ ns) = inserted_descending n (sorted_descending ns)
 
 -- the degree list of keys: the degrees of the different keys, the greatest first
 abbrev pub degree_list : List ℕ → List ℕ
-degree_list keys = in_falling_order (map (degree keys) (different keys))
+degree_list keys = sorted_descending (map (degree keys) (different keys))

@@ -1,7 +1,7 @@
 -- Rows with a parent key and one key for each child, and when lists dominate them.
 use Rattle.std.specs.Prelude.{◌≡◌, ℕ, ◌*◌, ◌==◌, if◌then◌else◌, List, [], ◌∷◌, length, slice_index}
 use Rattle.std.specs.List.{sum_by, range_with_len}
-use Rattle.degree_sequences.specs.Falling.{IsFalling}
+use Rattle.degree_sequences.specs.Descending.{IsDescending}
 use Rattle.degree_sequences.specs.Domination.{DominatesKeys, DominatesWeights}
 use Rattle.degree_sequences.specs.Composition.{ChildLists}
 
@@ -14,7 +14,7 @@ pub record ChildKeys : Type 0 where
 pub record DominatesChild (rows : ℕ) (lists : ChildLists) (child : ChildKeys) : Type 0 where
   pub column : DominatesKeys lists.column child.keys
   pub class : DominatesWeights lists.class child.weight
-  pub class_falls : IsFalling lists.class
+  pub class_falls : IsDescending lists.class
   pub key_per_row : length child.keys ≡ rows
 
 -- the weight of row i, counted from 0: the product over the children of the class weights of the row's keys

@@ -1,4 +1,4 @@
-pub mod Falling
+pub mod Descending
 pub mod RunningSums
 pub mod Degrees
 pub mod Domination
@@ -9,4 +9,4 @@ pub mod Composition
 pub mod Runs
 pub mod Saturation
 pub mod KeyedRows
-pub mod Families
+pub mod ComparedChildren

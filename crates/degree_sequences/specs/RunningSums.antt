@@ -1,7 +1,7 @@
 -- Running sums of a list, and lists that are given by their running sums.
 use Rattle.std.specs.Prelude.{ℕ, zero, suc, ◌+◌, ◌-◌, ◌≤◌, min, max, List, [], ◌∷◌, map, length}
 use Rattle.std.specs.List.{range_with_len}
-use Rattle.degree_sequences.specs.Falling.{trimmed}
+use Rattle.degree_sequences.specs.Descending.{trimmed}
 
 -- the sum of the first r elements
 abbrev pub running_sum : List ℕ → ℕ → ℕ
@@ -10,8 +10,8 @@ running_sum [] (suc r) = 0
 running_sum (x ∷ s) (suc r) = x + running_sum s r
 
 -- at every rank the running sum of s is at least the running sum of t
-abbrev pub IsAbove : List ℕ → List ℕ → Type 0
-IsAbove s t = (r : ℕ) → running_sum t r ≤ running_sum s r
+abbrev pub HasHigherSums : List ℕ → List ℕ → Type 0
+HasHigherSums s t = (r : ℕ) → running_sum t r ≤ running_sum s r
 
 -- the list of n elements whose running sums are `sums 1`, `sums 2` and so on, if `sums 0` is 0 and `sums` never decreases
 abbrev pub with_running_sums : (ℕ → ℕ) → ℕ → List ℕ

@@ -7,8 +7,8 @@ ghost use Rattle.degree_sequences.specs.Composition.{ChildLists, row_weights, bl
 ghost use Rattle.degree_sequences.specs.Compression.{slope, compressed};
 ghost use Rattle.degree_sequences.specs.Degrees.{degree, different, degree_list};
 ghost use Rattle.degree_sequences.specs.Domination.{DominatesKeys, DominatesWeights};
-ghost use Rattle.degree_sequences.specs.Falling.{IsFalling, trimmed};
-ghost use Rattle.degree_sequences.specs.Families.{IsChildOf};
+ghost use Rattle.degree_sequences.specs.Descending.{IsDescending, trimmed};
+ghost use Rattle.degree_sequences.specs.ComparedChildren.{IsChildOf};
 ghost use Rattle.degree_sequences.specs.Rank.{rank};
 ghost use Rattle.degree_sequences.specs.RunningSums.{running_sum, lesser, cut_at};
 ghost use Rattle.degree_sequences.specs.Runs.{runs};
@@ -20,7 +20,7 @@ ghost use Rattle.degree_sequences.specs.Saturation.{saturated};
 pub fn degree_lists()
     ensures different { (keys : List ℕ) → IsDistinct ◌==◌ (different keys) }
     ensures rearranged { (keys : List ℕ) → IsPermutation (map (degree keys) (different keys)) (degree_list keys) }
-    ensures falls { (keys : List ℕ) → IsFalling (degree_list keys) }
+    ensures falls { (keys : List ℕ) → IsDescending (degree_list keys) }
     ensures positive { (keys : List ℕ) → All (λ x. 0 < x) (degree_list keys) }
     ensures sum { (keys : List ℕ) → sum (degree_list keys) ≡ length keys }
     ensures dominates { (keys : List ℕ) → DominatesKeys (degree_list keys) keys }
@@ -43,11 +43,11 @@ pub fn operations()
     ensures sum { (s t : List ℕ) (r : ℕ) → slice_index (rank_sum s t) r ≡ slice_index s r + slice_index t r }
     ensures maximum { (s t : List ℕ) (r : ℕ)
         → slice_index (rank_maximum s t) r ≡ max (slice_index s r) (slice_index t r) }
-    ensures lesser_falls { (s t : List ℕ) → IsFalling s → IsFalling t → IsFalling (lesser s t) }
-    ensures cut_falls { (s : List ℕ) (n : ℕ) → IsFalling s → IsFalling (cut_at s n) }
-    ensures product_falls { (s t : List ℕ) → IsFalling s → IsFalling t → IsFalling (rank_product s t) }
-    ensures sum_falls { (s t : List ℕ) → IsFalling s → IsFalling t → IsFalling (rank_sum s t) }
-    ensures maximum_falls { (s t : List ℕ) → IsFalling s → IsFalling t → IsFalling (rank_maximum s t) }
+    ensures lesser_falls { (s t : List ℕ) → IsDescending s → IsDescending t → IsDescending (lesser s t) }
+    ensures cut_falls { (s : List ℕ) (n : ℕ) → IsDescending s → IsDescending (cut_at s n) }
+    ensures product_falls { (s t : List ℕ) → IsDescending s → IsDescending t → IsDescending (rank_product s t) }
+    ensures sum_falls { (s t : List ℕ) → IsDescending s → IsDescending t → IsDescending (rank_sum s t) }
+    ensures maximum_falls { (s t : List ℕ) → IsDescending s → IsDescending t → IsDescending (rank_maximum s t) }
 {}
 
 /// A compressed list has the same sum as its list, running sums that are no lower, elements that are at most a little
@@ -60,13 +60,13 @@ pub fn compressions()
     // elements are added only until their sum is f's sum
     ensures goes_on { (accuracy : ℕ) (f : List ℕ) (r : ℕ) → r < length (compressed accuracy f)
         → running_sum (compressed accuracy f) r < sum f }
-    ensures sum { (accuracy : ℕ) (f : List ℕ) → IsFalling f → sum (compressed accuracy f) ≡ sum f }
-    ensures falls { (accuracy : ℕ) (f : List ℕ) → IsFalling f → IsFalling (compressed accuracy f) }
-    ensures above { (accuracy : ℕ) (f : List ℕ) → IsFalling f → (r : ℕ)
+    ensures sum { (accuracy : ℕ) (f : List ℕ) → IsDescending f → sum (compressed accuracy f) ≡ sum f }
+    ensures falls { (accuracy : ℕ) (f : List ℕ) → IsDescending f → IsDescending (compressed accuracy f) }
+    ensures above { (accuracy : ℕ) (f : List ℕ) → IsDescending f → (r : ℕ)
         → running_sum f r ≤ running_sum (compressed accuracy f) r }
-    ensures near { (accuracy : ℕ) (f : List ℕ) → IsFalling f → (r : ℕ)
+    ensures near { (accuracy : ℕ) (f : List ℕ) → IsDescending f → (r : ℕ)
         → accuracy * slice_index (compressed accuracy f) r ≤ (accuracy + 1) * slice_index f r }
-    ensures few { (accuracy : ℕ) → 0 < accuracy → (f : List ℕ) → IsFalling f → All (λ x. 0 < x) f
+    ensures few { (accuracy : ℕ) → 0 < accuracy → (f : List ℕ) → IsDescending f → All (λ x. 0 < x) f
         → (digits : ℕ) → slice_index f 0 < 2 ^ digits → runs (compressed accuracy f) ≤ accuracy * digits + 1 }
 {}
 
@@ -74,8 +74,8 @@ pub fn compressions()
 pub fn compositions()
     ensures blocks { (parent : List ℕ) (children : List ChildLists) (r : ℕ)
         → running_sum (composed parent children) r ≡ running_sum (row_weights children (sum parent)) (running_sum parent r) }
-    ensures falls { (parent : List ℕ) (children : List ChildLists) → IsFalling parent
-        → AllByRecursion (IsChildOf (sum parent)) children → IsFalling (composed parent children) }
+    ensures falls { (parent : List ℕ) (children : List ChildLists) → IsDescending parent
+        → AllByRecursion (IsChildOf (sum parent)) children → IsDescending (composed parent children) }
 {}
 
 /// Saturating at each step gives the same as saturating once at the end, for sums, products,

@@ -1,6 +1,6 @@
 //! Laws of the shop's files. Each function does nothing, and its contract is the law.
 ghost use Rattle.std.specs.Prelude.{◌≡◌, ◌-◌, ◌^◌, ◌∷◌, [], ℕ, Some, codes};
-ghost use Rattle.base_io.specs.Files.{told, Present};
+ghost use Rattle.base_io.specs.Files.{answer_about, Present};
 ghost use Rattle.csv.specs.Reading.{default_config, records, strip_bom};
 ghost use Rattle.demo_files.specs.Files.{customer_records, item_records, order_records, product_records, table_records};
 ghost use Rattle.demo_files.specs.Files.{demo_files, file_text};
@@ -25,13 +25,13 @@ pub fn examples()
 
 /// Each file is found by its name.
 pub fn files_by_name()
-    ensures schema { (number : ℕ) → told (Some (demo_files number)) (codes "schema.sql") ≡ Present schema_text }
-    ensures query { (number : ℕ) → told (Some (demo_files number)) (codes "query.sql") ≡ Present query_text }
-    ensures products { (number : ℕ) → told (Some (demo_files number)) (codes "product.csv") ≡ Present (file_text product_records) }
-    ensures items { (number : ℕ) → told (Some (demo_files number)) (codes "item.csv") ≡ Present (file_text (item_records number)) }
-    ensures orders { (number : ℕ) → told (Some (demo_files number)) (codes "orders.csv") ≡ Present (file_text (order_records number)) }
+    ensures schema { (number : ℕ) → answer_about (Some (demo_files number)) (codes "schema.sql") ≡ Present schema_text }
+    ensures query { (number : ℕ) → answer_about (Some (demo_files number)) (codes "query.sql") ≡ Present query_text }
+    ensures products { (number : ℕ) → answer_about (Some (demo_files number)) (codes "product.csv") ≡ Present (file_text product_records) }
+    ensures items { (number : ℕ) → answer_about (Some (demo_files number)) (codes "item.csv") ≡ Present (file_text (item_records number)) }
+    ensures orders { (number : ℕ) → answer_about (Some (demo_files number)) (codes "orders.csv") ≡ Present (file_text (order_records number)) }
     ensures customers { (number : ℕ)
-        → told (Some (demo_files number)) (codes "customer.csv") ≡ Present (file_text (customer_records number)) }
+        → answer_about (Some (demo_files number)) (codes "customer.csv") ≡ Present (file_text (customer_records number)) }
 {}
 
 /// Reading each table's file as CSV gives the table's records.

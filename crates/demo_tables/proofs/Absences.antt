@@ -14,7 +14,7 @@ use Rattle.query_types.specs.Validity.{IsOf}
 use Rattle.query_types.specs.declared.types.Query.{Query}
 use Rattle.text_answers.specs.SchemaTexts.{schema_answer}
 use Rattle.outcomes.specs.Errors.{table_refusal}
-use Rattle.outcomes.specs.Reads.{◌>>=◌, IsOfWhatIsThere, MissesNothing, told}
+use Rattle.outcomes.specs.Reads.{◌>>=◌, IsNotMissing, MissesNothing, with_refusal}
 use Rattle.outcomes.specs.declared.names.FileId.{FileId}
 use Rattle.outcomes.specs.declared.names.FileId.TheVariants as file
 use Rattle.outcomes.specs.declared.refusal.Refusal.{Refusal}
@@ -22,7 +22,7 @@ use Rattle.outcomes.specs.declared.refusal.Refusal.TheVariants as refusal
 use Rattle.table_files.specs.Stage.{rows_by_entry, rows_of_each, table_at, table_rows, tables_of_query, tables_stage}
 use Rattle.table_files.specs.FileNames.{file_name}
 use Rattle.table_files.specs.TableFile.{bytes_of, file_rows, read, rows_of_bytes}
-use Rattle.table_files.proofs.Asked.{numbers_low}
+use Rattle.table_files.proofs.DatabaseOfQuery.{numbers_low}
 use Rattle.demo_files.specs.Files.{customer_records, demo_files, file_text, item_records, order_records, product_records}
 use Rattle.demo_files.specs.Texts.{query_text, schema_text}
 use Rattle.demo_tables.specs.ShopSchema.{shop_schema}
@@ -40,7 +40,7 @@ then_misses (Err s) f first next = λ id e. first id (let same : s ≡ refusal.M
 
 -- ---- reading one file
 
-either_misses : {A : Type 0} (refused : Bool) (r : Refusal) (x : A) → IsOfWhatIsThere r → MissesNothing (if refused then Err r else Ok x)
+either_misses : {A : Type 0} (refused : Bool) (r : Refusal) (x : A) → IsNotMissing r → MissesNothing (if refused then Err r else Ok x)
 either_misses true r x there id e = there id (let same : r ≡ refusal.Missing id = cc in same)
 either_misses false r x there id e = cc
 
@@ -48,7 +48,7 @@ present_misses : (id : FileId) (most : ℕ) (bytes : List ℕ) → MissesNothing
 present_misses id most bytes =
     either_misses (nat_lt most (length bytes)) (refusal.Limit limit.FileBytes id (most + 1)) bytes (λ other e. cc)
 
-bytes_miss : (number : ℕ) (answer : Result (List Row) TableError) → MissesNothing (told (table_refusal number) answer)
+bytes_miss : (number : ℕ) (answer : Result (List Row) TableError) → MissesNothing (with_refusal (table_refusal number) answer)
 bytes_miss number (Ok rows) id e = cc
 bytes_miss number (Err (table.Utf8 at)) id e = cc
 bytes_miss number (Err (table.Header column)) id e = cc

@@ -3,7 +3,7 @@ ghost use Rattle.std.specs.Prelude.{◌≡◌, ◌==◌, ◌↔◌, ◌<◌, [],
 ghost use Rattle.std.specs.Int.{bit_at};
 ghost use Rattle.std.specs.List.{Contains};
 ghost use Rattle.std.specs.List.Sorted.{IsStrictlyIncreasing};
-ghost use Rattle.entry_sets.specs.Naming.{are_just, are_within};
+ghost use Rattle.entry_sets.specs.Naming.{is_only_named, are_within};
 ghost use Rattle.entry_sets.specs.Sets.{entries_of_set, has_entry, set_of};
 
 /// The list of a set's entries has exactly these entries, in ascending order.
@@ -20,8 +20,8 @@ pub fn examples()
     ensures has_not { has_entry 5 1 ≡ false }
     ensures entries { entries_of_set 5 ≡ 0 ∷ 2 ∷ [] }
     ensures none { entries_of_set 0 ≡ [] }
-    ensures twice { are_just (1 ∷ 1 ∷ []) 1 ≡ true }
-    ensures another { are_just (1 ∷ 2 ∷ []) 1 ≡ false }
-    ensures nothing { are_just [] 1 ≡ false }
+    ensures twice { is_only_named (1 ∷ 1 ∷ []) 1 ≡ true }
+    ensures another { is_only_named (1 ∷ 2 ∷ []) 1 ≡ false }
+    ensures nothing { is_only_named [] 1 ≡ false }
     ensures within { are_within (1 ∷ 2 ∷ []) (2 ∷ 3 ∷ 1 ∷ []) ≡ true }
 {}

@@ -85,14 +85,14 @@ implied b c h k = rw h at k
 
 module _ (tables : Tables) (entry : ℕ) where
   -- the row passes the entry's own conjuncts
-  abbrev leaves : List Cond → ℕ → Bool
-  leaves conjuncts row = list_all (λ c. not (levels.names_just c entry) || c.holds (λ e. row)) (map (conjunct_of tables) conjuncts)
+  abbrev passes_own_conjuncts : List Cond → ℕ → Bool
+  passes_own_conjuncts conjuncts row = list_all (λ c. not (levels.names_just c entry) || c.holds (λ e. row)) (map (conjunct_of tables) conjuncts)
 
-  own_pass : (row : ℕ) (conjuncts : List Cond) → leaves conjuncts row ≡ true
+  own_pass : (row : ℕ) (conjuncts : List Cond) → passes_own_conjuncts conjuncts row ≡ true
       → AllByRecursion (Passes tables entry row) (map (λ c. conjunction_of (row_tests tables entry) c true) (own_conjuncts entry conjuncts))
   own_pass row [] h = tt
   own_pass row (c ∷ conjuncts) h =
-      let parts = and_parts (not (levels.names_just (conjunct_of tables c) entry) || cond_holds tables (λ e. row) c) (leaves conjuncts row) h in
+      let parts = and_parts (not (levels.names_just (conjunct_of tables c) entry) || cond_holds tables (λ e. row) c) (passes_own_conjuncts conjuncts row) h in
       elim (cases_Bool (names_just entry c)) [
         | inl t ↦ rw t (
           cond_passes tables entry row c
@@ -103,7 +103,7 @@ module _ (tables : Tables) (entry : ℕ) where
         | inr n ↦ rw n (own_pass row conjuncts parts.1)
       ]
 
-  left_pass : (conjuncts : List Cond) (row : ℕ) → leaves conjuncts row ≡ true → filtered (row_tests tables entry) entry conjuncts row ≡ true
+  left_pass : (conjuncts : List Cond) (row : ℕ) → passes_own_conjuncts conjuncts row ≡ true → filtered (row_tests tables entry) entry conjuncts row ≡ true
   left_pass conjuncts row h =
       let members : List (Conjunction (ℕ → Bool)) = map (λ c. conjunction_of (row_tests tables entry) c true) (own_conjuncts entry conjuncts) in
       and_from (and_answer (row_tests tables entry) (one_conjunction members) row) true (and_passes tables entry row (one_conjunction members) (joined_passes tables entry row members (own_pass row conjuncts h))) refl
@@ -128,7 +128,7 @@ module _ (tables : Tables) (entry : ℕ) where
         none = none_pass counted rows;
         either = λ p q m n h k. omega (arith, h, k, either_passes counted p q rows);
       }) entry conjuncts in
-      omega (arith, passing, fewer_pass counted (leaves conjuncts) (filtered (row_tests tables entry) entry conjuncts) (left_pass conjuncts) rows)
+      omega (arith, passing, fewer_pass counted (passes_own_conjuncts conjuncts) (filtered (row_tests tables entry) entry conjuncts) (left_pass conjuncts) rows)
 
 -- ---- filtered lists and row bounds are never too low
 

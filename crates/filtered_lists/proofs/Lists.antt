@@ -1,11 +1,11 @@
 -- A filtered list is made of other lists. Its running sums and its sum are computed from the running sums and the sums of these lists.
 use Rattle.std.proofs.Common.{◌≡◌, ℕ, ◌+◌, ◌<◌, ◌≤◌, min, List, [], length, refl, ◌∙◌, arith}
 use Rattle.std.specs.List.{All, sum}
-use Rattle.degree_sequences.proofs.ByRank.{running_sum-rank_sum, IsFalling-rank_sum, sum-rank_sum}
-use Rattle.degree_sequences.proofs.Minima.{running_sum-lesser, IsFalling-lesser}
+use Rattle.degree_sequences.proofs.ByRank.{running_sum-rank_sum, IsDescending-rank_sum, sum-rank_sum}
+use Rattle.degree_sequences.proofs.Minima.{running_sum-lesser, IsDescending-lesser}
 use Rattle.degree_sequences.proofs.RunningSums.{running_sum-nil, running_sum-past}
-use Rattle.degree_sequences.specs.Falling.{IsFalling}
-use Rattle.degree_sequences.specs.RunningSums.{IsAbove, running_sum, lesser}
+use Rattle.degree_sequences.specs.Descending.{IsDescending}
+use Rattle.degree_sequences.specs.RunningSums.{HasHigherSums, running_sum, lesser}
 use Rattle.query_types.specs.declared.types.Cond.{Cond}
 use Rattle.filtered_lists.specs.Lists.{ColumnLists, RowCounts, list_answers, count_answers, filtered_list, row_bound}
 use Rattle.filtered_lists.specs.Filters.{own_conjuncts}
@@ -60,15 +60,15 @@ sum-filtered lists counts entry conjuncts h =
 
 -- ---- lists in descending order
 
-pub filtered_falls : (lists : ColumnLists) (entry : ℕ) (conjuncts : List Cond) → ListsFall lists → IsFalling (filtered_list lists entry conjuncts)
+pub filtered_falls : (lists : ColumnLists) (entry : ℕ) (conjuncts : List Cond) → ListsFall lists → IsDescending (filtered_list lists entry conjuncts)
 filtered_falls lists entry conjuncts h =
-    filtered_related (List ℕ) (List ℕ) (λ s t. IsFalling s) (list_answers lists) (list_answers lists) (record {
+    filtered_related (List ℕ) (List ℕ) (λ s t. IsDescending s) (list_answers lists) (list_answers lists) (record {
       whole = h.whole;
       equal = h.equal;
       range = h.range;
-      both = λ s t s' t' f g. IsFalling-lesser s t f g;
+      both = λ s t s' t' f g. IsDescending-lesser s t f g;
       none = λ r. omega arith;
-      either = λ s t s' t' f g. IsFalling-rank_sum s t f g;
+      either = λ s t s' t' f g. IsDescending-rank_sum s t f g;
     }) entry conjuncts
 
 -- ---- entries without own conjuncts
@@ -82,7 +82,7 @@ unfiltered_rows counts entry conjuncts none = rw none (omega arith)
 
 -- ---- the filtered list is at most the list of all rows
 
-pub filtered_within : (lists : ColumnLists) (entry : ℕ) (conjuncts : List Cond) → IsAbove lists.whole (filtered_list lists entry conjuncts)
+pub filtered_within : (lists : ColumnLists) (entry : ℕ) (conjuncts : List Cond) → HasHigherSums lists.whole (filtered_list lists entry conjuncts)
 filtered_within lists entry conjuncts r = omega (arith, running_sum-filtered lists r entry conjuncts)
 
 pub rows_within : (counts : RowCounts) (entry : ℕ) (conjuncts : List Cond) → row_bound counts entry conjuncts ≤ counts.whole

@@ -17,7 +17,7 @@ use Rattle.query_types.specs.declared.types.Cond.TheOpen.{Cond-F}
 use Rattle.query_types.specs.declared.types.Cond.TheOpen as layer
 use Rattle.query_types.specs.Named.{entries_named, entries_of_operand, entries_step}
 use Rattle.sql_meaning.specs.Conditions as meaning
-use Rattle.sql_meaning.specs.Conditions.{column_value, operand_value, compares, comparison_says, cond_holds, holds_step}
+use Rattle.sql_meaning.specs.Conditions.{column_value, operand_value, compares, comparison_holds, cond_holds, holds_step}
 use Rattle.sql_meaning.specs.Tables.{Tables}
 use Rattle.degree_sequences.specs.Degrees.{different}
 use Rattle.filtered_lists.specs.Comparisons.{comparison_of, opposite, mirrored}
@@ -200,7 +200,7 @@ module _ (tables : Tables) (entry row : ℕ) where
   whole_passes = passes_answer (λ row. true) refl
 
   operands_pass : (o : Op) (left right : Operand) → AllByRecursion (λ e. e ≡ entry) (entries_of_operand left ++ entries_of_operand right)
-      → comparison_says tables (λ e. row) o left right ≡ true → Passes (of_comparison_or_whole tests (comparison_of o left right))
+      → comparison_holds tables (λ e. row) o left right ≡ true → Passes (of_comparison_or_whole tests (comparison_of o left right))
   operands_pass o (operand.Column column) (operand.Int number) named h = left_column o column (Int number) named.0 h
   operands_pass o (operand.Column column) (operand.Text text) named h = left_column o column (Text text) named.0 h
   operands_pass o (operand.Column column) (operand.Column other) named h = whole_passes

@@ -4,7 +4,7 @@ use Rattle.std.specs.List.{All, AllByRecursion}
 use Rattle.std.proofs.lemmas.List.Elements.{recursion_from_All}
 use Rattle.degree_sequences.proofs.Minima.{running_sum-lesser}
 use Rattle.degree_sequences.proofs.RunningSums.{running_sum-trimmed}
-use Rattle.degree_sequences.specs.Falling.{onto, trimmed}
+use Rattle.degree_sequences.specs.Descending.{cons_unless_zero_at_end, trimmed}
 use Rattle.degree_sequences.specs.RunningSums.{running_sum, lesser, with_running_sums}
 
 zero_sums : (t : List ℕ) → ((r : ℕ) → running_sum t r ≡ 0) → trimmed t ≡ []
@@ -31,7 +31,7 @@ same_sums (x ∷ s) (y ∷ t) h =
 positive_whole : (s : List ℕ) → AllByRecursion (λ x. 0 < x) s → trimmed s ≡ s
 positive_whole [] h = refl
 positive_whole (zero ∷ s) h = absurd (omega (arith, h.0))
-positive_whole (suc x ∷ s) h = ap (onto (suc x)) (positive_whole s h.1)
+positive_whole (suc x ∷ s) h = ap (cons_unless_zero_at_end (suc x)) (positive_whole s h.1)
 
 pub trimmed-positive : (s : List ℕ) → All (λ x. 0 < x) s → trimmed s ≡ s
 trimmed-positive s h = positive_whole s (recursion_from_All (λ x. 0 < x) s h)

@@ -2,7 +2,7 @@
 use Rattle.std.proofs.Common.{◌≡◌, ℕ, Bool, true, false, List, [], ◌∷◌, ◌++◌, None, Some, refl, ap}
 use Rattle.degree_sequences.specs.ByRank.{rank_sum}
 use Rattle.degree_sequences.specs.RunningSums.{lesser}
-use Rattle.entry_sets.specs.Naming.{are_just}
+use Rattle.entry_sets.specs.Naming.{is_only_named}
 use Rattle.query_grammar.specs.declared.tree.Op.{Op}
 use Rattle.query_grammar.specs.declared.tree.Op.TheVariants as op
 use Rattle.query_types.specs.declared.types.Operand.{Operand}
@@ -16,11 +16,11 @@ use Rattle.filtered_lists.specs.Filters.{Conjunction, and_answer, one_conjunctio
 use Rattle.filtered_lists.proofs.Parts.{of_and, of_or, of_not, of_compare}
 
 -- `one` and `other` are the two cases of a single comparison: it names entry 0 alone, or it doesn't
-pub one : (lists : ColumnLists) (o : Op) (left right : Operand) → are_just (entries_of_operand left ++ entries_of_operand right) 0 ≡ true
+pub one : (lists : ColumnLists) (o : Op) (left right : Operand) → is_only_named (entries_of_operand left ++ entries_of_operand right) 0 ≡ true
     → list_where lists (Compare o left right) ≡ lesser (and_answer (list_answers lists) (one_conjunction (conjunction_step (list_answers lists) (layer.Compare o left right) true ∷ []))) lists.whole
 one lists o left right named = rw (entries_compare o left right, named, of_compare (list_answers lists) o left right true) refl
 
-pub other : (lists : ColumnLists) (o : Op) (left right : Operand) → are_just (entries_of_operand left ++ entries_of_operand right) 0 ≡ false
+pub other : (lists : ColumnLists) (o : Op) (left right : Operand) → is_only_named (entries_of_operand left ++ entries_of_operand right) 0 ≡ false
     → list_where lists (Compare o left right) ≡ lesser lists.whole lists.whole
 other lists o left right named = rw (entries_compare o left right, named) refl
 

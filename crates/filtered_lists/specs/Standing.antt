@@ -4,7 +4,7 @@ use Rattle.std.specs.List.{filter, range_with_len, sum}
 use Rattle.std.specs.Ordering.{is_eq, is_ge, is_le}
 use Rattle.csv_tables.specs.Values.{Value, value_cmp}
 use Rattle.degree_sequences.specs.Domination.{DominatesKeys}
-use Rattle.degree_sequences.specs.Falling.{IsFalling}
+use Rattle.degree_sequences.specs.Descending.{IsDescending}
 use Rattle.query_types.specs.declared.types.Cond.{Cond}
 use Rattle.sql_meaning.specs.Answers.{conjunct_of}
 use Rattle.sql_meaning.specs.Conditions.{column_value}
@@ -60,9 +60,9 @@ pub record SumTo (lists : ColumnLists) (counts : RowCounts) : Type 0 where
 
 -- each list is in descending order
 pub record ListsFall (lists : ColumnLists) : Type 0 where
-  pub whole : IsFalling lists.whole
-  pub equal : (column : ℕ) (value : Value) → IsFalling (lists.equal column value)
-  pub range : (range : Range) → IsFalling (lists.range range)
+  pub whole : IsDescending lists.whole
+  pub equal : (column : ℕ) (value : Value) → IsDescending (lists.equal column value)
+  pub range : (range : Range) → IsDescending (lists.range range)
 
 -- the row numbers of an entry's rows that pass its own conjuncts
 abbrev pub scan_of : Tables → ℕ → List Cond → List ℕ

@@ -2,8 +2,8 @@
 ghost use Rattle.std.specs.Prelude.{◌≡◌, ℕ, ◌<◌, ◌≤◌, List, [], length, map};
 ghost use Rattle.std.specs.List.{All, sum};
 ghost use Rattle.degree_sequences.specs.Domination.{DominatesKeys};
-ghost use Rattle.degree_sequences.specs.Falling.{IsFalling};
-ghost use Rattle.degree_sequences.specs.RunningSums.{IsAbove};
+ghost use Rattle.degree_sequences.specs.Descending.{IsDescending};
+ghost use Rattle.degree_sequences.specs.RunningSums.{HasHigherSums};
 ghost use Rattle.query_types.specs.declared.types.Cond.{Cond};
 ghost use Rattle.sql_meaning.specs.Tables.{Tables};
 ghost use Rattle.filtered_lists.specs.Filters.{own_conjuncts};
@@ -38,9 +38,9 @@ pub fn row_bounds_are_sums()
 /// conjuncts, the filtered list is the list of all rows, if this list has no zeros, and the row bound is the number of all rows.
 pub fn filters_stay_within_the_whole()
     ensures falls { (lists : ColumnLists) (entry : ℕ) (conjuncts : List Cond) → ListsFall lists
-        → IsFalling (filtered_list lists entry conjuncts) }
+        → IsDescending (filtered_list lists entry conjuncts) }
     ensures within { (lists : ColumnLists) (entry : ℕ) (conjuncts : List Cond)
-        → IsAbove lists.whole (filtered_list lists entry conjuncts) }
+        → HasHigherSums lists.whole (filtered_list lists entry conjuncts) }
     ensures unfiltered { (lists : ColumnLists) (entry : ℕ) (conjuncts : List Cond)
         → own_conjuncts entry conjuncts ≡ [] → All (λ x. 0 < x) lists.whole
         → filtered_list lists entry conjuncts ≡ lists.whole }

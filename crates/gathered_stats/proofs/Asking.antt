@@ -18,7 +18,7 @@ use Rattle.filtered_lists.specs.Lists.{ColumnLists}
 use Rattle.filtered_lists.specs.Ranges.{Range}
 use Rattle.predicate_bounds.specs.declared.running.ListStep.{ListStep}
 use Rattle.predicate_bounds.specs.declared.steps.Step.{Step}
-use Rattle.predicate_bounds.specs.ListRuns.{listed}
+use Rattle.predicate_bounds.specs.ListRuns.{with_list}
 use Rattle.sql_meaning.specs.Databases.{AreCells}
 use Rattle.sql_meaning.proofs.ColumnFacts.{column_at}
 use Rattle.table_stats.specs.Cells.{IsCellFor}
@@ -96,7 +96,7 @@ range_small accuracy n texts k filter keys list low high tall small made =
 -- ---- the loop that makes the list of each step
 
 pub one_listed : (lists : ColumnLists) (steps : List Step) (i : ℕ) (step : Step) (old new : List ListStep) (one : ListStep) → i < length steps → step ≡ get_or steps i step
-    → old ≡ map (listed lists) (take i steps) → one ≡ listed lists step → new ≡ old ++ one ∷ [] → new ≡ map (listed lists) (take (i + 1) steps)
+    → old ≡ map (with_list lists) (take i steps) → one ≡ with_list lists step → new ≡ old ++ one ∷ [] → new ≡ map (with_list lists) (take (i + 1) steps)
 one_listed lists steps i step old new one low at before here pushed =
-    pushed ∙ ap (λ (s : List ListStep). s ++ one ∷ []) before ∙ ap (λ (l : ListStep). map (listed lists) (take i steps) ++ l ∷ []) (here ∙ ap (listed lists) at)
-    ∙ sym (ap (map (listed lists)) (take_more steps i step low) ∙ map-append (listed lists) (take i steps) (get_or steps i step ∷ []))
+    pushed ∙ ap (λ (s : List ListStep). s ++ one ∷ []) before ∙ ap (λ (l : ListStep). map (with_list lists) (take i steps) ++ l ∷ []) (here ∙ ap (with_list lists) at)
+    ∙ sym (ap (map (with_list lists)) (take_more steps i step low) ∙ map-append (with_list lists) (take i steps) (get_or steps i step ∷ []))

@@ -14,9 +14,9 @@ use Rattle.predicate_bounds.specs.declared.columns.ColumnSteps.{ColumnSteps}
 use Rattle.predicate_bounds.specs.declared.columns.EntryStats.{EntryStats}
 use Rattle.predicate_bounds.specs.declared.steps.Step.{Step}
 use Rattle.filtered_lists.specs.Lists.{ColumnLists}
-use Rattle.predicate_bounds.specs.ListRuns.{listed}
+use Rattle.predicate_bounds.specs.ListRuns.{with_list}
 use Rattle.predicate_bounds.specs.Steps.{steps_of}
-use Rattle.predicate_bounds.specs.Told.{no_columns}
+use Rattle.predicate_bounds.specs.StatsLists.{no_columns}
 use Rattle.query_types.specs.declared.types.Query.{Query}
 use Rattle.sql_meaning.specs.Databases.{AreCells, IsDatabaseOf}
 use Rattle.sql_meaning.specs.Tables.{cells_of, no_cells}
@@ -24,7 +24,7 @@ use Rattle.sql_meaning.proofs.ColumnFacts.{column_at}
 use Rattle.csv_tables.proofs.TableFacts.{columns_long}
 use Rattle.gathered_stats.specs.Columns.{HaveLists, keys_in}
 use Rattle.gathered_stats.specs.Asked.{AreGathered, AreStepsOf, AsksWithin, IsGathered, asked_columns}
-use Rattle.gathered_stats.proofs.Known.{steps_within}
+use Rattle.gathered_stats.proofs.ColumnsExist.{steps_within}
 
 pub one_column : (columns : List ℕ) (i : ℕ) (old new : List ColumnSteps) (one : ColumnSteps) → i < length columns → one.column ≡ get_or columns i 0
     → map (λ g. g.column) old ≡ take i columns → new ≡ old ++ one ∷ [] → map (λ g. g.column) new ≡ take (i + 1) columns
@@ -54,9 +54,9 @@ if_both (Ok x) P Q S f h k = f x h k
 if_both (Err e) P Q S f h k = h
 
 pub column_made : {E : Type 0} (r : Result ColumnSteps E) (texts : List (List ℕ)) (cells : Cells) (accuracy column : ℕ) (keys : List ℕ) (steps : List Step) → keys ≡ keys_in cells column
-    → IfOk r (λ g. g.column ≡ column) → IfOk r (λ g. (lists : ColumnLists) → HaveLists texts cells accuracy keys lists → g.steps ≡ map (listed lists) steps) → IfOk r (AreStepsOf texts cells accuracy steps)
+    → IfOk r (λ g. g.column ≡ column) → IfOk r (λ g. (lists : ColumnLists) → HaveLists texts cells accuracy keys lists → g.steps ≡ map (with_list lists) steps) → IfOk r (AreStepsOf texts cells accuracy steps)
 column_made r texts cells accuracy column keys steps is h k =
-    if_both r (λ g. g.column ≡ column) (λ g. (lists : ColumnLists) → HaveLists texts cells accuracy keys lists → g.steps ≡ map (listed lists) steps) (AreStepsOf texts cells accuracy steps)
+    if_both r (λ g. g.column ≡ column) (λ g. (lists : ColumnLists) → HaveLists texts cells accuracy keys lists → g.steps ≡ map (with_list lists) steps) (AreStepsOf texts cells accuracy steps)
     (λ g named made lists have. made lists (subst (λ (s : List ℕ). HaveLists texts cells accuracy s lists) (ap (keys_in cells) named ∙ sym is) have)) h k
 
 -- ---- the loop over entries

@@ -25,7 +25,7 @@ use Rattle.query_types.specs.declared.types.Cond.{Cond, every_here-Cond}
 use Rattle.query_types.specs.declared.types.Cond.TheViews.{out-Cond}
 use Rattle.query_types.specs.declared.types.Query.{Query}
 use Rattle.query_types.specs.Typing.{IsTypedLayer, Compares}
-use Rattle.sql_meaning.specs.Databases.{IsAskable, IsColumnOf, IsDatabaseOf, IsColumnOfKind}
+use Rattle.sql_meaning.specs.Databases.{IsWellTyped, IsColumnOf, IsDatabaseOf, IsColumnOfKind}
 use Rattle.sql_meaning.specs.Tables.{cells_of}
 use Rattle.gathered_stats.specs.Asked.{asked_columns, joined_columns, no_column, or_no_column, with_place}
 
@@ -142,7 +142,7 @@ place_exists query db of p k =
     let found : (e : Edge) × Contains (equalities_of query) e × ((p ≡ e.left) ⊎ (p ≡ e.right)) = edge_of (equalities_of query) p k in
     let from : (cond : Cond) × Contains query.conjuncts cond × (equality_of cond ≡ Some found.0) = from_filter_map equality_of query.conjuncts found.0 found.1 in
     let j : IsJoin (out-Cond from.0) found.0 = is_join from.0 found.0 from.2 in
-    let asked : IsAskable db from.0 = All-contains (IsAskable db) query.conjuncts from.0 of.conjuncts from.1 in
+    let asked : IsWellTyped db from.0 = All-contains (IsWellTyped db) query.conjuncts from.0 of.conjuncts from.1 in
     let can : Compares (IsColumnOfKind db) (operand.Column j.left) (operand.Column j.right) = subst (IsTypedLayer (IsColumnOfKind db)) j.compares (every_here-Cond (IsTypedLayer (IsColumnOfKind db)) from.0 asked) in
     elim found.2 [
       | inl is ↦ subst (λ (q : Place). IsColumnOf db (ref_of q)) (sym (is ∙ ap (λ (e : Edge). e.left) j.joins)) can.left_kind.exists

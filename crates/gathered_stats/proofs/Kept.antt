@@ -11,10 +11,10 @@ use Rattle.cond_stats.proofs.ValueLists.{of_none, of_others}
 use Rattle.gathered_stats.specs.declared.entry_table.EntryTable.{EntryTable}
 use Rattle.gathered_stats.specs.declared.rests.RestList.{RestList}
 use Rattle.gathered_stats.specs.Filters.{IsColumnIn}
-use Rattle.gathered_stats.specs.Seen.{seen}
+use Rattle.gathered_stats.specs.ShownCells.{shown_cells}
 use Rattle.gathered_stats.specs.Rests.{IsRestOf, among_frequent, is_kept, rest_in, with_rest}
 
-module _ (table : EntryTable) (keys : List ℕ) (column : ℕ) (sorted : CellColumn) (is : IsColumnIn table.pool.now (seen table) column sorted) where
+module _ (table : EntryTable) (keys : List ℕ) (column : ℕ) (sorted : CellColumn) (is : IsColumnIn table.pool.now (shown_cells table) column sorted) where
   rest_made : rest table.accuracy (zip sorted.cells keys) ≡ rest_in table keys column
   rest_made = ap (λ (s : CellColumn). rest table.accuracy (zip s.cells keys)) is.is
 

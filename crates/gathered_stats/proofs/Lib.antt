@@ -4,10 +4,10 @@
 --   that `gather_query` uses speaks of tables or values. Two facts are used once each: the cells of a column have the lists of its values
 --   (`their_lists`, from table_stats), and all rows have one key in a column that their table doesn't have (`missing_lists`).
 -- - Steps ask for columns that exist (`Known`). This is proved by one induction over conditions, in the shape of `Passing` of filtered_lists.
---   Its premises are `IsAskable` and "names this entry alone". For an AND it says that its ranges are of existing columns, and that its
+--   Its premises are `IsWellTyped` and "names this entry alone". For an AND it says that its ranges are of existing columns, and that its
 --   steps ask for existing columns.
--- - A look-up that cannot fail (`find`) has its test as `requires` (`is_sorted .. ≡ true`). Its loop's invariant says that no filter so far
---   is of the column (`is_sorted (take i filters) column ≡ false`). It was proved without an answer, and so was `unreachable!()`.
+-- - A look-up that cannot fail (`find`) has its test as `requires` (`has_filter .. ≡ true`). Its loop's invariant says that no filter so far
+--   is of the column (`has_filter (take i filters) column ≡ false`). It was proved without an answer, and so was `unreachable!()`.
 -- - A number that is reached through a reference is in the range of its type (`rows` is a `u32`, so below 2^32). A function with one line
 --   (`row_count`) gives this fact as `.type_inv`; `let _rows = cells.rows;` gives it under a name that may change.
 -- - `table.columns.get(i)` of a `Seq` after a test of `len` gives facts that are short to cite; a `match` on a slice's `get` doesn't.
@@ -21,9 +21,9 @@
 --   rest list (`rest_of_value`).
 
 pub mod Seeing
-pub mod Standing
+pub mod LiteralCells
 pub mod Sizes
-pub mod Known
+pub mod ColumnsExist
 pub mod Serving
 pub mod Picking
 pub mod Asking

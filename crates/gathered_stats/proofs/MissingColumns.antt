@@ -17,7 +17,7 @@ use Rattle.level_bounds.specs.Keys.{HaveDifferentCharacters}
 use Rattle.sql_meaning.specs.Databases.{AreTables}
 use Rattle.sql_meaning.specs.Tables.{cells_of, row_counts, tables_of}
 use Rattle.sql_meaning.proofs.LoopFacts.{rows_are}
-use Rattle.table_stats.specs.Columns.{column_values, numbered}
+use Rattle.table_stats.specs.Columns.{column_values, as_first_rows}
 use Rattle.table_stats.specs.Statistics.{column_lists, list_between, list_with}
 use Rattle.table_stats.proofs.CellColumns.{same_equal, same_range, same_whole}
 use Rattle.table_stats.proofs.DatabaseColumns.{cells_are, column_is, values_are}
@@ -84,7 +84,7 @@ module _ (db : Database) (are : AreTables db) (differ : HaveDifferentCharacters 
   lists_of_keys : HaveLists db.pool cells accuracy keys (column_lists (tables_of db) accuracy entry column)
   lists_of_keys = record {
     whole = same_whole db.pool differ kind.Int kind.Int keys keys (all_cells db.pool cells.rows) (all_cells db.pool cells.rows) accuracy
-        ∙ ap (λ (s : List Value). compressed_degrees accuracy (numbered s)) values;
+        ∙ ap (λ (s : List Value). compressed_degrees accuracy (as_first_rows s)) values;
     equal = λ filter value cell low stands.
         same_equal db.pool differ (kind_in cells filter) kind.Int (cells_in cells filter) keys (column_is db are differ entry there filter low).cells (all_cells db.pool cells.rows) accuracy value cell stands
         ∙ ap (λ (s : List Value). list_with accuracy s (map (value_of_cell db.pool kind.Int) keys) value) (values_are db are differ entry there filter low)

@@ -15,12 +15,12 @@ use Rattle.cond_stats.specs.Columns.{CellColumn}
 use Rattle.predicate_bounds.specs.declared.steps.Step.{Step}
 use Rattle.sql_meaning.specs.Databases.{AreCells}
 use Rattle.sql_meaning.proofs.ColumnFacts.{column_at}
-use Rattle.gathered_stats.specs.declared.beside.PickedColumn.{PickedColumn}
+use Rattle.gathered_stats.specs.declared.paired_rows.PickedColumn.{PickedColumn}
 use Rattle.gathered_stats.specs.declared.filters.Filter.{Filter}
 use Rattle.filtered_lists.specs.Lists.{ColumnLists}
 use Rattle.predicate_bounds.specs.declared.columns.ColumnSteps.{ColumnSteps}
 use Rattle.predicate_bounds.specs.declared.columns.EntryStats.{EntryStats}
-use Rattle.predicate_bounds.specs.ListRuns.{listed}
+use Rattle.predicate_bounds.specs.ListRuns.{with_list}
 use Rattle.predicate_bounds.specs.Steps.{steps_of}
 use Rattle.berge_tree.specs.declared.edges.Edge.{Edge}
 use Rattle.csv_tables.specs.declared.types.Database.{Database}
@@ -28,10 +28,10 @@ use Rattle.join_graph.specs.Conjuncts.{equalities_of}
 use Rattle.query_types.specs.declared.types.Query.{Query}
 use Rattle.sql_meaning.specs.Tables.{cells_of}
 use Rattle.gathered_stats.specs.Asked.{column_asked, joined_columns}
-use Rattle.gathered_stats.specs.Beside.{AreStepsBeside, IsGatheredBeside, IsPicked, ServeColumns}
+use Rattle.gathered_stats.specs.PairedRows.{AreStepsOfPaired, IsGatheredForPaired, IsPicked, HasColumnFor}
 use Rattle.gathered_stats.specs.Columns.{HaveLists, cells_in, kind_in}
-use Rattle.gathered_stats.specs.Filters.{IsColumnIn, Serve}
-use Rattle.gathered_stats.specs.Seen.{AreRowNumbersOf, cells_at, picked}
+use Rattle.gathered_stats.specs.Filters.{IsColumnIn, HasFilterFor}
+use Rattle.gathered_stats.specs.ShownCells.{AreRowNumbersOf, cells_at, picked}
 use Rattle.gathered_stats.proofs.Seeing.{picked_cells}
 use Rattle.gathered_stats.proofs.Serving.{one_item_more}
 
@@ -85,15 +85,15 @@ one_more P old new one all here pushed = subst (All P) (sym pushed) (All-push P 
 -- ---- the column of each step is among the picked columns, and then among the sorted columns
 
 pub served_already : (columns read : List PickedColumn) (step : Step) (found : Option ℕ) (column : ℕ) → read ≡ columns → found ≡ column_asked step → found ≡ Some column
-    → list_any (λ other. eqb other.column column) read ≡ true → ServeColumns columns step
+    → list_any (λ other. eqb other.column column) read ≡ true → HasColumnFor columns step
 served_already columns read step found column same asked is there =
     subst (λ (o : Option ℕ). IfSome o (λ column. list_any (λ other. eqb other.column column) columns ≡ true)) (sym is ∙ asked)
     (ap (λ (s : List PickedColumn). list_any (λ other. eqb other.column column) s) (sym same) ∙ there)
 
 pub serve_more : (old new : List PickedColumn) (steps : List Step) (i : ℕ) (step : Step) → i < length steps → step ≡ get_or steps i step
-    → ((other : Step) → ServeColumns old other → ServeColumns new other) → ServeColumns new step → All (ServeColumns old) (take i steps) → All (ServeColumns new) (take (i + 1) steps)
+    → ((other : Step) → HasColumnFor old other → HasColumnFor new other) → HasColumnFor new step → All (HasColumnFor old) (take i steps) → All (HasColumnFor new) (take (i + 1) steps)
 serve_more old new steps i step low is kept here before =
-    one_item_more (ServeColumns new) steps i step low is (All-weaker (ServeColumns old) (ServeColumns new) kept (take i steps) before) here
+    one_item_more (HasColumnFor new) steps i step low is (All-weaker (HasColumnFor old) (HasColumnFor new) kept (take i steps) before) here
 
 any_mapped : {X : Type 0} (number : X → ℕ) (column : ℕ) (xs : List X) → list_any (λ x. eqb (number x) column) xs ≡ list_any (λ n. eqb n column) (map number xs)
 any_mapped number column [] = refl
@@ -104,17 +104,17 @@ some_weaker None P Q more h = h
 some_weaker (Some column) P Q more h = more column h
 
 pub sorted_serve : (columns : List PickedColumn) (filters : List Filter) → map (λ f. f.column) filters ≡ map (λ one. one.column) columns
-    → (step : Step) → ServeColumns columns step → Serve filters step
+    → (step : Step) → HasColumnFor columns step → HasFilterFor filters step
 sorted_serve columns filters same step serve =
     some_weaker (column_asked step) (λ column. list_any (λ other. eqb other.column column) columns ≡ true) (λ column. list_any (λ f. eqb f.column column) filters ≡ true)
     (λ column there.
     any_mapped (λ (f : Filter). f.column) column filters ∙ ap (λ (s : List ℕ). list_any (λ n. eqb n column) s) same
     ∙ sym (any_mapped (λ (one : PickedColumn). one.column) column columns) ∙ there) serve
 
-pub serve_each : (columns read : List PickedColumn) → read ≡ columns → (filters : List Filter) (steps : List Step) → All (ServeColumns columns) steps
-    → ((step : Step) → ServeColumns read step → Serve filters step) → All (Serve filters) steps
+pub serve_each : (columns read : List PickedColumn) → read ≡ columns → (filters : List Filter) (steps : List Step) → All (HasColumnFor columns) steps
+    → ((step : Step) → HasColumnFor read step → HasFilterFor filters step) → All (HasFilterFor filters) steps
 serve_each columns read same filters steps serve each =
-    All-weaker (ServeColumns read) (Serve filters) each steps (subst (λ (s : List PickedColumn). All (ServeColumns s) steps) (sym same) serve)
+    All-weaker (HasColumnFor read) (HasFilterFor filters) each steps (subst (λ (s : List PickedColumn). All (HasColumnFor s) steps) (sym same) serve)
 
 pub one_sorted : (columns : List PickedColumn) (i : ℕ) (one : PickedColumn) (old new : List Filter) (filter : Filter) → i < length columns → one ≡ get_or columns i one
     → map (λ f. f.column) old ≡ map (λ one. one.column) (take i columns) → filter.column ≡ one.column → new ≡ old ++ filter ∷ []
@@ -129,7 +129,7 @@ one_sorted columns i one old new filter low at before is pushed =
 
 pub steps_beside : (texts : List (List ℕ)) (cells : Cells) (accuracy : ℕ) (beside : Cells) (rows : List ℕ) (steps : List Step) (gathered : ColumnSteps) (column : ℕ) (items read keys : List ℕ)
     → slice_get beside.columns column ≡ Some items → read ≡ items → keys ≡ picked rows read → gathered.column ≡ column
-    → ((lists : ColumnLists) → HaveLists texts cells accuracy keys lists → gathered.steps ≡ map (listed lists) steps) → AreStepsBeside texts cells accuracy beside rows steps gathered
+    → ((lists : ColumnLists) → HaveLists texts cells accuracy keys lists → gathered.steps ≡ map (with_list lists) steps) → AreStepsOfPaired texts cells accuracy beside rows steps gathered
 steps_beside texts cells accuracy beside rows steps gathered column items read keys there same made number each lists have =
     each lists (subst (λ (s : List ℕ). HaveLists texts cells accuracy s lists) (sym is) have)
   where
@@ -147,8 +147,8 @@ all_picked rows read all =
 
 pub column_beside : {E : Type 0} (r : Result ColumnSteps E) (texts : List (List ℕ)) (cells : Cells) (accuracy : ℕ) (beside : Cells) (rows : List ℕ) (steps : List Step) (column : ℕ)
     (items read keys : List ℕ) → slice_get beside.columns column ≡ Some items → read ≡ items → keys ≡ picked rows read → IfOk r (λ gathered. gathered.column ≡ column)
-    → IfOk r (λ gathered. (lists : ColumnLists) → HaveLists texts cells accuracy keys lists → gathered.steps ≡ map (listed lists) steps)
-    → IfOk r (AreStepsBeside texts cells accuracy beside rows steps)
+    → IfOk r (λ gathered. (lists : ColumnLists) → HaveLists texts cells accuracy keys lists → gathered.steps ≡ map (with_list lists) steps)
+    → IfOk r (AreStepsOfPaired texts cells accuracy beside rows steps)
 column_beside (Ok gathered) texts cells accuracy beside rows steps column items read keys there same made number each =
     steps_beside texts cells accuracy beside rows steps gathered column items read keys there same made number each
 column_beside (Err e) texts cells accuracy beside rows steps column items read keys there same made number each = tt
@@ -159,10 +159,10 @@ pub beside_gathered : (query : Query) (db : Database) (accuracy entry : ℕ) (ro
     (columns columns_read : List ℕ) (steps read : List Step) (stats : EntryStats) → cells ≡ cells_of db entry → beside ≡ cells_of db other → es ≡ equalities_of query → es_read ≡ es
     → columns ≡ joined_columns other es_read → columns_read ≡ columns
     → steps ≡ steps_of entry query.conjuncts → read ≡ steps → map (λ g. g.column) stats.columns ≡ columns_read
-    → All (AreStepsBeside db.pool (cells_at rows cells) accuracy beside other_rows read) stats.columns → IsGatheredBeside query db accuracy entry rows other other_rows stats
+    → All (AreStepsOfPaired db.pool (cells_at rows cells) accuracy beside other_rows read) stats.columns → IsGatheredForPaired query db accuracy entry rows other other_rows stats
 beside_gathered query db accuracy entry rows other other_rows cells beside es es_read columns columns_read steps read stats is beside_is equalities es_same asked same are same_steps named made = record {
   columns_are = named ∙ same ∙ asked ∙ ap (joined_columns other) (es_same ∙ equalities);
-  steps_are = subst (λ (t : Cells). All (AreStepsBeside db.pool (cells_at rows t) accuracy (cells_of db other) other_rows (steps_of entry query.conjuncts)) stats.columns) is
-      (subst (λ (t : Cells). All (AreStepsBeside db.pool (cells_at rows cells) accuracy t other_rows (steps_of entry query.conjuncts)) stats.columns) beside_is
-      (subst (λ (s : List Step). All (AreStepsBeside db.pool (cells_at rows cells) accuracy beside other_rows s) stats.columns) (same_steps ∙ are) made));
+  steps_are = subst (λ (t : Cells). All (AreStepsOfPaired db.pool (cells_at rows t) accuracy (cells_of db other) other_rows (steps_of entry query.conjuncts)) stats.columns) is
+      (subst (λ (t : Cells). All (AreStepsOfPaired db.pool (cells_at rows cells) accuracy t other_rows (steps_of entry query.conjuncts)) stats.columns) beside_is
+      (subst (λ (s : List Step). All (AreStepsOfPaired db.pool (cells_at rows cells) accuracy beside other_rows s) stats.columns) (same_steps ∙ are) made));
 }

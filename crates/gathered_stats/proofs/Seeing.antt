@@ -1,4 +1,4 @@
--- `seen` gives the cells that an entry's table shows: the cells of all its rows, or the cells in given rows.
+-- `shown_cells` gives the cells that an entry's table shows: the cells of all its rows, or the cells in given rows.
 use Rattle.std.proofs.Common.{◌≡◌, ℕ, ◌<◌, Bool, true, false, cond, List, [], ◌∷◌, length, map, get_or, refl, ap, sym, subst, arith}
 use Rattle.std.specs.List.{All}
 use Rattle.std.proofs.lemmas.List.{get_or-map, length-map}
@@ -7,19 +7,19 @@ use Rattle.csv_tables.specs.declared.types.Cells.{Cells}
 use Rattle.csv_tables.specs.Cells.{AreColumns, IsCell}
 use Rattle.sql_meaning.specs.Databases.{AreCells}
 use Rattle.gathered_stats.specs.declared.entry_table.EntryTable.{EntryTable}
-use Rattle.gathered_stats.specs.Seen.{AreRowNumbersOf, cells_at, picked, seen}
+use Rattle.gathered_stats.specs.ShownCells.{AreRowNumbersOf, cells_at, picked, shown_cells}
 
-pub seen_kinds : (table : EntryTable) → (seen table).kinds ≡ table.cells.now.kinds
-seen_kinds table = by table.whole
+pub seen_kinds : (table : EntryTable) → (shown_cells table).kinds ≡ table.cells.now.kinds
+seen_kinds table = by table.shows_all_rows
   where
     by : (b : Bool) → (cond b table.cells.now (cells_at table.rows.now table.cells.now)).kinds ≡ table.cells.now.kinds
     by true = refl
     by false = refl
 
-pub whole_seen : (table : EntryTable) → table.whole ≡ true → seen table ≡ table.cells.now
+pub whole_seen : (table : EntryTable) → table.shows_all_rows ≡ true → shown_cells table ≡ table.cells.now
 whole_seen table whole = ap (λ (b : Bool). cond b table.cells.now (cells_at table.rows.now table.cells.now)) whole
 
-pub rows_seen : (table : EntryTable) → table.whole ≡ false → seen table ≡ cells_at table.rows.now table.cells.now
+pub rows_seen : (table : EntryTable) → table.shows_all_rows ≡ false → shown_cells table ≡ cells_at table.rows.now table.cells.now
 rows_seen table rows = ap (λ (b : Bool). cond b table.cells.now (cells_at table.rows.now table.cells.now)) rows
 
 -- ---- the cells in given rows are cells of their columns' kinds

@@ -1,11 +1,11 @@
--- The column of each step is among the filter columns (`Serve`).
+-- The column of each step is among the filter columns (`HasFilterFor`).
 use Rattle.std.proofs.Common.{◌≡◌, ℕ, ◌+◌, ◌<◌, ◌≤◌, List, length, take, get_or, subst}
 use Rattle.std.specs.List.{All}
 use Rattle.std.proofs.lemmas.List.{take_all}
 use Rattle.std.proofs.lemmas.List.Elements.{All-more, All-weaker}
 use Rattle.predicate_bounds.specs.declared.steps.Step.{Step}
 use Rattle.gathered_stats.specs.declared.filters.Filter.{Filter}
-use Rattle.gathered_stats.specs.Filters.{Serve}
+use Rattle.gathered_stats.specs.Filters.{HasFilterFor}
 
 -- ---- what is true of each item of a list, item by item
 
@@ -19,6 +19,6 @@ module _ {X : Type 0} (P : X → Type 0) where
 -- ---- one more step is served
 
 pub serve_all : (old new : List Filter) (steps : List Step) (i : ℕ) (step : Step) → i < length steps → step ≡ get_or steps i step
-    → ((other : Step) → Serve old other → Serve new other) → Serve new step → All (Serve old) (take i steps) → All (Serve new) (take (i + 1) steps)
+    → ((other : Step) → HasFilterFor old other → HasFilterFor new other) → HasFilterFor new step → All (HasFilterFor old) (take i steps) → All (HasFilterFor new) (take (i + 1) steps)
 serve_all old new steps i step low is kept here before =
-    one_item_more (Serve new) steps i step low is (All-weaker (Serve old) (Serve new) kept (take i steps) before) here
+    one_item_more (HasFilterFor new) steps i step low is (All-weaker (HasFilterFor old) (HasFilterFor new) kept (take i steps) before) here

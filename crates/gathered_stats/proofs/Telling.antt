@@ -16,8 +16,8 @@ use Rattle.level_bounds.proofs.Lists.{all_from}
 use Rattle.predicate_bounds.specs.declared.columns.ColumnSteps.{ColumnSteps}
 use Rattle.predicate_bounds.specs.declared.columns.QueryStats.{QueryStats}
 use Rattle.predicate_bounds.specs.Steps.{steps_of}
-use Rattle.predicate_bounds.specs.Told.{asked_lists, columns_of, no_columns}
-use Rattle.query_bounds.specs.Statistics.{Tells, TellsColumn, TellsEntry}
+use Rattle.predicate_bounds.specs.StatsLists.{steps_with_lists, columns_of, no_columns}
+use Rattle.query_bounds.specs.Statistics.{Tells, TellsColumn, TellsRowBound}
 use Rattle.query_types.specs.declared.types.ColumnRef.{ColumnRef}
 use Rattle.query_types.specs.declared.types.Query.{Query}
 use Rattle.sql_meaning.specs.Databases.{AreCells, AreTables, IsColumnOf, IsDatabaseOf}
@@ -119,10 +119,10 @@ module _ (query : Query) (db : Database) (accuracy : ℕ) (of : IsDatabaseOf que
       (stats : QueryStats) (gathered : (entry : ℕ) → entry < length query.from → IsGathered query db accuracy entry (get_or stats.entries entry no_columns)) where
     asked_steps : (entry : ℕ) → entry < length query.from → (g : ColumnSteps) → Contains (asked_columns entry (equalities_of query)) g.column
         → AreStepsOf db.pool (cells_of db entry) accuracy (steps_of entry query.conjuncts) g
-        → g.steps ≡ asked_lists query entry (column_lists (tables_of db) accuracy entry g.column)
+        → g.steps ≡ steps_with_lists query entry (column_lists (tables_of db) accuracy entry g.column)
     asked_steps entry low g k are = are (column_lists (tables_of db) accuracy entry g.column) (asked_lists_there entry g.column low k)
 
-    tells_entry : (entry : ℕ) → entry < length query.from → TellsEntry query stats (statistics_of (tables_of db) accuracy) entry
+    tells_entry : (entry : ℕ) → entry < length query.from → TellsRowBound query stats (statistics_of (tables_of db) accuracy) entry
     tells_entry entry low =
         let here : IsGathered query db accuracy entry (get_or stats.entries entry no_columns) = gathered entry low in
         let columns : List ColumnSteps = columns_of stats entry in
@@ -146,7 +146,7 @@ module _ (query : Query) (db : Database) (accuracy : ℕ) (of : IsDatabaseOf que
         record {
           lists = ap (option_map (λ (g : ColumnSteps). g.steps)) one.1
               ∙ ap Some (asked_steps p.entry low one.0 (subst (λ (c : ℕ). Contains (asked_columns p.entry (equalities_of query)) c) (sym one.2) asked) one.3
-              ∙ ap (λ (c : ℕ). asked_lists query p.entry (column_lists (tables_of db) accuracy p.entry c)) one.2);
+              ∙ ap (λ (c : ℕ). steps_with_lists query p.entry (column_lists (tables_of db) accuracy p.entry c)) one.2);
           sums = sums p.entry p.column;
         }
 

@@ -7,13 +7,13 @@ use Rattle.cond_stats.proofs.Sums.{sum-compressed_degrees}
 use Rattle.filtered_lists.specs.Lists.{ColumnLists}
 use Rattle.predicate_bounds.specs.declared.columns.ColumnSteps.{ColumnSteps}
 use Rattle.predicate_bounds.specs.declared.steps.Step.{Step}
-use Rattle.predicate_bounds.specs.ListRuns.{listed}
+use Rattle.predicate_bounds.specs.ListRuns.{with_list}
 use Rattle.gathered_stats.specs.Asked.{AreStepsOf}
 use Rattle.gathered_stats.specs.Columns.{KeysHaveLists, HaveLists, keys_in}
 
 pub column_whole : (texts : List (List ℕ)) (cells : Cells) (accuracy column : ℕ) (steps : List Step) (columns read : List ColumnSteps) (i : ℕ) (gathered : ColumnSteps) (list : List ℕ)
     → read ≡ columns → i < length read → gathered ≡ get_or read i gathered → gathered.column ≡ column
-    → ((lists : ColumnLists) → gathered.steps ≡ map (listed lists) steps → list ≡ lists.whole)
+    → ((lists : ColumnLists) → gathered.steps ≡ map (with_list lists) steps → list ≡ lists.whole)
     → KeysHaveLists texts cells accuracy column → All (AreStepsOf texts cells accuracy steps) columns → list ≡ compressed_degrees accuracy (keys_in cells column)
 column_whole texts cells accuracy column steps columns read i gathered list same low at named whole has all =
     let mine : AreStepsOf texts cells accuracy steps gathered =

@@ -16,9 +16,9 @@ use Rattle.predicate_bounds.specs.declared.columns.ColumnSteps.{ColumnSteps}
 use Rattle.predicate_bounds.specs.declared.columns.EntryStats.{EntryStats}
 use Rattle.predicate_bounds.specs.declared.steps.Step.{Step}
 use Rattle.predicate_bounds.specs.declared.steps.Step.TheVariants as step
-use Rattle.predicate_bounds.specs.ListRuns.{listed}
+use Rattle.predicate_bounds.specs.ListRuns.{with_list}
 use Rattle.predicate_bounds.specs.Steps.{steps_of}
-use Rattle.predicate_bounds.specs.Told.{no_columns}
+use Rattle.predicate_bounds.specs.StatsLists.{no_columns}
 use Rattle.query_types.specs.declared.types.Query.{Query}
 use Rattle.sql_meaning.specs.Tables.{cells_of}
 use Rattle.gathered_stats.specs.Columns.{HaveLists, keys_in}
@@ -75,7 +75,7 @@ AsksWithin cells step = IfSome (column_asked step) (λ column. column < length c
 -- what is gathered for a column has these steps, each with its list from the lists of the column's keys
 abbrev pub AreStepsOf : List (List ℕ) → Cells → ℕ → List Step → ColumnSteps → Type 0
 AreStepsOf texts cells accuracy steps gathered = (lists : ColumnLists)
-    → HaveLists texts cells accuracy (keys_in cells gathered.column) lists → gathered.steps ≡ map (listed lists) steps
+    → HaveLists texts cells accuracy (keys_in cells gathered.column) lists → gathered.steps ≡ map (with_list lists) steps
 
 -- for each column that is asked for, an entry's statistics have the steps of its own conjuncts; its table has fewer than 2^32 rows
 pub record IsGathered (query : Query) (db : Database) (accuracy entry : ℕ) (stats : EntryStats) : Type 0 where

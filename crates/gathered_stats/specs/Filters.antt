@@ -10,7 +10,7 @@ use Rattle.gathered_stats.specs.declared.entry_table.EntryTable.{EntryTable}
 use Rattle.gathered_stats.specs.declared.filters.Filter.{Filter}
 use Rattle.gathered_stats.specs.Asked.{column_asked}
 use Rattle.gathered_stats.specs.Columns.{HaveLists, cells_in, kind_in}
-use Rattle.gathered_stats.specs.Seen.{seen}
+use Rattle.gathered_stats.specs.ShownCells.{shown_cells}
 
 -- the sorted column is the table's column with this number
 pub record IsColumnIn (texts : List (List ℕ)) (cells : Cells) (column : ℕ) (sorted : CellColumn) : Type 0 where
@@ -22,19 +22,19 @@ abbrev pub IsFilterOf : List (List ℕ) → Cells → Filter → Type 0
 IsFilterOf texts cells filter = IsColumnIn texts cells filter.column filter.sorted
 
 -- some filter is of this column
-abbrev pub is_sorted : List Filter → ℕ → Bool
-is_sorted filters column = list_any (λ filter. filter.column == column) filters
+abbrev pub has_filter : List Filter → ℕ → Bool
+has_filter filters column = list_any (λ filter. filter.column == column) filters
 
 -- if the step asks for a column, some filter is of this column
-abbrev pub Serve : List Filter → Step → Type 0
-Serve filters step = IfSome (column_asked step) (λ column. is_sorted filters column ≡ true)
+abbrev pub HasFilterFor : List Filter → Step → Type 0
+HasFilterFor filters step = IfSome (column_asked step) (λ column. has_filter filters column ≡ true)
 
 -- each column has a cell of its kind for each row, there are fewer than 2^32 rows, and each filter is a column of the table
 pub record IsReady (table : EntryTable) : Type 0 where
-  pub cells : AreCells table.pool.now (seen table)
-  pub rows : (seen table).rows < 2 ^ 32
-  pub filters : All (IsFilterOf table.pool.now (seen table)) table.filters
+  pub cells : AreCells table.pool.now (shown_cells table)
+  pub rows : (shown_cells table).rows < 2 ^ 32
+  pub filters : All (IsFilterOf table.pool.now (shown_cells table)) table.filters
 
 -- keys, one for each row of the table, have these lists
 abbrev pub AreColumnListsOf : EntryTable → List ℕ → ColumnLists → Type 0
-AreColumnListsOf table keys lists = HaveLists table.pool.now (seen table) table.accuracy keys lists
+AreColumnListsOf table keys lists = HaveLists table.pool.now (shown_cells table) table.accuracy keys lists

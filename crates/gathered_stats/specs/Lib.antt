@@ -1,7 +1,7 @@
 pub mod Statistics
 pub mod Asked
 pub mod Columns
-pub mod Seen
+pub mod ShownCells
 pub mod Filters
-pub mod Beside
+pub mod PairedRows
 pub mod Rests

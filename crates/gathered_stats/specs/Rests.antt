@@ -6,7 +6,7 @@ use Rattle.cond_stats.specs.Lists.{rest}
 use Rattle.gathered_stats.specs.declared.entry_table.EntryTable.{EntryTable}
 use Rattle.gathered_stats.specs.declared.rests.RestList.{RestList}
 use Rattle.gathered_stats.specs.Columns.{cells_in}
-use Rattle.gathered_stats.specs.Seen.{seen}
+use Rattle.gathered_stats.specs.ShownCells.{shown_cells}
 
 -- the value with this cell is one of the column's frequent values. A value that has no cell (None) isn't frequent
 abbrev pub among_frequent : List ℕ → Option ℕ → Bool
@@ -15,7 +15,7 @@ among_frequent column (Some cell) = list_any (λ other. other == cell) (frequent
 
 -- the rest list of the table's filter column with this number, for these keys of its rows
 abbrev pub rest_in : EntryTable → List ℕ → ℕ → List ℕ
-rest_in table keys column = rest table.accuracy (zip (cells_in (seen table) column) keys)
+rest_in table keys column = rest table.accuracy (zip (cells_in (shown_cells table) column) keys)
 
 -- the kept list is the rest list of its filter column for these keys
 abbrev pub IsRestOf : EntryTable → List ℕ → RestList → Type 0

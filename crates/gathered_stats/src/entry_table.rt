@@ -7,13 +7,13 @@ use base_io::Seq;
 use csv_tables::{Cells, Database, Pool};
 use limits::Accuracy;
 
-/// The table of a FROM entry, the columns that the entry's own conjuncts compare with literals, and the accuracy of lists. If `whole` is true, the
+/// The table of a FROM entry, the columns that the entry's own conjuncts compare with literals, and the accuracy of lists. If `shows_all_rows` is true, the
 /// table shows all its rows. Otherwise it shows only the rows whose numbers are in `rows`, in the order of `rows`.
 #[derive(Drop)]
 pub(crate) struct EntryTable<'a> {
     pub pool: &'a Pool,
     pub cells: &'a Cells,
-    pub whole: bool,
+    pub shows_all_rows: bool,
     pub rows: &'a [u32],
     pub filters: Seq<Filter<'a>>,
     pub accuracy: Accuracy,

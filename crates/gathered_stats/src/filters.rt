@@ -4,7 +4,7 @@ ghost use Rattle.std.specs.Prelude.{◌≡◌, ◌<◌, ℕ, List, All, length, 
 ghost use Rattle.predicate_bounds.specs.declared.steps.Step.{Step};
 ghost use Rattle.sql_meaning.specs.Databases.{AreCells};
 ghost use Rattle.gathered_stats.specs.Asked.{AsksWithin, column_asked};
-ghost use Rattle.gathered_stats.specs.Filters.{IsColumnIn, IsFilterOf, Serve, is_sorted};
+ghost use Rattle.gathered_stats.specs.Filters.{IsColumnIn, IsFilterOf, HasFilterFor, has_filter};
 
 use crate::entry_table::row_count;
 use base_io::{NoMemory, Seq};
@@ -32,8 +32,8 @@ pub fn column_asked(step: &Step) -> Option<u32>
 }
 
 // Whether one of these filter columns has this number.
-fn is_sorted(filters: &[Filter<'_>], column: u32) -> bool
-    ensures { result ≡ is_sorted filters.now column }
+fn has_filter(filters: &[Filter<'_>], column: u32) -> bool
+    ensures { result ≡ has_filter filters.now column }
 {
     filters.iter().any(|filter| filter.column == column)
 }
@@ -68,13 +68,13 @@ fn add_filter<'a>(
     requires exists { AsksWithin cells.now step.now }
     requires filters { All (IsFilterOf pool.now cells.now) filters.old }
     ensures filters { OnOk result (All (IsFilterOf pool.now cells.now) filters.new) }
-    ensures served { OnOk result (Serve filters.new step.now) }
-    ensures kept { OnOk result ((other : Step) → Serve filters.old other → Serve filters.new other) }
+    ensures served { OnOk result (HasFilterFor filters.new step.now) }
+    ensures kept { OnOk result ((other : Step) → HasFilterFor filters.old other → HasFilterFor filters.new other) }
 {
     let Some(column) = column_asked(step) else {
         return Ok(());
     };
-    if is_sorted(filters.as_slice(), column) {
+    if has_filter(filters.as_slice(), column) {
         return Ok(());
     }
     filters.push(sorted(alloc, pool, cells, column)?)
@@ -90,7 +90,7 @@ pub(crate) fn filters_of<'a>(
     requires cells { AreCells pool.now cells.now }
     requires exist { All (AsksWithin cells.now) steps.now }
     ensures filters { IfOk result (λ filters. All (IsFilterOf pool.now cells.now) filters) }
-    ensures served { IfOk result (λ filters. All (Serve filters) steps.now) }
+    ensures served { IfOk result (λ filters. All (HasFilterFor filters) steps.now) }
 {
     let mut filters = Seq::new(alloc);
     for step in steps {
@@ -101,7 +101,7 @@ pub(crate) fn filters_of<'a>(
 
 /// The sorted column with this number, which has to be there.
 pub(crate) fn find<'a, 'b>(filters: &'b [Filter<'a>], column: u32) -> &'b FilterColumn<'a>
-    requires { is_sorted filters.now column ≡ true }
+    requires { has_filter filters.now column ≡ true }
     ensures { (texts : List (List ℕ)) (cells : Cells) → All (IsFilterOf texts cells) filters.now
         → IsColumnIn texts cells column result.now }
 {

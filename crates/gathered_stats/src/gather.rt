@@ -6,8 +6,8 @@ ghost use Rattle.query_bounds.specs.Statistics.{Tells};
 ghost use Rattle.sql_meaning.specs.Databases.{IsDatabaseOf};
 ghost use Rattle.sql_meaning.specs.Tables.{tables_of};
 ghost use Rattle.gathered_stats.specs.Asked.{AreGathered, AreStepsOf, IsGathered};
-ghost use Rattle.gathered_stats.specs.Filters.{IsReady, Serve};
-ghost use Rattle.gathered_stats.specs.Seen.{seen};
+ghost use Rattle.gathered_stats.specs.Filters.{IsReady, HasFilterFor};
+ghost use Rattle.gathered_stats.specs.ShownCells.{shown_cells};
 ghost use Rattle.gathered_stats.specs.Statistics.{statistics_of};
 
 use crate::columns::asked_columns;
@@ -38,10 +38,10 @@ fn gather_column(
     column: u32,
 ) -> Result<ColumnSteps, NoMemory>
     requires ready { IsReady table.now }
-    requires whole { table.now.whole ≡ true }
-    requires served { All (Serve table.now.filters) steps.now }
+    requires whole { table.now.shows_all_rows ≡ true }
+    requires served { All (HasFilterFor table.now.filters) steps.now }
     ensures column { IfOk result (λ gathered. gathered.column ≡ column) }
-    ensures steps { IfOk result (AreStepsOf table.now.pool.now (seen table.now) table.now.accuracy steps.now) }
+    ensures steps { IfOk result (AreStepsOf table.now.pool.now (shown_cells table.now) table.now.accuracy steps.now) }
 {
     let at = column as usize;
     if at < table.cells.columns.len() {
@@ -60,11 +60,11 @@ fn gather_columns(
     columns: &[u32],
 ) -> Result<EntryStats, NoMemory>
     requires ready { IsReady table.now }
-    requires whole { table.now.whole ≡ true }
-    requires served { All (Serve table.now.filters) steps.now }
+    requires whole { table.now.shows_all_rows ≡ true }
+    requires served { All (HasFilterFor table.now.filters) steps.now }
     ensures columns { IfOk result (λ stats. map (λ gathered. gathered.column) stats.columns ≡ columns.now) }
     ensures steps { IfOk result (λ stats.
-        All (AreStepsOf table.now.pool.now (seen table.now) table.now.accuracy steps.now) stats.columns) }
+        All (AreStepsOf table.now.pool.now (shown_cells table.now) table.now.accuracy steps.now) stats.columns) }
 {
     let mut gathered = Seq::new(alloc);
     for column in columns {
@@ -95,7 +95,7 @@ fn gather_entry(
     let table = EntryTable {
         pool: &db.pool,
         cells,
-        whole: true,
+        shows_all_rows: true,
         rows: &[],
         filters: filters_of(alloc, &db.pool, cells, steps)?,
         accuracy,

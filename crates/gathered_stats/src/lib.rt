@@ -7,11 +7,11 @@
 //! A list is made only if a step asks for it. A filter column is sorted once for each entry; an entry without conditions sorts no column. The
 //! rest list of a filter column is made once for each joined column, if a value needs it, and copied for each further value.
 //!
-//! `gather_beside` is for conditions that are carried along a reference to a key. Each row of one entry is paired with the row of another entry to
+//! `gather_paired` is for conditions that are carried along a reference to a key. Each row of one entry is paired with the row of another entry to
 //! which it refers. The filter columns are those of the second entry, and the joined columns are those of the first. If the rows are all rows of
 //! the first entry's table, the list of all rows is taken from the first entry's own steps, if these have it.
 //!
-//! Callers cite `statistics_of` (in `specs/Statistics.antt`) for what the statistics tell, and `IsGatheredBeside` for what `gather_beside`
+//! Callers cite `statistics_of` (in `specs/Statistics.antt`) for what the statistics tell, and `IsGatheredForPaired` for what `gather_paired`
 //! gives.
 //!
 //! ```text
@@ -21,17 +21,17 @@
 //! ```
 #![tactic(auto)]
 
-mod beside;
 mod columns;
 mod entry_table;
 mod filters;
 mod gather;
 mod lists;
 mod literals;
+mod paired_rows;
 mod rests;
 mod wholes;
 
-pub use beside::{Beside, gather_beside};
 pub use columns::{asked_columns, joined_columns};
 pub use filters::column_asked;
 pub use gather::{characters_differ, gather_query};
+pub use paired_rows::{PairedRows, gather_paired};

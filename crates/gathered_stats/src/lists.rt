@@ -4,12 +4,12 @@ ghost use Rattle.std.specs.Prelude.{◌≡◌, ◌^◌, ◌≤◌, All, length, 
 ghost use Rattle.std.specs.List.{list_any, sum, zip};
 ghost use Rattle.cond_stats.specs.Lists.{compressed_degrees, list_of_value};
 ghost use Rattle.filtered_lists.specs.Lists.{ColumnLists};
-ghost use Rattle.predicate_bounds.specs.ListRuns.{is_small, listed};
+ghost use Rattle.predicate_bounds.specs.ListRuns.{is_small, with_list};
 ghost use Rattle.predicate_bounds.specs.Steps.{range_of, value_of};
 ghost use Rattle.gathered_stats.specs.Asked.{is_whole};
-ghost use Rattle.gathered_stats.specs.Filters.{AreColumnListsOf, IsColumnIn, IsReady, Serve, is_sorted};
+ghost use Rattle.gathered_stats.specs.Filters.{AreColumnListsOf, IsColumnIn, IsReady, HasFilterFor, has_filter};
 ghost use Rattle.gathered_stats.specs.Rests.{IsRestOf, rest_in, with_rest};
-ghost use Rattle.gathered_stats.specs.Seen.{seen};
+ghost use Rattle.gathered_stats.specs.ShownCells.{shown_cells};
 
 use crate::entry_table::EntryTable;
 use crate::filters::find;
@@ -47,8 +47,8 @@ impl EntryTable<'_> {
         rests: &mut Seq<RestList>,
     ) -> Result<Pieces, NoMemory>
         requires ready { IsReady self.now }
-        requires keys { length keys.now ≡ (seen self.now).rows }
-        requires column { IsColumnIn self.now.pool.now (seen self.now) column sorted.now }
+        requires keys { length keys.now ≡ (shown_cells self.now).rows }
+        requires column { IsColumnIn self.now.pool.now (shown_cells self.now) column sorted.now }
         requires rests { All (IsRestOf self.now keys.now) rests.old }
         ensures list { IfOk result (λ list. list ≡ rest_in self.now keys.now column) }
         ensures rests { OnOk result (rests.new ≡ with_rest self.now keys.now column rests.old) }
@@ -72,8 +72,8 @@ impl EntryTable<'_> {
         rests: &mut Seq<RestList>,
     ) -> Result<Pieces, NoMemory>
         requires ready { IsReady self.now }
-        requires keys { length keys.now ≡ (seen self.now).rows }
-        requires column { IsColumnIn self.now.pool.now (seen self.now) column sorted.now }
+        requires keys { length keys.now ≡ (shown_cells self.now).rows }
+        requires column { IsColumnIn self.now.pool.now (shown_cells self.now) column sorted.now }
         requires rests { All (IsRestOf self.now keys.now) rests.old }
         ensures list { IfOk result (λ list. list ≡ list_of_value self.now.accuracy (zip sorted.now.cells keys.now) cell) }
         ensures rests { OnOk result (All (IsRestOf self.now keys.now) rests.new) }
@@ -94,8 +94,8 @@ impl EntryTable<'_> {
         rests: &mut Seq<RestList>,
     ) -> Result<Pieces, NoMemory>
         requires ready { IsReady self.now }
-        requires keys { length keys.now ≡ (seen self.now).rows }
-        requires sorted { is_sorted self.now.filters column ≡ true }
+        requires keys { length keys.now ≡ (shown_cells self.now).rows }
+        requires sorted { has_filter self.now.filters column ≡ true }
         requires rests { All (IsRestOf self.now keys.now) rests.old }
         ensures list { IfOk result (λ list. (lists : ColumnLists) → AreColumnListsOf self.now keys.now lists
             → list ≡ lists.equal column (value_of literal.now)) }
@@ -111,8 +111,8 @@ impl EntryTable<'_> {
     // The list for the rows whose value in the range's filter column lies in the range.
     fn list_within(&self, keys: &[u64], range: &Range) -> Result<Pieces, NoMemory>
         requires ready { IsReady self.now }
-        requires keys { length keys.now ≡ (seen self.now).rows }
-        requires sorted { is_sorted self.now.filters range.now.column ≡ true }
+        requires keys { length keys.now ≡ (shown_cells self.now).rows }
+        requires sorted { has_filter self.now.filters range.now.column ≡ true }
         ensures list { IfOk result (λ list. (lists : ColumnLists) → AreColumnListsOf self.now keys.now lists
             → list ≡ lists.range (range_of range.now)) }
         ensures small { IfOk result (λ list. sum list ≤ 2 ^ 32) }
@@ -126,7 +126,7 @@ impl EntryTable<'_> {
     // The list of all rows if a step asks for it, else an empty list.
     fn whole_for(&self, alloc: Global, keys: &[u64], steps: &[Step]) -> Result<Pieces, NoMemory>
         requires ready { IsReady self.now }
-        requires keys { length keys.now ≡ (seen self.now).rows }
+        requires keys { length keys.now ≡ (shown_cells self.now).rows }
         ensures whole { IfOk result (λ list. list_any is_whole steps.now ≡ true → list ≡ compressed_degrees self.now.accuracy keys.now) }
         ensures small { IfOk result (λ list. sum list ≤ 2 ^ 32) }
     {
@@ -145,13 +145,13 @@ impl EntryTable<'_> {
         rests: &mut Seq<RestList>,
     ) -> Result<ListStep, NoMemory>
         requires ready { IsReady self.now }
-        requires keys { length keys.now ≡ (seen self.now).rows }
+        requires keys { length keys.now ≡ (shown_cells self.now).rows }
         requires whole { is_whole step.now ≡ true → whole.now ≡ compressed_degrees self.now.accuracy keys.now }
         requires rows { sum whole.now ≤ 2 ^ 32 }
-        requires served { Serve self.now.filters step.now }
+        requires served { HasFilterFor self.now.filters step.now }
         requires rests { All (IsRestOf self.now keys.now) rests.old }
         ensures list { IfOk result (λ listed_step. (lists : ColumnLists)
-            → AreColumnListsOf self.now keys.now lists → listed_step ≡ listed lists step.now) }
+            → AreColumnListsOf self.now keys.now lists → listed_step ≡ with_list lists step.now) }
         ensures small { IfOk result (λ listed_step. IsTrue (is_small listed_step)) }
         ensures rests { OnOk result (All (IsRestOf self.now keys.now) rests.new) }
     {
@@ -177,11 +177,11 @@ impl EntryTable<'_> {
         steps: &[Step],
     ) -> Result<ColumnSteps, NoMemory>
         requires ready { IsReady self.now }
-        requires keys { length keys.now ≡ (seen self.now).rows }
-        requires served { All (Serve self.now.filters) steps.now }
+        requires keys { length keys.now ≡ (shown_cells self.now).rows }
+        requires served { All (HasFilterFor self.now.filters) steps.now }
         ensures column { IfOk result (λ gathered. gathered.column ≡ column) }
         ensures steps { IfOk result (λ gathered. (lists : ColumnLists)
-            → AreColumnListsOf self.now keys.now lists → gathered.steps ≡ map (listed lists) steps.now) }
+            → AreColumnListsOf self.now keys.now lists → gathered.steps ≡ map (with_list lists) steps.now) }
     {
         let whole = self.whole_for(alloc, keys, steps)?;
         self.list_steps_over(alloc, keys, &whole, column, steps)
@@ -197,13 +197,13 @@ impl EntryTable<'_> {
         steps: &[Step],
     ) -> Result<ColumnSteps, NoMemory>
         requires ready { IsReady self.now }
-        requires keys { length keys.now ≡ (seen self.now).rows }
+        requires keys { length keys.now ≡ (shown_cells self.now).rows }
         requires whole { list_any is_whole steps.now ≡ true → whole.now ≡ compressed_degrees self.now.accuracy keys.now }
         requires rows { sum whole.now ≤ 2 ^ 32 }
-        requires served { All (Serve self.now.filters) steps.now }
+        requires served { All (HasFilterFor self.now.filters) steps.now }
         ensures column { IfOk result (λ gathered. gathered.column ≡ column) }
         ensures steps { IfOk result (λ gathered. (lists : ColumnLists)
-            → AreColumnListsOf self.now keys.now lists → gathered.steps ≡ map (listed lists) steps.now) }
+            → AreColumnListsOf self.now keys.now lists → gathered.steps ≡ map (with_list lists) steps.now) }
     {
         let mut rests = Seq::new(alloc);
         let mut gathered = ColumnSteps::new(alloc, column);

@@ -4,7 +4,7 @@ ghost use Rattle.cond_stats.specs.Lists.{compressed_degrees};
 ghost use Rattle.csv_tables.specs.declared.types.Cells.{Cells};
 ghost use Rattle.filtered_lists.specs.Lists.{ColumnLists};
 ghost use Rattle.predicate_bounds.specs.declared.running.ListStep.TheVariants as list_step;
-ghost use Rattle.predicate_bounds.specs.ListRuns.{listed};
+ghost use Rattle.predicate_bounds.specs.ListRuns.{with_list};
 ghost use Rattle.gathered_stats.specs.Asked.{AreStepsOf};
 ghost use Rattle.gathered_stats.specs.Columns.{KeysHaveLists, keys_in};
 
@@ -27,7 +27,7 @@ fn list_at(gathered: &ColumnSteps, at: usize) -> Option<&Pieces>
 
 // The list of the first step that asks for all rows.
 fn whole_among<'a>(steps: &[Step], gathered: &'a ColumnSteps) -> Option<&'a Pieces>
-    ensures { IfSome result (λ list. (lists : ColumnLists) → gathered.now.steps ≡ map (listed lists) steps.now → list.now ≡ lists.whole) }
+    ensures { IfSome result (λ list. (lists : ColumnLists) → gathered.now.steps ≡ map (with_list lists) steps.now → list.now ≡ lists.whole) }
 {
     for (at, step) in steps.iter().enumerate() {
         if is_whole(step) {

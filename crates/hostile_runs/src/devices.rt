@@ -21,7 +21,7 @@ const ROWS: &[u8] = b"X\r\n1\r\n1\r\n1\r\n1\r\n1\r\n1\r\n";
 
 const CUT: &[u8] = b"scan R 6\nscan S 5\nlevel 1 S 5\nlevel 2 R 12\nerror write out\n";
 
-const UNSAID: &[u8] = b"error write notes\n";
+const PLAN_CUT: &[u8] = b"error write notes\n";
 
 // The answers while the store's calls fail one after another. Each answer is the code, the notes, a bar, and what `out` took.
 const READS: &[u8] =
@@ -177,8 +177,8 @@ fn is_cut(ran: &Ran, slowly: bool, k: u64) -> bool {
 }
 
 // The notes have the plan up to the k-th call, and then the line on the failure. No row is written.
-fn is_unsaid(ran: &Ran, slowly: bool, k: u64) -> bool {
-    match ran.notes.as_slice().strip_suffix(UNSAID) {
+fn is_plan_cut(ran: &Ran, slowly: bool, k: u64) -> bool {
+    match ran.notes.as_slice().strip_suffix(PLAN_CUT) {
         Some(front) => {
             let place = !slowly || (front.len() as u64).saturating_add(1) == k;
             ran.code == 10 && ran.out.is_empty() && PLAN.starts_with(front) && place
@@ -202,13 +202,13 @@ fn rows_are_cut(alloc: Global, slowly: bool) -> Result<bool, NoMemory> {
 }
 
 // As `rows_are_cut`, for calls of `notes`: a run in which one fails has written the beginning of the plan.
-fn plans_are_unsaid(alloc: Global, slowly: bool) -> Result<bool, NoMemory> {
+fn plans_are_cut(alloc: Global, slowly: bool) -> Result<bool, NoMemory> {
     for k in 1u64..1000 {
         let ran = run(alloc, slowly, Failing { notes: k, ..SOUND })?;
         if is_done(&ran) {
             return Ok(k > 1);
         }
-        if !is_unsaid(&ran, slowly, k) {
+        if !is_plan_cut(&ran, slowly, k) {
             break;
         }
     }
@@ -219,7 +219,7 @@ fn plans_are_unsaid(alloc: Global, slowly: bool) -> Result<bool, NoMemory> {
 fn each_failing_write_leaves_a_front(rt: HostRuntime) -> Result<(), Fail> {
     for slowly in [false, true] {
         assert!(rt; rows_are_cut(rt.alloc(), slowly)?, "slowly: {slowly}");
-        assert!(rt; plans_are_unsaid(rt.alloc(), slowly)?, "slowly: {slowly}");
+        assert!(rt; plans_are_cut(rt.alloc(), slowly)?, "slowly: {slowly}");
     }
     Ok(())
 }

@@ -4,7 +4,7 @@ use Rattle.std.specs.List.{AllByRecursion}
 use Rattle.std.proofs.lemmas.Bool.{cases_Bool, eqb-true, eqb-false, eq-eqb}
 use Rattle.berge_tree.specs.declared.edges.Edge.{Edge}
 use Rattle.berge_tree.specs.Equalities.{AreApart}
-use Rattle.berge_tree.specs.Testing.{joined_parts, joins_parts}
+use Rattle.berge_tree.specs.Testing.{merged_components, joins_parts}
 use Rattle.berge_tree.proofs.NoCycle.{apart_by}
 use Rattle.berge_tree.proofs.Tested.{joined_same, joined_ends}
 use Rattle.join_graph.specs.Kept.{AreConnected, KeepsAfter, at_end, keeps, leaves_out, kept_by_names}
@@ -14,23 +14,23 @@ pub record Tell (name : ℕ → ℕ) (earlier : List Edge) : Type 0 where
   pub along : AllByRecursion (λ e. name e.left.entry ≡ name e.right.entry) earlier
   pub parts : (side : ℕ → Bool) → AllByRecursion (λ e. side e.left.entry ≡ side e.right.entry) earlier → (x : ℕ) → side (name x) ≡ side x
 
-pub own_names : Tell (λ x. x) []
-own_names = record { along = tt; parts = λ side all x. refl }
+pub own_components : Tell (λ x. x) []
+own_components = record { along = tt; parts = λ side all x. refl }
 
 -- ---- the names after one more equality
 
-joined_yes : (name : ℕ → ℕ) (a b x : ℕ) → eqb (name x) (name b) ≡ true → joined_parts name a b x ≡ name a
+joined_yes : (name : ℕ → ℕ) (a b x : ℕ) → eqb (name x) (name b) ≡ true → merged_components name a b x ≡ name a
 joined_yes name a b x t = rw t refl
 
-joined_no : (name : ℕ → ℕ) (a b x : ℕ) → eqb (name x) (name b) ≡ false → joined_parts name a b x ≡ name x
+joined_no : (name : ℕ → ℕ) (a b x : ℕ) → eqb (name x) (name b) ≡ false → merged_components name a b x ≡ name x
 joined_no name a b x n = rw n refl
 
 joined_along : (name : ℕ → ℕ) (a b : ℕ) (es : List Edge) → AllByRecursion (λ e. name e.left.entry ≡ name e.right.entry) es
-    → AllByRecursion (λ e. joined_parts name a b e.left.entry ≡ joined_parts name a b e.right.entry) es
+    → AllByRecursion (λ e. merged_components name a b e.left.entry ≡ merged_components name a b e.right.entry) es
 joined_along name a b [] h = tt
 joined_along name a b (e ∷ es) h = (joined_same name a b e.left.entry e.right.entry h.0, joined_along name a b es h.1)
 
-pub join_names : (name : ℕ → ℕ) (earlier : List Edge) (e : Edge) → Tell name earlier → Tell (joined_parts name e.left.entry e.right.entry) (e ∷ earlier)
+pub join_names : (name : ℕ → ℕ) (earlier : List Edge) (e : Edge) → Tell name earlier → Tell (merged_components name e.left.entry e.right.entry) (e ∷ earlier)
 join_names name earlier e tell = record {
   along = (joined_ends name e.left.entry e.right.entry, joined_along name e.left.entry e.right.entry earlier tell.along);
   parts = λ side all x. elim (cases_Bool (eqb (name x) (name e.right.entry))) [
@@ -68,16 +68,16 @@ keeps_computed name earlier [] tell = at_end earlier
 keeps_computed name earlier (e ∷ es) tell = elim (cases_Bool (eqb (name e.left.entry) (name e.right.entry))) [
   | inl t ↦ rw t (leaves_out earlier e es (kept_by_names name es) (connects name earlier e.left.entry e.right.entry tell (eqb-true (name e.left.entry) (name e.right.entry) t))
       (keeps_computed name earlier es tell))
-  | inr n ↦ rw n (keeps earlier e es (kept_by_names (joined_parts name e.left.entry e.right.entry) es)
+  | inr n ↦ rw n (keeps earlier e es (kept_by_names (merged_components name e.left.entry e.right.entry) es)
       (apart_by earlier e.left.entry e.right.entry name tell.along (eqb-false (name e.left.entry) (name e.right.entry) n))
-      (keeps_computed (joined_parts name e.left.entry e.right.entry) (e ∷ earlier) es (join_names name earlier e tell)))
+      (keeps_computed (merged_components name e.left.entry e.right.entry) (e ∷ earlier) es (join_names name earlier e tell)))
 ]
 
 pub one_kept : {earlier es kept : List Edge} → KeepsAfter earlier es kept → (name : ℕ → ℕ) → Tell name earlier → kept ≡ kept_by_names name es
 one_kept (at_end earlier) name tell = refl
 one_kept (keeps earlier e es kept apart more) name tell =
     rw (apart_names name earlier e.left.entry e.right.entry tell apart)
-    (ap (λ s. e ∷ s) (one_kept more (joined_parts name e.left.entry e.right.entry) (join_names name earlier e tell)))
+    (ap (λ s. e ∷ s) (one_kept more (merged_components name e.left.entry e.right.entry) (join_names name earlier e tell)))
 one_kept (leaves_out earlier e es kept connected more) name tell = rw (connected_names name earlier e.left.entry e.right.entry tell connected) (one_kept more name tell)
 
 -- ---- each kept equality joins two parts
@@ -86,17 +86,17 @@ pub kept_joins : (name : ℕ → ℕ) (es : List Edge) → joins_parts name (kep
 kept_joins name [] = refl
 kept_joins name (e ∷ es) = elim (cases_Bool (eqb (name e.left.entry) (name e.right.entry))) [
   | inl t ↦ rw t (kept_joins name es)
-  | inr n ↦ rw (n, n) (kept_joins (joined_parts name e.left.entry e.right.entry) es)
+  | inr n ↦ rw (n, n) (kept_joins (merged_components name e.left.entry e.right.entry) es)
 ]
 
 -- ---- two entries are apart or connected
 
 abbrev parts_of : List Edge → ℕ → ℕ
 parts_of [] = λ x. x
-parts_of (e ∷ es) = joined_parts (parts_of es) e.left.entry e.right.entry
+parts_of (e ∷ es) = merged_components (parts_of es) e.left.entry e.right.entry
 
 parts_tell : (es : List Edge) → Tell (parts_of es) es
-parts_tell [] = own_names
+parts_tell [] = own_components
 parts_tell (e ∷ es) = join_names (parts_of es) es e (parts_tell es)
 
 pub apart_or_connected : (es : List Edge) (a b : ℕ) → AreApart es a b ⊎ AreConnected es a b

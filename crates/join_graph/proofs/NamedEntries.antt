@@ -1,4 +1,4 @@
--- `Named` says in short what a list of entries names: no entry, just one, or several. These lemmas compute it for lists that are appended, and for
+-- `EntriesNamed` says in short what a list of entries names: no entry, just one, or several. These lemmas compute it for lists that are appended, and for
 -- equalities.
 use Rattle.std.proofs.Common.{◌≡◌, ℕ, ◌+◌, ◌<◌, Bool, true, false, ◌&&◌, eqb, List, [], ◌∷◌, ◌++◌, map, length, get_or, drop, Some, None, refl, ap, sym, ◌∙◌, subst, inl, inr}
 use Rattle.std.specs.List.{flat_map, list_all}
@@ -15,26 +15,26 @@ use Rattle.query_types.specs.declared.types.Cond.{Cond}
 use Rattle.query_types.specs.declared.types.Cond.TheOpen.{Cond-F}
 use Rattle.query_types.specs.declared.types.Cond.TheViews.{out-Cond, roll-Cond, roll-out-Cond}
 use Rattle.query_types.specs.declared.types.Cond.TheFolds.{fold-roll-Cond}
-use Rattle.join_graph.specs.declared.naming.Named.{Named}
-use Rattle.join_graph.specs.declared.naming.Named.TheVariants as named
-use Rattle.entry_sets.specs.Naming.{are_just, are_within}
-use Rattle.join_graph.specs.Conjuncts.{column_of, equality_in, equality_of, joining, compared, are_one}
+use Rattle.join_graph.specs.declared.naming.EntriesNamed.{EntriesNamed}
+use Rattle.join_graph.specs.declared.naming.EntriesNamed.TheVariants as named
+use Rattle.entry_sets.specs.Naming.{is_only_named, are_within}
+use Rattle.join_graph.specs.Conjuncts.{column_of, equality_in, equality_of, joining, compared, have_one_entry}
 use Rattle.query_types.specs.Named.{entries_of_operand, entries_named, entries_step}
 use Rattle.join_graph.specs.Naming.{named_of, together}
 
-pub assoc : (a b c : Named) → together (together a b) c ≡ together a (together b c)
-assoc named.Nothing b c = refl
+pub assoc : (a b c : EntriesNamed) → together (together a b) c ≡ together a (together b c)
+assoc named.NoEntry b c = refl
 assoc named.Several b c = refl
-assoc (named.Just a) named.Nothing c = refl
-assoc (named.Just a) named.Several c = refl
-assoc (named.Just a) (named.Just b) named.Nothing = elim (cases_Bool (eqb a b)) [ inl t ↦ rw t refl | inr n ↦ rw n refl ]
-assoc (named.Just a) (named.Just b) named.Several = elim (cases_Bool (eqb a b)) [ inl t ↦ rw t refl | inr n ↦ rw n refl ]
-assoc (named.Just a) (named.Just b) (named.Just c) = elim (cases_Bool (eqb a b)) [
-  | inl t ↦ (let e : a ≡ b = eqb-true a b t in subst (λ d. together (together (named.Just a) (named.Just d)) (named.Just c) ≡ together (named.Just a) (together (named.Just d) (named.Just c))) e (same a c))
+assoc (named.OneEntry a) named.NoEntry c = refl
+assoc (named.OneEntry a) named.Several c = refl
+assoc (named.OneEntry a) (named.OneEntry b) named.NoEntry = elim (cases_Bool (eqb a b)) [ inl t ↦ rw t refl | inr n ↦ rw n refl ]
+assoc (named.OneEntry a) (named.OneEntry b) named.Several = elim (cases_Bool (eqb a b)) [ inl t ↦ rw t refl | inr n ↦ rw n refl ]
+assoc (named.OneEntry a) (named.OneEntry b) (named.OneEntry c) = elim (cases_Bool (eqb a b)) [
+  | inl t ↦ (let e : a ≡ b = eqb-true a b t in subst (λ d. together (together (named.OneEntry a) (named.OneEntry d)) (named.OneEntry c) ≡ together (named.OneEntry a) (together (named.OneEntry d) (named.OneEntry c))) e (same a c))
   | inr n ↦ elim (cases_Bool (eqb b c)) [ inl u ↦ rw (n, u, n) refl | inr u ↦ rw (n, u) refl ]
 ]
   where
-    same : (a c : ℕ) → together (together (named.Just a) (named.Just a)) (named.Just c) ≡ together (named.Just a) (together (named.Just a) (named.Just c))
+    same : (a c : ℕ) → together (together (named.OneEntry a) (named.OneEntry a)) (named.OneEntry c) ≡ together (named.OneEntry a) (together (named.OneEntry a) (named.OneEntry c))
     same a c = elim (cases_Bool (eqb a c)) [
       | inl t ↦ rw (eq-eqb a a refl, t, eq-eqb a a refl) refl
       | inr n ↦ rw (eq-eqb a a refl, n) refl
@@ -42,10 +42,10 @@ assoc (named.Just a) (named.Just b) (named.Just c) = elim (cases_Bool (eqb a b))
 
 pub named_of-append : (xs ys : List ℕ) → named_of (xs ++ ys) ≡ together (named_of xs) (named_of ys)
 named_of-append [] ys = refl
-named_of-append (x ∷ xs) ys = ap (together (named.Just x)) (named_of-append xs ys) ∙ sym (assoc (named.Just x) (named_of xs) (named_of ys))
+named_of-append (x ∷ xs) ys = ap (together (named.OneEntry x)) (named_of-append xs ys) ∙ sym (assoc (named.OneEntry x) (named_of xs) (named_of ys))
 
 -- This is the step of the loop over the members of AND or OR. `names` is what the members before i name.
-pub member_more : (members : List Cond) (i : ℕ) (d : Cond) (names more one : Named) → i < length members → one ≡ named_of (entries_named (get_or members i d)) → more ≡ together names one
+pub member_more : (members : List Cond) (i : ℕ) (d : Cond) (names more one : EntriesNamed) → i < length members → one ≡ named_of (entries_named (get_or members i d)) → more ≡ together names one
     → together names (named_of (flat_map (λ inner. inner) (map entries_named (drop i members)))) ≡ named_of (flat_map (λ inner. inner) (map entries_named members))
     → together more (named_of (flat_map (λ inner. inner) (map entries_named (drop (i + 1) members)))) ≡ named_of (flat_map (λ inner. inner) (map entries_named members))
 member_more members i d names more one h is is_more so_far =
@@ -57,19 +57,19 @@ member_more members i d names more one h is is_more so_far =
 
 -- ---- whether a list names just one entry
 
-abbrev pub tells_just : ℕ → Named → Bool
-tells_just entry named.Nothing = false
-tells_just entry (named.Just own) = eqb own entry
+abbrev pub tells_just : ℕ → EntriesNamed → Bool
+tells_just entry named.NoEntry = false
+tells_just entry (named.OneEntry own) = eqb own entry
 tells_just entry named.Several = false
 
-abbrev pub tells_one : Named → Bool
-tells_one named.Nothing = false
-tells_one (named.Just own) = true
+abbrev pub tells_one : EntriesNamed → Bool
+tells_one named.NoEntry = false
+tells_one (named.OneEntry own) = true
 tells_one named.Several = false
 
-abbrev tells_all : ℕ → Named → Bool
-tells_all entry named.Nothing = true
-tells_all entry (named.Just own) = eqb own entry
+abbrev tells_all : ℕ → EntriesNamed → Bool
+tells_all entry named.NoEntry = true
+tells_all entry (named.OneEntry own) = eqb own entry
 tells_all entry named.Several = false
 
 apart : (a b c : ℕ) → eqb a b ≡ false → (eqb a c && eqb b c) ≡ false
@@ -81,10 +81,10 @@ apart a b c n = elim (cases_Bool (eqb a c)) [
   | inr m ↦ rw m refl
 ]
 
-all_with : (entry x : ℕ) (n : Named) → (eqb x entry && tells_all entry n) ≡ tells_all entry (together (named.Just x) n)
-all_with entry x named.Nothing = and-true (eqb x entry)
+all_with : (entry x : ℕ) (n : EntriesNamed) → (eqb x entry && tells_all entry n) ≡ tells_all entry (together (named.OneEntry x) n)
+all_with entry x named.NoEntry = and-true (eqb x entry)
 all_with entry x named.Several = and-false (eqb x entry)
-all_with entry x (named.Just own) = elim (cases_Bool (eqb x own)) [
+all_with entry x (named.OneEntry own) = elim (cases_Bool (eqb x own)) [
   | inl t ↦ (let e : x ≡ own = eqb-true x own t in
       rw t (subst (λ o. (eqb x entry && eqb o entry) ≡ eqb x entry) e (twice (eqb x entry))))
   | inr n ↦ rw n (apart x own entry n)
@@ -98,15 +98,15 @@ all_named : (entry : ℕ) (xs : List ℕ) → list_all (λ e. eqb e entry) xs �
 all_named entry [] = refl
 all_named entry (x ∷ xs) = ap (λ b. eqb x entry && b) (all_named entry xs) ∙ all_with entry x (named_of xs)
 
-just_with : (entry x : ℕ) (n : Named) → tells_all entry (together (named.Just x) n) ≡ tells_just entry (together (named.Just x) n)
-just_with entry x named.Nothing = refl
+just_with : (entry x : ℕ) (n : EntriesNamed) → tells_all entry (together (named.OneEntry x) n) ≡ tells_just entry (together (named.OneEntry x) n)
+just_with entry x named.NoEntry = refl
 just_with entry x named.Several = refl
-just_with entry x (named.Just own) = elim (cases_Bool (eqb x own)) [ inl t ↦ rw t refl | inr n ↦ rw n refl ]
+just_with entry x (named.OneEntry own) = elim (cases_Bool (eqb x own)) [ inl t ↦ rw t refl | inr n ↦ rw n refl ]
 
-one_with : (x : ℕ) (n : Named) → tells_all x n ≡ tells_one (together (named.Just x) n)
-one_with x named.Nothing = refl
+one_with : (x : ℕ) (n : EntriesNamed) → tells_all x n ≡ tells_one (together (named.OneEntry x) n)
+one_with x named.NoEntry = refl
 one_with x named.Several = refl
-one_with x (named.Just own) = elim (cases_Bool (eqb x own)) [
+one_with x (named.OneEntry own) = elim (cases_Bool (eqb x own)) [
   | inl t ↦ rw (t, eq-eqb own x (sym (eqb-true x own t))) refl
   | inr n ↦ rw (n, ne_eqb own x (λ e. eqb-false x own n (sym e))) refl
 ]
@@ -115,12 +115,12 @@ within_one : (entry : ℕ) (xs : List ℕ) → are_within xs (entry ∷ []) ≡ 
 within_one entry [] = refl
 within_one entry (x ∷ xs) = rw (or-false (eqb x entry), within_one entry xs) refl
 
-pub just_named : (entry : ℕ) (xs : List ℕ) → are_just xs entry ≡ tells_just entry (named_of xs)
+pub just_named : (entry : ℕ) (xs : List ℕ) → is_only_named xs entry ≡ tells_just entry (named_of xs)
 just_named entry [] = refl
 just_named entry (x ∷ xs) =
     and-true (are_within (x ∷ xs) (entry ∷ [])) ∙ within_one entry (x ∷ xs) ∙ all_named entry (x ∷ xs) ∙ just_with entry x (named_of xs)
 
-pub one_named : (xs : List ℕ) → are_one xs ≡ tells_one (named_of xs)
+pub one_named : (xs : List ℕ) → have_one_entry xs ≡ tells_one (named_of xs)
 one_named [] = refl
 one_named (x ∷ xs) = all_named x xs ∙ one_with x (named_of xs)
 

@@ -5,9 +5,9 @@ use Rattle.std.proofs.lemmas.Bool.{cases_Bool, eqb-true, eqb-false, ne_eqb}
 use Rattle.berge_tree.specs.declared.edges.Edge.{Edge}
 use Rattle.query_types.specs.declared.types.Cond.{Cond}
 use Rattle.query_types.specs.declared.types.Query.{Query}
-use Rattle.join_graph.specs.declared.naming.Named.{Named}
-use Rattle.join_graph.specs.declared.naming.Named.TheVariants as named
-use Rattle.join_graph.specs.Conjuncts.{equality_of, names_just, once_if, places_in_parts}
+use Rattle.join_graph.specs.declared.naming.EntriesNamed.{EntriesNamed}
+use Rattle.join_graph.specs.declared.naming.EntriesNamed.TheVariants as named
+use Rattle.join_graph.specs.Conjuncts.{equality_of, names_just, once_if, count_of_parts}
 use Rattle.query_types.specs.Named.{NamesItsEntries, entries_named}
 use Rattle.join_graph.specs.Naming.{named_of, together}
 use Rattle.join_graph.proofs.NamedEntries.{tells_just, tells_one, just_named, one_named, equality_several}
@@ -32,30 +32,30 @@ filter_one own from (suc n) h l = elim (cases_Bool (eqb own from)) [
   | inr f ↦ (let ne : own ≢ from = eqb-false own from f in rw f (filter_one own (from + 1) n (omega arith) (omega arith)))
 ]
 
--- the conjunct is given by its equality, if it is one, and by what it names (`Named`)
-counted : (entries : ℕ) (equality : Option Edge) (n : Named) → ((edge : Edge) → equality ≡ Some edge → n ≡ named.Several) → ((own : ℕ) → n ≡ named.Just own → own < entries)
+-- the conjunct is given by its equality, if it is one, and by what it names (`EntriesNamed`)
+in_one_part : (entries : ℕ) (equality : Option Edge) (n : EntriesNamed) → ((edge : Edge) → equality ≡ Some edge → n ≡ named.Several) → ((own : ℕ) → n ≡ named.OneEntry own → own < entries)
     → once_if (is_some equality) + length (filter (λ e. tells_just e n) (range_with_len 0 entries)) + once_if (is_none equality && not (tells_one n)) ≡ 1
-counted entries (Some edge) n several below = rw (several edge refl, filter_none (range_with_len 0 entries)) refl
-counted entries None named.Nothing several below = rw (filter_none (range_with_len 0 entries)) refl
-counted entries None named.Several several below = rw (filter_none (range_with_len 0 entries)) refl
-counted entries None (named.Just own) several below = rw (filter_one own 0 entries (omega arith) (let h : own < entries = below own refl in omega arith)) refl
+in_one_part entries (Some edge) n several below = rw (several edge refl, filter_none (range_with_len 0 entries)) refl
+in_one_part entries None named.NoEntry several below = rw (filter_none (range_with_len 0 entries)) refl
+in_one_part entries None named.Several several below = rw (filter_none (range_with_len 0 entries)) refl
+in_one_part entries None (named.OneEntry own) several below = rw (filter_one own 0 entries (omega arith) (let h : own < entries = below own refl in omega arith)) refl
 
-first_named : (entries x : ℕ) (n : Named) (own : ℕ) → x < entries → ((own : ℕ) → n ≡ named.Just own → own < entries) → together (named.Just x) n ≡ named.Just own → own < entries
-first_named entries x named.Nothing own h below e = let is : x ≡ own = cc in omega arith
+first_named : (entries x : ℕ) (n : EntriesNamed) (own : ℕ) → x < entries → ((own : ℕ) → n ≡ named.OneEntry own → own < entries) → together (named.OneEntry x) n ≡ named.OneEntry own → own < entries
+first_named entries x named.NoEntry own h below e = let is : x ≡ own = cc in omega arith
 first_named entries x named.Several own h below e = absurd (cc)
-first_named entries x (named.Just y) own h below e = elim (cases_Bool (eqb x y)) [
-  | inl t ↦ (let f : named.Just x ≡ named.Just own = rw t at e in let is : x ≡ own = cc in omega arith)
-  | inr u ↦ (let f : named.Several ≡ named.Just own = rw u at e in absurd (cc))
+first_named entries x (named.OneEntry y) own h below e = elim (cases_Bool (eqb x y)) [
+  | inl t ↦ (let f : named.OneEntry x ≡ named.OneEntry own = rw t at e in let is : x ≡ own = cc in omega arith)
+  | inr u ↦ (let f : named.Several ≡ named.OneEntry own = rw u at e in absurd (cc))
 ]
 
-own_below : (entries : ℕ) (xs : List ℕ) → All (λ e. e < entries) xs → (own : ℕ) → named_of xs ≡ named.Just own → own < entries
+own_below : (entries : ℕ) (xs : List ℕ) → All (λ e. e < entries) xs → (own : ℕ) → named_of xs ≡ named.OneEntry own → own < entries
 own_below entries [] all own e = absurd (cc)
 own_below entries (x ∷ xs) all own e = first_named entries x (named_of xs) own (all 0 0 (omega arith)) (own_below entries xs (λ k d h. all (suc k) d (omega arith))) e
 
-one_part : (entries : ℕ) (c : Cond) → All (λ e. e < entries) (entries_named c) → places_in_parts entries c ≡ 1
+one_part : (entries : ℕ) (c : Cond) → All (λ e. e < entries) (entries_named c) → count_of_parts entries c ≡ 1
 one_part entries c all =
     rw (filter_same (λ e. names_just e c) (λ e. tells_just e (named_of (entries_named c))) (λ e. just_named e (entries_named c)) (range_with_len 0 entries), one_named (entries_named c))
-    (counted entries (equality_of c) (named_of (entries_named c)) (equality_several c) (own_below entries (entries_named c) all))
+    (in_one_part entries (equality_of c) (named_of (entries_named c)) (equality_several c) (own_below entries (entries_named c) all))
 
-pub all_in_one_part : (query : Query) → NamesItsEntries query → All (λ c. places_in_parts (length query.from) c ≡ 1) query.conjuncts
+pub all_in_one_part : (query : Query) → NamesItsEntries query → All (λ c. count_of_parts (length query.from) c ≡ 1) query.conjuncts
 all_in_one_part query all = λ k d h. one_part (length query.from) _ (all k d h)

@@ -9,10 +9,10 @@ use Rattle.std.proofs.Math.Seq.{take-append_seam, drop-append_seam}
 use Rattle.berge_tree.specs.declared.edges.Edge.{Edge}
 use Rattle.berge_tree.specs.Equalities.{AreWithin}
 use Rattle.entry_sets.specs.Sets.{entries_of_set, has_entry}
-use Rattle.berge_tree.specs.Testing.{has_entries, joined_parts}
+use Rattle.berge_tree.specs.Testing.{has_entries, merged_components}
 use Rattle.berge_tree.proofs.Tested.{has_within}
 use Rattle.join_graph.specs.Kept.{joins_within, equalities_within, order_of_turn, kept_by_names, kept_of}
-use Rattle.join_graph.specs.Names.{IsNamed, AreNamed}
+use Rattle.join_graph.specs.Names.{HasEntriesBelow16, HaveEntriesBelow16}
 
 -- ---- what is true of each equality of a set
 
@@ -41,7 +41,7 @@ kept_all : (P : Edge → Type 0) (name : ℕ → ℕ) (es : List Edge) → AllBy
 kept_all P name [] h = tt
 kept_all P name (e ∷ es) h = elim (cases_Bool (eqb (name e.left.entry) (name e.right.entry))) [
   | inl t ↦ rw t (kept_all P name es h.1)
-  | inr n ↦ rw n (h.0, kept_all P (joined_parts name e.left.entry e.right.entry) es h.1)
+  | inr n ↦ rw n (h.0, kept_all P (merged_components name e.left.entry e.right.entry) es h.1)
 ]
 
 have_entries : (subset : ℕ) (es : List Edge) → AreJoining subset es → has_entries subset es ≡ true
@@ -58,7 +58,7 @@ kept_within subset turn es =
     has_within subset (kept_of subset turn es) (have_entries subset (kept_of subset turn es)
     (kept_all P (λ x. x) (order_of_turn subset turn es) (append_all P (drop turn of_set) (take turn of_set) (drop_all P turn of_set all) (take_all P turn of_set all))))
 
-joining_named : (subset : ℕ) (e : Edge) → joins_within subset e ≡ true → IsNamed e
+joining_named : (subset : ℕ) (e : Edge) → joins_within subset e ≡ true → HasEntriesBelow16 e
 joining_named subset e t =
     let k : (has_entry subset e.left.entry ≡ true) × (has_entry subset e.right.entry ≡ true) = and_parts (has_entry subset e.left.entry) (has_entry subset e.right.entry) t in
     (entry_named e.left.entry k.0, entry_named e.right.entry k.1)
@@ -66,13 +66,13 @@ joining_named subset e t =
     entry_named : (x : ℕ) → has_entry subset x ≡ true → x < 16
     entry_named x t = ltb-true x 16 (and_parts _ _ t).0
 
-pub is_named : (subset : ℕ) (e : Edge) → joins_within subset e ≡ true → IsNamed e
+pub is_named : (subset : ℕ) (e : Edge) → joins_within subset e ≡ true → HasEntriesBelow16 e
 is_named = joining_named
 
-pub are_named : (subset : ℕ) (es : List Edge) → AreNamed (equalities_within subset es)
+pub are_named : (subset : ℕ) (es : List Edge) → HaveEntriesBelow16 (equalities_within subset es)
 are_named subset es = names (equalities_within subset es) (filter_all subset es)
   where
-    names : (es : List Edge) → AreJoining subset es → AreNamed es
+    names : (es : List Edge) → AreJoining subset es → HaveEntriesBelow16 es
     names [] h = tt
     names (e ∷ es) h = (joining_named subset e h.0, names es h.1)
 

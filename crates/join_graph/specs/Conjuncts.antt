@@ -1,7 +1,7 @@
 -- The conjuncts of a query in parts: those that name one entry, the equalities that join two, and all others.
 use Rattle.std.specs.Prelude.{ℕ, ◌+◌, Bool, false, not, ◌&&◌, ◌==◌, if◌then◌else◌, List, [], ◌∷◌, map, length, Option, Some, None, is_none, is_some, filter}
 use Rattle.std.specs.List.{filter_map, list_all, range_with_len}
-use Rattle.entry_sets.specs.Naming.{are_just}
+use Rattle.entry_sets.specs.Naming.{is_only_named}
 use Rattle.berge_tree.specs.declared.edges.Edge.{Edge}
 use Rattle.berge_tree.specs.Equalities.{place}
 use Rattle.query_grammar.specs.declared.tree.Op.{Op}
@@ -19,7 +19,7 @@ use Rattle.query_types.specs.declared.types.Query.{Query}
 
 -- the condition names this entry and no other entry
 abbrev pub names_just : ℕ → Cond → Bool
-names_just entry cond = are_just (entries_named cond) entry
+names_just entry cond = is_only_named (entries_named cond) entry
 
 abbrev pub column_operand : ℕ → ℕ → Operand
 column_operand from column = operand.Column (record { from = from; column = column })
@@ -55,13 +55,13 @@ abbrev pub equality_of : Cond → Option Edge
 equality_of cond = equality_in (out-Cond cond)
 
 -- the list has just one entry, which it may have more than once
-abbrev pub are_one : List ℕ → Bool
-are_one [] = false
-are_one (entry ∷ entries) = list_all (λ e. e == entry) entries
+abbrev pub have_one_entry : List ℕ → Bool
+have_one_entry [] = false
+have_one_entry (entry ∷ entries) = list_all (λ e. e == entry) entries
 
 -- the condition isn't an equality of two entries, and it names no entry or several
 abbrev pub is_residual : Cond → Bool
-is_residual cond = is_none (equality_of cond) && not (are_one (entries_named cond))
+is_residual cond = is_none (equality_of cond) && not (have_one_entry (entries_named cond))
 
 -- ---- the parts
 
@@ -69,8 +69,8 @@ abbrev pub once_if : Bool → ℕ
 once_if holds = if holds then 1 else 0
 
 -- in how many parts a condition is: the equalities, the part of each FROM entry (there are `entries` of them), and the others
-abbrev pub places_in_parts : ℕ → Cond → ℕ
-places_in_parts entries cond =
+abbrev pub count_of_parts : ℕ → Cond → ℕ
+count_of_parts entries cond =
     once_if (is_some (equality_of cond)) + length (filter (λ entry. names_just entry cond) (range_with_len 0 entries))
     + once_if (is_residual cond)
 

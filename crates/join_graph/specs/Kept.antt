@@ -3,7 +3,7 @@ use Rattle.std.specs.Prelude.{◌≡◌, ℕ, Bool, ◌&&◌, ◌==◌, if◌the
 use Rattle.std.specs.List.{AllByRecursion}
 use Rattle.berge_tree.specs.declared.edges.Edge.{Edge}
 use Rattle.berge_tree.specs.Equalities.{AreApart}
-use Rattle.berge_tree.specs.Testing.{joined_parts}
+use Rattle.berge_tree.specs.Testing.{merged_components}
 use Rattle.entry_sets.specs.Sets.{has_entry}
 
 -- ---- the equalities of a set
@@ -23,12 +23,12 @@ abbrev pub turn_count : ℕ → List Edge → ℕ
 turn_count subset es = max (min (length (equalities_within subset es)) 16) 1
 
 -- the elements from index `turn` on, and then the elements before it
-abbrev pub gone_round : ℕ → List Edge → List Edge
-gone_round turn es = drop turn es ++ take turn es
+abbrev pub rotated : ℕ → List Edge → List Edge
+rotated turn es = drop turn es ++ take turn es
 
 -- the set's equalities in the order in which a turn looks at them
 abbrev pub order_of_turn : ℕ → ℕ → List Edge → List Edge
-order_of_turn subset turn es = gone_round turn (equalities_within subset es)
+order_of_turn subset turn es = rotated turn (equalities_within subset es)
 
 -- ---- kept equalities
 
@@ -56,7 +56,7 @@ abbrev pub kept_by_names : (ℕ → ℕ) → List Edge → List Edge
 kept_by_names name [] = []
 kept_by_names name (e ∷ es) =
     if name e.left.entry == name e.right.entry then kept_by_names name es
-    else (e ∷ kept_by_names (joined_parts name e.left.entry e.right.entry) es)
+    else (e ∷ kept_by_names (merged_components name e.left.entry e.right.entry) es)
 
 -- the equalities of `es` that are kept, in the order of `es`. At first each entry is a part of its own
 abbrev pub kept_in_order : List Edge → List Edge

@@ -3,9 +3,9 @@ ghost use Rattle.std.specs.Prelude.{◌≡◌, ◌<◌, ◌≤◌, ◌++◌, ◌
 ghost use Rattle.berge_tree.specs.declared.edges.Edge.{Edge};
 ghost use Rattle.berge_tree.specs.Equalities.{AreWithin, ClosesNoCycle, HasNoCycle, class_of};
 ghost use Rattle.entry_sets.specs.Sets.{entries_of_set};
-ghost use Rattle.berge_tree.specs.Testing.{joined_parts};
+ghost use Rattle.berge_tree.specs.Testing.{merged_components};
 ghost use Rattle.join_graph.specs.Kept.{Keeps, equalities_within, joins_within, kept_by_names, kept_of, order_of_turn, turn_count};
-ghost use Rattle.join_graph.specs.Names.{AreNamed, IsNamed};
+ghost use Rattle.join_graph.specs.Names.{HaveEntriesBelow16, HasEntriesBelow16};
 
 use crate::parts::Parts;
 use base_io::{NoMemory, Seq};
@@ -63,18 +63,18 @@ fn first_of_turn(edges: &[Edge], subset: EntrySet, turn: u32) -> usize
 
 // The names of parts before any equality is kept. A part has the entries that kept equalities connect (a connected component): at first each entry
 // is a part of its own, named by the entry's number.
-fn own_names() -> [u8; ENTRIES]
+fn own_components() -> [u8; ENTRIES]
     ensures { (x : ℕ) → x < 16 → slice_index result x ≡ x }
 {
     [0, 1, 2, 3, 4, 5, 6, 7, 8, 9, 10, 11, 12, 13, 14, 15]
 }
 
 // Joins the parts of two entries: the right entry's part takes the name of the left entry's part.
-fn join_parts(names: &mut [u8], left: u8, right: u8)
+fn merge_components(names: &mut [u8], left: u8, right: u8)
     requires names { length names.old ≡ 16 }
     requires left { left < 16 }
     requires right { right < 16 }
-    ensures { (x : ℕ) → x < 16 → slice_index names.new x ≡ joined_parts (slice_index names.old) left right x }
+    ensures { (x : ℕ) → x < 16 → slice_index names.new x ≡ merged_components (slice_index names.old) left right x }
 {
     let new = names[left as usize];
     let old = names[right as usize];
@@ -88,13 +88,13 @@ fn join_parts(names: &mut [u8], left: u8, right: u8)
 // Keeps an equality if its two entries are in different parts, and joins these two parts.
 fn consider(edge: Edge, names: &mut [u8], kept: &mut Seq<Edge>) -> Result<(), NoMemory>
     requires names { length names.old ≡ 16 }
-    requires edge { IsNamed edge }
-    ensures { IfOk result (λ _. (rest : List Edge) → AreNamed rest
+    requires edge { HasEntriesBelow16 edge }
+    ensures { IfOk result (λ _. (rest : List Edge) → HaveEntriesBelow16 rest
         → kept.new ++ kept_by_names (slice_index names.new) rest ≡ kept.old ++ kept_by_names (slice_index names.old) (edge ∷ rest)) }
 {
     if names[edge.left.entry as usize] != names[edge.right.entry as usize] {
         kept.push(edge)?;
-        join_parts(names, edge.left.entry, edge.right.entry);
+        merge_components(names, edge.left.entry, edge.right.entry);
     }
     Ok(())
 }
@@ -107,7 +107,7 @@ fn consider_all(
     kept: &mut Seq<Edge>,
 ) -> Result<(), NoMemory>
     requires names { length names.old ≡ 16 }
-    ensures { IfOk result (λ _. (rest : List Edge) → AreNamed rest
+    ensures { IfOk result (λ _. (rest : List Edge) → HaveEntriesBelow16 rest
         → kept.new ++ kept_by_names (slice_index names.new) rest
         ≡ kept.old ++ kept_by_names (slice_index names.old) (equalities_within subset edges.now ++ rest)) }
 {
@@ -137,7 +137,7 @@ pub fn kept(
 {
     let edges = parts.equalities.as_slice();
     let (before, from) = edges.split_at(first_of_turn(edges, subset, turn));
-    let mut names = own_names();
+    let mut names = own_components();
     let mut kept = Seq::new(alloc);
     consider_all(from, subset, &mut names, &mut kept)?;
     consider_all(before, subset, &mut names, &mut kept)?;

@@ -13,7 +13,7 @@ ghost use Rattle.query_types.specs.declared.types.Cond.TheVariants as cond;
 ghost use Rattle.query_types.specs.declared.types.Operand.{Operand};
 ghost use Rattle.query_types.specs.declared.types.Operand.TheVariants as operand;
 ghost use Rattle.query_types.specs.declared.types.Query.{Query};
-ghost use Rattle.join_graph.specs.Conjuncts.{column_operand, equality_of, numbers_where, places_in_parts};
+ghost use Rattle.join_graph.specs.Conjuncts.{column_operand, equality_of, numbers_where, count_of_parts};
 ghost use Rattle.query_types.specs.Named.{NamesItsEntries};
 ghost use Rattle.join_graph.specs.Examples.{first_side, pair, second_side, seventeen, third_side, triangle};
 ghost use Rattle.join_graph.specs.Kept.{AreConnected, Keeps, kept_in_order, kept_of, turn_count};
@@ -32,13 +32,13 @@ pub fn kept_equalities_make_no_cycle()
 {}
 
 /// Each conjunct is in exactly one part, if all conjuncts name only FROM entries. In a query over a schema all conjuncts do.
-pub fn conjuncts_stand_in_one_part()
+pub fn conjuncts_are_in_one_part()
     ensures of_schema { (schema : Schema) (query : Query) → IsOf schema query → NamesItsEntries query }
-    ensures one { (query : Query) → NamesItsEntries query → All (λ cond. places_in_parts (length query.from) cond ≡ 1) query.conjuncts }
+    ensures one { (query : Query) → NamesItsEntries query → All (λ cond. count_of_parts (length query.from) cond ≡ 1) query.conjuncts }
 {}
 
 /// `numbers_where`, counting from 0, lists exactly the indices of the conjuncts that pass the test.
-pub fn numbers_are_places()
+pub fn numbers_are_indices()
     ensures { (test : Cond → Bool) (conds : List Cond) (k : ℕ)
         → Contains (numbers_where test 0 conds) k ↔ IsSomeAnd (slice_get conds k) (λ cond. IsTrue (test cond)) }
 {}

@@ -17,8 +17,8 @@ mod splitting;
 
 pub use keeping::{count_within, joins_within, kept, turns};
 pub use laws::{
-    conjuncts_stand_in_one_part, entries_are_apart_or_connected, examples, kept_equalities_are_one,
-    kept_equalities_make_no_cycle, numbers_are_places, what_joins_entries,
+    conjuncts_are_in_one_part, entries_are_apart_or_connected, examples, kept_equalities_are_one,
+    kept_equalities_make_no_cycle, numbers_are_indices, what_joins_entries,
 };
 pub use parts::Parts;
 pub use splitting::split;

@@ -4,41 +4,41 @@ ghost use Rattle.std.specs.List.{flat_map};
 ghost use Rattle.join_graph.specs.Conjuncts.{column_of};
 ghost use Rattle.query_types.specs.Named.{entries_named, entries_of_operand};
 ghost use Rattle.join_graph.specs.Naming.{named_of, together};
-ghost use Rattle.join_graph.specs.declared.naming.Named.TheVariants as named;
+ghost use Rattle.join_graph.specs.declared.naming.EntriesNamed.TheVariants as named;
 
 use query_types::{ColumnRef, Cond, Operand};
 
 /// Which entries a condition names, in short: no entry, just one, or several.
 #[derive(Clone, Copy)]
-pub(crate) enum Named {
-    Nothing,
-    Just(u8),
+pub(crate) enum EntriesNamed {
+    NoEntry,
+    OneEntry(u8),
     Several,
 }
 
-fn together(left: Named, right: Named) -> Named
+fn together(left: EntriesNamed, right: EntriesNamed) -> EntriesNamed
     ensures { result ≡ together left right }
 {
     match left {
-        Named::Nothing => right,
-        Named::Just(entry) => with_entry(entry, right),
-        Named::Several => left,
+        EntriesNamed::NoEntry => right,
+        EntriesNamed::OneEntry(entry) => with_entry(entry, right),
+        EntriesNamed::Several => left,
     }
 }
 
-fn with_entry(entry: u8, right: Named) -> Named
-    ensures { result ≡ together (named.Just entry) right }
+fn with_entry(entry: u8, right: EntriesNamed) -> EntriesNamed
+    ensures { result ≡ together (named.OneEntry entry) right }
 {
     match right {
-        Named::Just(other) => {
+        EntriesNamed::OneEntry(other) => {
             if entry == other {
                 right
             } else {
-                Named::Several
+                EntriesNamed::Several
             }
         }
-        Named::Nothing => Named::Just(entry),
-        Named::Several => Named::Several,
+        EntriesNamed::NoEntry => EntriesNamed::OneEntry(entry),
+        EntriesNamed::Several => EntriesNamed::Several,
     }
 }
 
@@ -52,20 +52,20 @@ pub(crate) fn column_of(operand: &Operand) -> Option<ColumnRef>
     }
 }
 
-fn named_by_operand(operand: &Operand) -> Named
+fn named_by_operand(operand: &Operand) -> EntriesNamed
     ensures { result ≡ named_of (entries_of_operand operand.now) }
 {
     match column_of(operand) {
-        Some(column) => Named::Just(column.from),
-        None => Named::Nothing,
+        Some(column) => EntriesNamed::OneEntry(column.from),
+        None => EntriesNamed::NoEntry,
     }
 }
 
 #[cycle(naming)]
-fn named_by_all(members: &[Cond]) -> Named
+fn named_by_all(members: &[Cond]) -> EntriesNamed
     ensures { result ≡ named_of (flat_map (λ inner. inner) (map entries_named members.now)) }
 {
-    let mut names = Named::Nothing;
+    let mut names = EntriesNamed::NoEntry;
     for member in members {
         names = together(names, named_by(member));
     }
@@ -74,7 +74,7 @@ fn named_by_all(members: &[Cond]) -> Named
 
 /// Which entries a condition names, in short.
 #[cycle(naming)]
-pub(crate) fn named_by(cond: &Cond) -> Named
+pub(crate) fn named_by(cond: &Cond) -> EntriesNamed
     ensures { result ≡ named_of (entries_named cond.now) }
 {
     match cond {

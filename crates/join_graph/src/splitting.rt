@@ -2,10 +2,10 @@
 ghost use Rattle.std.specs.Prelude.{◌≡◌, ◌^◌, ◌<◌, length, map, IfOk, Some};
 ghost use Rattle.std.specs.List.{filter_map, range_with_len};
 ghost use Rattle.join_graph.specs.Conjuncts.{equalities_of, equality_of, joining, local_of, numbers_where, residual_of};
-ghost use Rattle.join_graph.specs.Naming.{edge_in, is_alike, part_of};
+ghost use Rattle.join_graph.specs.Naming.{edge_in, is_same_part, part_of};
 ghost use Rattle.join_graph.specs.declared.splitting.Part.TheVariants as part;
 
-use crate::naming::{Named, column_of, named_by};
+use crate::naming::{EntriesNamed, column_of, named_by};
 use crate::parts::Parts;
 use base_io::{NoMemory, Seq};
 use berge_tree::{Edge, Place};
@@ -64,14 +64,14 @@ fn part_of(cond: &Cond) -> Part
         return Part::Equality(edge);
     }
     match named_by(cond) {
-        Named::Just(entry) => Part::Local(entry),
-        Named::Nothing | Named::Several => Part::Residual,
+        EntriesNamed::OneEntry(entry) => Part::Local(entry),
+        EntriesNamed::NoEntry | EntriesNamed::Several => Part::Residual,
     }
 }
 
 // Whether `a` and `b` are both the own conjuncts of the same entry, or both the part of all others. If one of them is an equality, the result is false.
-fn is_alike(a: Part, b: Part) -> bool
-    ensures { result ≡ is_alike a b }
+fn is_same_part(a: Part, b: Part) -> bool
+    ensures { result ≡ is_same_part a b }
 {
     match a {
         Part::Local(entry) => is_local(entry, b),
@@ -81,7 +81,7 @@ fn is_alike(a: Part, b: Part) -> bool
 }
 
 fn is_local(entry: u8, other: Part) -> bool
-    ensures { result ≡ is_alike (part.Local entry) other }
+    ensures { result ≡ is_same_part (part.Local entry) other }
 {
     match other {
         Part::Local(own) => own == entry,
@@ -99,11 +99,11 @@ fn parts_of(alloc: Global, conjuncts: &[Cond]) -> Result<Vec<Part>, AllocError>
 // The numbers of the conjuncts in this part, in text order. If `part` is an equality, there are no numbers.
 fn numbers_in(alloc: Global, parts: &[Part], part: Part) -> Result<Seq<u32>, NoMemory>
     requires { length parts.now < 2 ^ 32 }
-    ensures { IfOk result (λ numbers. numbers ≡ numbers_where (is_alike part) 0 parts.now) }
+    ensures { IfOk result (λ numbers. numbers ≡ numbers_where (is_same_part part) 0 parts.now) }
 {
     let mut numbers = Seq::new(alloc);
     for i in 0..parts.len() {
-        if is_alike(part, parts[i]) {
+        if is_same_part(part, parts[i]) {
             numbers.push(i as u32)?;
         }
     }
@@ -114,7 +114,7 @@ fn numbers_in(alloc: Global, parts: &[Part], part: Part) -> Result<Seq<u32>, NoM
 fn numbers_by_entry(alloc: Global, parts: &[Part], entries: u8) -> Result<Seq<Seq<u32>>, NoMemory>
     requires { length parts.now < 2 ^ 32 }
     ensures { IfOk result
-        (λ lists. lists ≡ map (λ entry. numbers_where (is_alike (part.Local entry)) 0 parts.now) (range_with_len 0 entries)) }
+        (λ lists. lists ≡ map (λ entry. numbers_where (is_same_part (part.Local entry)) 0 parts.now) (range_with_len 0 entries)) }
 {
     let mut lists = Seq::new(alloc);
     for entry in 0..entries {

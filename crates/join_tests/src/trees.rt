@@ -16,7 +16,7 @@ use order_search::PlanError;
 use query_types::Query;
 use std::alloc::{AllocError, Global};
 use tree_plans::{BushyPlan, Join};
-use tree_rows::{BushyDone, reserve_bushy};
+use tree_rows::{BushyResult, reserve_bushy};
 
 #[derive(Debug, Drop)]
 struct Failed;
@@ -42,7 +42,7 @@ impl From<PlanError> for Failed {
 #[derive(Drop)]
 struct JoinedTree {
     plan: BushyPlan,
-    done: BushyDone,
+    done: BushyResult,
 }
 
 // Joins the entries of a query by its best tree.
@@ -59,7 +59,7 @@ fn joined(alloc: Global, query: &Query, db: &Database) -> Result<JoinedTree, Fai
 }
 
 // The rows of a node, one after another. Each has the row number of each entry, and 9 for an entry that the node doesn't have.
-fn rows_of(alloc: Global, done: &BushyDone, node: u8, entries: usize) -> Result<Vec<u32>, Failed>
+fn rows_of(alloc: Global, done: &BushyResult, node: u8, entries: usize) -> Result<Vec<u32>, Failed>
     requires node { node < length done.now.nodes }
     requires within { AllByRecursion (λ entry. entry < entries) (node_at done.now.nodes node).entries }
 {

@@ -13,13 +13,13 @@ use Rattle.tree_plans.specs.declared.bushy.Join.{Join}
 use Rattle.tree_rows.specs.Nodes.{no_node, node_at, Node}
 use Rattle.printed_texts.specs.Plans.{alias_of, audit_line, level_audits}
 use Rattle.printed_texts.specs.TreePlans.{node_audit, node_audits}
-use Rattle.printed_texts.proofs.PlanLines.{left_at as left_in}
+use Rattle.printed_texts.proofs.PlanLines.{rest_at as left_in}
 use Rattle.joined_texts.specs.Printed.{level_counts, node_counts}
 
 -- ---- the lines of levels
 
-left_at : (xs : List ℕ) (i x : ℕ) → i < length xs → x ≡ get_or xs i 0 → drop i xs ≡ x ∷ drop (i + 1) xs
-left_at xs i x low at' =
+rest_at : (xs : List ℕ) (i x : ℕ) → i < length xs → x ≡ get_or xs i 0 → drop i xs ≡ x ∷ drop (i + 1) xs
+rest_at xs i x low at' =
     drop-cons xs i 0 low ∙ ap (λ (y : ℕ). y ∷ drop (suc i) xs) (sym at') ∙ ap (λ (j : ℕ). x ∷ drop j xs) (sym (add-one i))
 
 pub next_audit : (k : ℕ) (sources : List Source) (order bounds counts : List ℕ) (i entry bound rows : ℕ)
@@ -27,9 +27,9 @@ pub next_audit : (k : ℕ) (sources : List Source) (order bounds counts : List �
     → level_audits k sources (drop i order) (drop i bounds) (drop i counts)
     ≡ audit_line k (alias_of (slice_get sources entry)) bound rows ++ level_audits (k + 1) sources (drop (i + 1) order) (drop (i + 1) bounds) (drop (i + 1) counts)
 next_audit k sources order bounds counts i entry bound rows some more count is at' counted =
-    ap (λ (left : List ℕ). level_audits k sources left (drop i bounds) (drop i counts)) (left_at order i entry some is)
-    ∙ ap (λ (left : List ℕ). level_audits k sources (entry ∷ drop (i + 1) order) left (drop i counts)) (left_at bounds i bound more at')
-    ∙ ap (λ (left : List ℕ). level_audits k sources (entry ∷ drop (i + 1) order) (bound ∷ drop (i + 1) bounds) left) (left_at counts i rows count counted)
+    ap (λ (left : List ℕ). level_audits k sources left (drop i bounds) (drop i counts)) (rest_at order i entry some is)
+    ∙ ap (λ (left : List ℕ). level_audits k sources (entry ∷ drop (i + 1) order) left (drop i counts)) (rest_at bounds i bound more at')
+    ∙ ap (λ (left : List ℕ). level_audits k sources (entry ∷ drop (i + 1) order) (bound ∷ drop (i + 1) bounds) left) (rest_at counts i rows count counted)
 
 -- ---- the numbers of joined rows
 
@@ -71,7 +71,7 @@ pub next_node_audit : (k : ℕ) (joins : List Join) (counts : List ℕ) (i : ℕ
 next_node_audit k joins counts i otherwise rows some count counted =
     let join : Join = get_or joins i otherwise in
     ap (λ (left : List Join). node_audits k left (drop i counts)) (left_in joins i join otherwise some refl)
-    ∙ ap (λ (left : List ℕ). node_audits k (join ∷ drop (i + 1) joins) left) (left_at counts i rows count counted)
+    ∙ ap (λ (left : List ℕ). node_audits k (join ∷ drop (i + 1) joins) left) (rest_at counts i rows count counted)
 
 pub node_count_at : (n : ℕ) (nodes : List Node) (i : ℕ) → n + i < length nodes → get_or (node_counts n nodes) i 0 ≡ length (node_at nodes (n + i)).rows
 node_count_at n nodes i low =

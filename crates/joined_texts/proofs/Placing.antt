@@ -23,12 +23,12 @@ use Rattle.sql_meaning.proofs.LoopFacts.{choice_length, rows_are}
 use Rattle.join_steps.specs.Lists.{IsOrderOf}
 use Rattle.join_steps.specs.Sides.{is_in}
 use Rattle.hash_join.proofs.Placed.{stands_at}
-use Rattle.tree_rows.specs.Nodes.{put}
+use Rattle.tree_rows.specs.Nodes.{placed}
 use Rattle.tree_rows.proofs.NodeFacts.{put_length}
 use Rattle.bushy_join.proofs.Putting.{choice_in, put_row}
 use Rattle.printed_texts.specs.Lines.{IsChoice, choice_text}
 use Rattle.printed_texts.specs.Texts.{row_text, value_text}
-use Rattle.joined_texts.specs.Listed.{choice_record}
+use Rattle.joined_texts.specs.JoinedRows.{choice_record}
 
 -- ---- an order has each entry
 
@@ -81,19 +81,19 @@ module _ (query : Query) (db : Database) (is : IsDatabaseOf query db) (entries :
   here : (x : ℕ) → x < length query.from → is_in entries x ≡ true
   here x low = has_each (length query.from) entries order.entries order.once order.all x low
 
-  put_size : length (put entries choice rows) ≡ length query.from
+  put_size : length (placed entries choice rows) ≡ length query.from
   put_size = put_length entries choice rows ∙ size
 
-  row_at : (x : ℕ) → slice_index (put entries choice rows) x ≡ row_in entries choice x
+  row_at : (x : ℕ) → slice_index (placed entries choice rows) x ≡ row_in entries choice x
   row_at x = elim (cases_Bool (is_in entries x)) [
     | inl there ↦ put_row entries choice rows x order.once long within there
     | inr gone ↦ elim (cases_lt x (length query.from)) [
       | inl low ↦ absurd (false≢true (sym gone ∙ here x low))
-      | inr high ↦ get_or_past (put entries choice rows) x 0 (omega (arith, high, put_size)) ∙ sym (row_out entries choice x gone)
+      | inr high ↦ get_or_past (placed entries choice rows) x 0 (omega (arith, high, put_size)) ∙ sym (row_out entries choice x gone)
     ]
   ]
 
-  pub is_choice : IsChoice db (put entries choice rows)
+  pub is_choice : IsChoice db (placed entries choice rows)
   is_choice = record {
     one_each = omega (arith, put_size, is.entries);
     exists = λ entry low. omega (
@@ -104,7 +104,7 @@ module _ (query : Query) (db : Database) (is : IsDatabaseOf query db) (entries :
     );
   }
 
-  pub text_is : choice_text query.select (tables_of db) (put entries choice rows) ≡ choice_record query db entries choice
+  pub text_is : choice_text query.select (tables_of db) (placed entries choice rows) ≡ choice_record query db entries choice
   text_is =
-      sym (ap record_text (map-map value_text (λ (out : Out). column_value (tables_of db) (slice_index (put entries choice rows)) out.column) query.select))
+      sym (ap record_text (map-map value_text (λ (out : Out). column_value (tables_of db) (slice_index (placed entries choice rows)) out.column) query.select))
       ∙ ap (λ (row_of : ℕ → ℕ). row_text (selected query (tables_of db) row_of)) (fun_ext row_at)

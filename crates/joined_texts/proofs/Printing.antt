@@ -18,7 +18,7 @@ use Rattle.sql_meaning.proofs.Order.{is_choice}
 use Rattle.join_steps.specs.Lists.{IsOrderOf}
 use Rattle.hash_join.specs.Levels.{query_level}
 use Rattle.printed_texts.specs.Texts.{header_text, row_text, rows_lines}
-use Rattle.joined_texts.specs.Listed.{choice_record, HasLevels}
+use Rattle.joined_texts.specs.JoinedRows.{choice_record, HasLevelForEach}
 use Rattle.joined_texts.specs.Printed.{printed_rows, selected_in, selected_rows}
 
 each_choice : (rows : ℕ → ℕ) (entries : List ℕ) → All (IsChoiceOf rows entries) (choices_of rows entries)
@@ -51,7 +51,7 @@ module _ (query : Query) (db : Database) (order : List ℕ) (executed : List Lev
       let number : length order - 1 + 1 ≡ length order = omega (arith, some) in
       last (length order - 1) number ∙ ap (λ (k : ℕ). query_level query db order k) number
 
-  pub has_levels : HasLevels executed order
+  pub has_levels : HasLevelForEach executed order
   has_levels = record { some = some; few = omega (arith, is.few, each.all); count = count }
 
   pub last_whole : All (IsChoiceOf (row_counts (tables_of db)) order) (rows_at executed (length order - 1))

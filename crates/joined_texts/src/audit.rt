@@ -2,7 +2,7 @@
 ghost use Rattle.std.specs.Prelude.{ℕ, ◌≡◌, ◌<◌, ◌+◌, ◌==◌, length};
 ghost use Rattle.std.specs.List.{AllByRecursion, IsDistinct};
 ghost use Rattle.base_io.specs.Devices.{growth};
-ghost use Rattle.base_io.specs.Writes.{Put, Wrote};
+ghost use Rattle.base_io.specs.Writes.{WroteBuffered, Wrote};
 ghost use Rattle.plans.specs.LeftDeep.{IsPlan};
 ghost use Rattle.printed_texts.specs.Plans.{audit_line, audit_lines, level_audits, rows_and_line_end};
 ghost use Rattle.joined_texts.specs.Printed.{level_counts};
@@ -23,7 +23,7 @@ pub(crate) fn put_row_count<N: Sink>(
     buffer: &mut Buffer,
     sink: &mut N,
 ) -> Result<(), Failed>
-    ensures { Put (growth N.taken N.faults sink.old sink.new) buffer.old buffer.new (rows_and_line_end rows) result }
+    ensures { WroteBuffered (growth N.taken N.faults sink.old sink.new) buffer.old buffer.new (rows_and_line_end rows) result }
 {
     let mut digits = itoa::Buffer::new();
     let rows = digits.format(rows).as_bytes();
@@ -38,7 +38,7 @@ fn put_level<N: Sink>(
     buffer: &mut Buffer,
     sink: &mut N,
 ) -> Result<(), Failed>
-    ensures { Put (growth N.taken N.faults sink.old sink.new) buffer.old buffer.new (audit_line k alias.now bound rows) result }
+    ensures { WroteBuffered (growth N.taken N.faults sink.old sink.new) buffer.old buffer.new (audit_line k alias.now bound rows) result }
 {
     put_level_bound(k, alias, bound, buffer, sink)?;
     put_row_count(rows, buffer, sink)
@@ -58,7 +58,7 @@ fn put_levels<N: Sink>(
     requires once { IsDistinct ◌==◌ order.now }
     requires bounds { length bounds.now ≡ length order.now }
     requires levels { length executed.now ≡ length order.now }
-    ensures { Put (growth N.taken N.faults sink.old sink.new) buffer.old buffer.new
+    ensures { WroteBuffered (growth N.taken N.faults sink.old sink.new) buffer.old buffer.new
         (level_audits 1 sources.now order.now bounds.now (level_counts executed.now)) result }
 {
     'levels: for i in 0..order.len() {

@@ -12,8 +12,8 @@
 #![tactic(auto)]
 
 mod audit;
+mod joined_rows;
 mod laws;
-mod listed;
 mod rows;
 mod tree_audit;
 

@@ -3,56 +3,56 @@ ghost use Rattle.std.specs.Prelude.{◌≡◌, ℕ, ◌+◌, ◌*◌, ◌<◌, [
 ghost use Rattle.std.specs.List.{flat_map};
 ghost use Rattle.link_index.specs.Forest.{rows_at};
 ghost use Rattle.base_io.specs.Devices.{growth};
-ghost use Rattle.base_io.specs.Writes.{Put, Wrote};
+ghost use Rattle.base_io.specs.Writes.{WroteBuffered, Wrote};
 ghost use Rattle.sql_meaning.specs.Choices.{IsChoiceOf};
 ghost use Rattle.sql_meaning.specs.Databases.{IsDatabaseOf};
 ghost use Rattle.sql_meaning.specs.Tables.{row_counts, tables_of};
 ghost use Rattle.join_steps.specs.Lists.{IsOrderOf};
 ghost use Rattle.hash_join.specs.Levels.{query_level};
 ghost use Rattle.printed_texts.specs.Texts.{rows_lines};
-ghost use Rattle.joined_texts.specs.Listed.{choice_record, choices_listed, root_of, IsListed};
+ghost use Rattle.joined_texts.specs.JoinedRows.{choice_record, joined_choices, root_of, AreJoinedRows};
 ghost use Rattle.joined_texts.specs.Printed.{printed_rows, selected_rows};
 
-use crate::listed::{Listed, count, read};
+use crate::joined_rows::{JoinedRows, count, read};
 use base_io::{Buffer, Failed, Sink};
 use csv_tables::Database;
 use limits::MOST_ENTRIES;
 use link_index::RowForest;
-use printed_texts::{Line, put_line};
+use printed_texts::{RowsRecord, put_line};
 use query_types::Query;
-use tree_rows::BushyDone;
+use tree_rows::BushyResult;
 
 // Writes the record of a joined row.
 fn put_row<N: Sink>(
     query: &Query,
     db: &Database,
-    listed: &Listed,
+    listed: &JoinedRows,
     i: u32,
     buffer: &mut Buffer,
     sink: &mut N,
 ) -> Result<(), Failed>
-    requires listed { IsListed query.now db.now listed.now }
-    requires row { i < length (choices_listed listed.now).rows }
-    ensures { let it = choices_listed listed.now in Put (growth N.taken N.faults sink.old sink.new) buffer.old buffer.new
+    requires listed { AreJoinedRows query.now db.now listed.now }
+    requires row { i < length (joined_choices listed.now).rows }
+    ensures { let it = joined_choices listed.now in WroteBuffered (growth N.taken N.faults sink.old sink.new) buffer.old buffer.new
         (choice_record query.now db.now it.entries (slice_index_or it.rows i [])) result }
 {
     let size = query.from.len();
     let mut rows = [0; MOST_ENTRIES];
     read(listed, i, &mut rows[..size]);
     let outs = query.select.as_slice();
-    put_line(outs, Line::Rows(&rows[..size]), db, buffer, sink)
+    put_line(outs, RowsRecord::Rows(&rows[..size]), db, buffer, sink)
 }
 
 // Writes a record for each joined row.
 fn put_rows<N: Sink>(
     query: &Query,
     db: &Database,
-    listed: &Listed,
+    listed: &JoinedRows,
     buffer: &mut Buffer,
     sink: &mut N,
 ) -> Result<(), Failed>
-    requires { IsListed query.now db.now listed.now }
-    ensures { let it = choices_listed listed.now in Put (growth N.taken N.faults sink.old sink.new) buffer.old buffer.new
+    requires { AreJoinedRows query.now db.now listed.now }
+    ensures { let it = joined_choices listed.now in WroteBuffered (growth N.taken N.faults sink.old sink.new) buffer.old buffer.new
         (flat_map (choice_record query.now db.now it.entries) it.rows) result }
 {
     'rows: for i in 0..count(listed) {
@@ -66,15 +66,21 @@ fn put_rows<N: Sink>(
 fn write_listed<N: Sink>(
     query: &Query,
     db: &Database,
-    listed: &Listed,
+    listed: &JoinedRows,
     sink: &mut N,
 ) -> Result<(), Failed>
-    requires { IsListed query.now db.now listed.now }
-    ensures { let it = choices_listed listed.now in Wrote (growth N.taken N.faults sink.old sink.new)
+    requires { AreJoinedRows query.now db.now listed.now }
+    ensures { let it = joined_choices listed.now in Wrote (growth N.taken N.faults sink.old sink.new)
         (rows_lines query.now.select (selected_rows query.now db.now it.entries it.rows)) result }
 {
     let mut buffer = Buffer::new();
-    put_line(query.select.as_slice(), Line::Header, db, &mut buffer, sink)?;
+    put_line(
+        query.select.as_slice(),
+        RowsRecord::Header,
+        db,
+        &mut buffer,
+        sink,
+    )?;
     put_rows(query, db, listed, &mut buffer, sink)?;
     buffer.flush(sink)
 }
@@ -97,13 +103,13 @@ pub fn write_rows<N: Sink>(
     ensures { Wrote (growth N.taken N.faults sink.old sink.new)
         (rows_lines query.now.select (printed_rows query.now db.now order.now)) result }
 {
-    write_listed(query, db, &Listed::Last { executed, order }, sink)
+    write_listed(query, db, &JoinedRows::Last { executed, order }, sink)
 }
 
 /// Writes the rows text of a query whose entries were joined by a tree: the header of `write_rows`, and a record for each
 /// row of the tree's root.
 pub fn write_tree_rows<N: Sink>(
-    done: &BushyDone,
+    done: &BushyResult,
     query: &Query,
     db: &Database,
     sink: &mut N,
@@ -116,5 +122,5 @@ pub fn write_tree_rows<N: Sink>(
         (rows_lines query.now.select (selected_rows query.now db.now root.entries root.rows)) result }
 {
     let node = 2 * query.from.len() as u8 - 2;
-    write_listed(query, db, &Listed::Node { done, node }, sink)
+    write_listed(query, db, &JoinedRows::Node { done, node }, sink)
 }

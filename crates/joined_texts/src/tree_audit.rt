@@ -1,7 +1,7 @@
 //! Writes the audit text of a join tree.
 ghost use Rattle.std.specs.Prelude.{◌≡◌, ◌≤◌, ◌+◌, length};
 ghost use Rattle.base_io.specs.Devices.{growth};
-ghost use Rattle.base_io.specs.Writes.{Put, Wrote};
+ghost use Rattle.base_io.specs.Writes.{WroteBuffered, Wrote};
 ghost use Rattle.tree_plans.specs.TreePlans.{IsTreePlan};
 ghost use Rattle.printed_texts.specs.TreePlans.{node_audit, node_audits, tree_audits};
 ghost use Rattle.joined_texts.specs.Printed.{node_counts};
@@ -10,7 +10,7 @@ use crate::audit::put_row_count;
 use base_io::{Buffer, Failed, Sink};
 use printed_texts::put_node_bound;
 use tree_plans::{BushyPlan, Join};
-use tree_rows::BushyDone;
+use tree_rows::BushyResult;
 
 fn put_node<N: Sink>(
     k: u64,
@@ -19,7 +19,7 @@ fn put_node<N: Sink>(
     buffer: &mut Buffer,
     sink: &mut N,
 ) -> Result<(), Failed>
-    ensures { Put (growth N.taken N.faults sink.old sink.new) buffer.old buffer.new (node_audit k join rows) result }
+    ensures { WroteBuffered (growth N.taken N.faults sink.old sink.new) buffer.old buffer.new (node_audit k join rows) result }
 {
     put_node_bound(k, join, buffer, sink)?;
     put_row_count(rows, buffer, sink)
@@ -27,7 +27,7 @@ fn put_node<N: Sink>(
 
 // Writes a line for each inner node. The first inner node has the number `first`.
 fn put_nodes<N: Sink>(
-    done: &BushyDone,
+    done: &BushyResult,
     first: u8,
     joins: &[Join],
     buffer: &mut Buffer,
@@ -35,7 +35,7 @@ fn put_nodes<N: Sink>(
 ) -> Result<(), Failed>
     requires nodes { length done.now.nodes ≡ first + length joins.now }
     requires few { first + length joins.now ≤ 255 }
-    ensures { Put (growth N.taken N.faults sink.old sink.new) buffer.old buffer.new
+    ensures { WroteBuffered (growth N.taken N.faults sink.old sink.new) buffer.old buffer.new
         (node_audits first joins.now (node_counts first done.now.nodes)) result }
 {
     'nodes: for i in 0..joins.len() {
@@ -49,7 +49,7 @@ fn put_nodes<N: Sink>(
 /// number, the nodes that it joins, its bound, and the number of its rows. For one entry the text is empty. If the sink
 /// fails, this returns `Failed`, and the sink has a prefix of the text.
 pub fn write_tree_audit<N: Sink>(
-    done: &BushyDone,
+    done: &BushyResult,
     plan: &BushyPlan,
     sink: &mut N,
 ) -> Result<(), Failed>

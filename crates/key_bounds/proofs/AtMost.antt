@@ -4,8 +4,8 @@ use Rattle.std.proofs.Common.{◌≡◌, ℕ, ◌<◌, ◌≤◌, ◌^◌, Bool,
 use Rattle.std.specs.Prelude.{if◌then◌else◌}
 use Rattle.std.proofs.lemmas.Bool.{lt-ltb}
 use Rattle.limits.specs.Profile.{top_bound}
-use Rattle.degree_sequences.specs.Falling.{IsFalling}
-use Rattle.degree_sequences.specs.RunningSums.{IsAbove}
+use Rattle.degree_sequences.specs.Descending.{IsDescending}
+use Rattle.degree_sequences.specs.RunningSums.{HasHigherSums}
 use Rattle.berge_tree.specs.declared.edges.Edge.{Edge}
 use Rattle.entry_sets.proofs.Listing.{entry_below}
 use Rattle.schema_types.specs.declared.types.Schema.{Schema}
@@ -15,7 +15,7 @@ use Rattle.tree_bounds.specs.SetBounds.{bound_of_set}
 use Rattle.tree_bounds.specs.TreeBounds.{EntryBounds, HasList}
 use Rattle.bound_fold.proofs.TestedSets.{each_in_set}
 use Rattle.set_bounds.specs.AllSets.{in_every_set}
-use Rattle.set_bounds.proofs.Telling.{told_in}
+use Rattle.set_bounds.proofs.SetBySet.{told_in}
 use Rattle.sql_meaning.specs.Tables.{Tables}
 use Rattle.query_bounds.specs.Bounds.{entry_bounds, is_among, joined_columns, scan_list, scan_rows}
 use Rattle.gathered_stats.specs.Statistics.{statistics_of}
@@ -45,7 +45,7 @@ module _ (schema : Schema) (query : Query) (tables : Tables) (accuracy subset : 
 
   base_has : (entry column : ℕ) → entry < length query.from → is_among (joined_columns query) entry column ≡ true → HasList base entry column
   base_has entry column low among = record {
-    falls = subst IsFalling (sym (base_list entry column among)) (keyed_falls query tables accuracy entry [] column);
+    falls = subst IsDescending (sym (base_list entry column among)) (keyed_falls query tables accuracy entry [] column);
     total = ap (λ (s : List ℕ). sum s) (base_list entry column among) ∙ keyed_sum query tables accuracy entry [] column ∙ sym (base_rows entry low);
   }
 
@@ -59,9 +59,9 @@ module _ (schema : Schema) (query : Query) (tables : Tables) (accuracy subset : 
           base_rows entry low,
           least_at_most (carried_rows query tables) (scan_rows query (statistics_of tables accuracy) entry) (to entry),
         ));
-    columns = at_named schema query tables accuracy subset fits (λ entry column. IsAbove (base.list entry column) (keyed.list entry column)) (λ entry column low has among.
-        subst (λ (s : List ℕ). IsAbove s (keyed.list entry column)) (sym (base_list entry column among))
-        (subst (λ (s : List ℕ). IsAbove (scan_list query (statistics_of tables accuracy) entry column) s) (sym (list_is schema query tables accuracy subset entry column among))
+    columns = at_named schema query tables accuracy subset fits (λ entry column. HasHigherSums (base.list entry column) (keyed.list entry column)) (λ entry column low has among.
+        subst (λ (s : List ℕ). HasHigherSums s (keyed.list entry column)) (sym (base_list entry column among))
+        (subst (λ (s : List ℕ). HasHigherSums (scan_list query (statistics_of tables accuracy) entry column) s) (sym (list_is schema query tables accuracy subset entry column among))
         (least_below (λ e. carried_list query tables accuracy e column) (scan_list query (statistics_of tables accuracy) entry column) (to entry))));
   }
 

@@ -30,22 +30,22 @@ use Rattle.predicate_bounds.specs.declared.columns.EntryStats.{EntryStats}
 use Rattle.predicate_bounds.specs.declared.columns.QueryStats.{QueryStats}
 use Rattle.predicate_bounds.specs.declared.running.ListStep.{ListStep}
 use Rattle.predicate_bounds.specs.ListRuns.{after_list_steps, top_of}
-use Rattle.predicate_bounds.specs.Told.{asked_lists, columns_of, first_steps, list_left, list_in_stats, row_bound_in_stats}
+use Rattle.predicate_bounds.specs.StatsLists.{steps_with_lists, columns_of, first_steps, list_on_top, list_in_stats, row_bound_in_stats}
 use Rattle.predicate_bounds.proofs.Answering.{lists_answer}
 use Rattle.gathered_stats.specs.Asked.{joined_columns}
-use Rattle.gathered_stats.specs.Beside.{IsGatheredBeside}
-use Rattle.gathered_stats.specs.Seen.{AreRowNumbersOf}
+use Rattle.gathered_stats.specs.PairedRows.{IsGatheredForPaired}
+use Rattle.gathered_stats.specs.ShownCells.{AreRowNumbersOf}
 use Rattle.gathered_stats.proofs.Joined.{joined_exist, place_exists, place_joined}
 use Rattle.gathered_stats.proofs.Telling.{first_one, found_one}
 use Rattle.key_carriers.specs.Carriers.{both_ways, carriers, carries, exchanged}
 use Rattle.key_carriers.specs.Cells.{AreOfOneKind}
 use Rattle.key_carriers.specs.Widened.{referred, referring, tables_at}
 use Rattle.key_carriers.proofs.Referring.{as_many, few_referring, referred_low, referring_low}
-use Rattle.key_stats.specs.declared.carried.Carried.{Carried}
+use Rattle.key_stats.specs.declared.carried.CarriedBounds.{CarriedBounds}
 use Rattle.key_stats.specs.Carrying.{TellAlong, TellsCarried}
 use Rattle.key_stats.specs.Lists.{carried_list, carried_lists, carried_rows}
 use Rattle.key_stats.proofs.CarriedLists.{carried_sum}
-use Rattle.key_bounds.specs.Carrying.{AddUp, IsJoined}
+use Rattle.key_bounds.specs.Carrying.{AddUp, IsEqualityEitherWay}
 use Rattle.key_bounds.proofs.CellsBeside.{lists_beside}
 
 -- ---- an equality of the query, as it is or with its sides exchanged
@@ -85,7 +85,7 @@ edge_places (e ∷ es) f has = elim (one_in e es f has) [
 below : (x y : ℕ) → min x y ≤ y
 below x y = omega arith
 
-module _ (query : Query) (db : Database) (of : IsDatabaseOf query db) (e : Edge) (joined : IsJoined query e) where
+module _ (query : Query) (db : Database) (of : IsDatabaseOf query db) (e : Edge) (joined : IsEqualityEitherWay query e) where
   pub of_one_kind : AreOfOneKind db e
   of_one_kind = of_both (AreOfOneKind db) (equalities_of query) e (λ f has.
       let kinds : JoinsKinds db f = joins_kinds query db f of has in
@@ -111,7 +111,7 @@ module _ (query : Query) (db : Database) (of : IsDatabaseOf query db) (e : Edge)
   -- ---- statistics that were gathered for the rows of the widened table
 
   module _ (differ : HaveDifferentCharacters db.pool) (few_rows : row_counts (tables_of db) e.left.entry ≤ most_rows) (accuracy : ℕ) (gathered : EntryStats)
-      (is : IsGatheredBeside query db accuracy e.right.entry (referred (tables_of db) e) e.left.entry (referring (tables_of db) e) gathered) where
+      (is : IsGatheredForPaired query db accuracy e.right.entry (referred (tables_of db) e) e.left.entry (referring (tables_of db) e) gathered) where
     abbrev stats : QueryStats
     stats = record { entries = gathered ∷ [] }
 
@@ -122,7 +122,7 @@ module _ (query : Query) (db : Database) (of : IsDatabaseOf query db) (e : Edge)
     list_at column = carried_list query (tables_of db) accuracy e column
 
     abbrev IsCarried : ColumnSteps → Type 0
-    IsCarried g = g.steps ≡ asked_lists query e.right.entry (lists_at g.column)
+    IsCarried g = g.steps ≡ steps_with_lists query e.right.entry (lists_at g.column)
 
     abbrev numbers : List ℕ
     numbers = map (λ g. g.column) gathered.columns
@@ -141,15 +141,15 @@ module _ (query : Query) (db : Database) (of : IsDatabaseOf query db) (e : Edge)
         (lists_beside db of.tables differ e.right.entry e.left.entry of_one_kind.right.exists.entry of_one_kind.left.exists.entry (referred (tables_of db) e) (referring (tables_of db) e)
         rows_of_right rows_of_left (as_many (tables_of db) e) accuracy (get_or gathered.columns k d).column (column_exists k d low))
 
-    left_of : (steps : List ListStep) (column : ℕ) → steps ≡ asked_lists query e.right.entry (lists_at column) → top_of (after_list_steps steps []) ≡ list_at column
+    left_of : (steps : List ListStep) (column : ℕ) → steps ≡ steps_with_lists query e.right.entry (lists_at column) → top_of (after_list_steps steps []) ≡ list_at column
     left_of steps column are =
         ap (λ (s : List ListStep). top_of (after_list_steps s [])) are ∙ ap top_of (lists_answer (lists_at column) e.right.entry query.conjuncts)
 
     list_is : (column : ℕ) → Contains numbers column → list_in_stats stats 0 column ≡ list_at column
     list_is column has =
         let one = found_one IsCarried gathered.columns column has all_carried in
-        ap (λ (o : Option ColumnSteps). list_left (option_map (λ (g : ColumnSteps). g.steps) o)) one.1
-        ∙ left_of one.0.steps column (one.3 ∙ ap (λ (c : ℕ). asked_lists query e.right.entry (lists_at c)) one.2)
+        ap (λ (o : Option ColumnSteps). list_on_top (option_map (λ (g : ColumnSteps). g.steps) o)) one.1
+        ∙ left_of one.0.steps column (one.3 ∙ ap (λ (c : ℕ). steps_with_lists query e.right.entry (lists_at c)) one.2)
 
     some : 0 < length gathered.columns
     some = omega (arith, left_joined.1, ap (λ (s : List ℕ). length s) is.columns_are, length-map gathered.columns (λ (g : ColumnSteps). g.column))
@@ -164,9 +164,9 @@ module _ (query : Query) (db : Database) (of : IsDatabaseOf query db) (e : Edge)
     rows_is : row_bound_in_stats stats 0 ≡ carried_rows query (tables_of db) e
     rows_is =
         let first = first_one IsCarried gathered.columns some all_carried in
-        let list : list_left (first_steps stats 0) ≡ list_at first.0.column =
-        ap (λ (o : Option ColumnSteps). list_left (option_map (λ (g : ColumnSteps). g.steps) o)) first.1 ∙ left_of first.0.steps first.0.column first.3 in
-        let all : sum (list_left (first_steps stats 0)) ≡ carried_rows query (tables_of db) e = ap sum list ∙ carried_sum query (tables_of db) e accuracy first.0.column in
+        let list : list_on_top (first_steps stats 0) ≡ list_at first.0.column =
+        ap (λ (o : Option ColumnSteps). list_on_top (option_map (λ (g : ColumnSteps). g.steps) o)) first.1 ∙ left_of first.0.steps first.0.column first.3 in
+        let all : sum (list_on_top (first_steps stats 0)) ≡ carried_rows query (tables_of db) e = ap sum list ∙ carried_sum query (tables_of db) e accuracy first.0.column in
         omega (arith, all, few)
 
     pub add_up : AddUp stats
@@ -209,11 +209,11 @@ module _ (query : Query) (db : Database) (of : IsDatabaseOf query db) (e : Edge)
           (subst (λ (s : List EntryStats). All (λ g. list_of made e.left.entry g.column ≡ Some (list_in_stats (of_entries s) 0 g.column)) (columns_of (of_entries s) 0)) only lists)
 
 pub as_widened : (query : Query) (db : Database) (accuracy : ℕ) (e : Edge) (others rows : List ℕ) (gathered : EntryStats) → others ≡ referred (tables_of db) e → rows ≡ referring (tables_of db) e
-    → IsGatheredBeside query db accuracy e.right.entry others e.left.entry rows gathered
-    → IsGatheredBeside query db accuracy e.right.entry (referred (tables_of db) e) e.left.entry (referring (tables_of db) e) gathered
+    → IsGatheredForPaired query db accuracy e.right.entry others e.left.entry rows gathered
+    → IsGatheredForPaired query db accuracy e.right.entry (referred (tables_of db) e) e.left.entry (referring (tables_of db) e) gathered
 as_widened query db accuracy e others rows gathered is same made =
-    subst (λ (s : List ℕ). IsGatheredBeside query db accuracy e.right.entry s e.left.entry (referring (tables_of db) e) gathered) is
-    (subst (λ (s : List ℕ). IsGatheredBeside query db accuracy e.right.entry others e.left.entry s gathered) same made)
+    subst (λ (s : List ℕ). IsGatheredForPaired query db accuracy e.right.entry s e.left.entry (referring (tables_of db) e) gathered) is
+    (subst (λ (s : List ℕ). IsGatheredForPaired query db accuracy e.right.entry others e.left.entry s gathered) same made)
 
 -- ---- the equalities of a query
 
@@ -221,17 +221,17 @@ pub entries_named : (query : Query) (db : Database) → IsDatabaseOf query db �
 entries_named query db of =
     all_from (λ (p : Place). p.entry < length query.from) (places_of (equalities_of query)) (λ p has. omega (arith, (place_exists query db of p has).entry, of.entries))
 
-pub carriers_joined : (schema : Schema) (query : Query) (es read : List Edge) → es ≡ carriers schema query → read ≡ es → All (IsJoined query) read
+pub carriers_joined : (schema : Schema) (query : Query) (es read : List Edge) → es ≡ carriers schema query → read ≡ es → All (IsEqualityEitherWay query) read
 carriers_joined schema query es read are same =
-    subst (All (IsJoined query)) (sym (same ∙ are)) (λ k d low.
+    subst (All (IsEqualityEitherWay query)) (sym (same ∙ are)) (λ k d low.
     (from_filter (carries schema query) (both_ways (equalities_of query)) (get_or (carriers schema query) k d) (Contains-get_or (carriers schema query) k d low)).0)
 
 -- ---- the loop over the equalities
 
-pub told_more : (query : Query) (tables : Tables) (accuracy : ℕ) (es : List Edge) (i : ℕ) (d : Edge) (old new : List Carried) (one : Carried) → i < length es → one.edge ≡ get_or es i d
+pub told_more : (query : Query) (tables : Tables) (accuracy : ℕ) (es : List Edge) (i : ℕ) (d : Edge) (old new : List CarriedBounds) (one : CarriedBounds) → i < length es → one.edge ≡ get_or es i d
     → TellsCarried query tables accuracy one → TellAlong query tables accuracy (take i es) old → new ≡ old ++ one ∷ [] → TellAlong query tables accuracy (take (i + 1) es) new
 told_more query tables accuracy es i d old new one low at here before pushed = record {
-  edges = ap (map (λ (c : Carried). c.edge)) pushed ∙ map-append (λ (c : Carried). c.edge) old (one ∷ []) ∙ ap (λ (s : List Edge). s ++ one.edge ∷ []) before.edges
+  edges = ap (map (λ (c : CarriedBounds). c.edge)) pushed ∙ map-append (λ (c : CarriedBounds). c.edge) old (one ∷ []) ∙ ap (λ (s : List Edge). s ++ one.edge ∷ []) before.edges
       ∙ ap (λ (x : Edge). take i es ++ x ∷ []) at ∙ sym (take_more es i d low);
   tell = subst (All (TellsCarried query tables accuracy)) (sym pushed) (All-push (TellsCarried query tables accuracy) old one before.tell here);
 }

@@ -19,12 +19,12 @@ use Rattle.level_bounds.specs.Keys.{HaveDifferentCharacters, value_at}
 use Rattle.sql_meaning.specs.Databases.{AreTables}
 use Rattle.sql_meaning.specs.Tables.{Tables, cells_of, row_counts, tables_of}
 use Rattle.sql_meaning.proofs.ColumnFacts as columns
-use Rattle.table_stats.specs.Columns.{column_values, numbered}
+use Rattle.table_stats.specs.Columns.{column_values, as_first_rows}
 use Rattle.table_stats.specs.Statistics.{list_between, list_with, lists_over}
 use Rattle.table_stats.proofs.CellColumns.{same_equal, same_range, same_whole}
 use Rattle.table_stats.proofs.DatabaseColumns.{cells_are, column_is}
 use Rattle.gathered_stats.specs.Columns.{HaveLists, cells_in, kind_in}
-use Rattle.gathered_stats.specs.Seen.{AreRowNumbersOf, cells_at, picked}
+use Rattle.gathered_stats.specs.ShownCells.{AreRowNumbersOf, cells_at, picked}
 use Rattle.gathered_stats.proofs.Seeing.{picked_cells}
 use Rattle.key_carriers.specs.Widened.{tables_at, values_at}
 
@@ -115,7 +115,7 @@ module _ (db : Database) (are : AreTables db) (differ : HaveDifferentCharacters 
 
     pub lists_beside : HaveLists db.pool (cells_at rows (cells_of db entry)) accuracy joined (lists_over accuracy (column_values (tables_at (tables_of db) rows) entry) joined_values)
     lists_beside = record {
-      whole = same_whole db.pool differ joined_kind joined_kind joined joined are_joined are_joined accuracy ∙ ap (λ (s : List Value). compressed_degrees accuracy (numbered s)) joined_are;
+      whole = same_whole db.pool differ joined_kind joined_kind joined joined are_joined are_joined accuracy ∙ ap (λ (s : List Value). compressed_degrees accuracy (as_first_rows s)) joined_are;
       equal = λ filter value cell has stands.
           ap (λ (s : List ℕ). list_of_value accuracy (zip s joined) cell) (column_at entry there rows low filter has)
           ∙ same_equal db.pool differ (filter_kind filter has) joined_kind (filter_cells filter has) joined (cells_here entry there rows low filter has) are_joined accuracy value cell stands

@@ -14,7 +14,7 @@ use Rattle.bound_fold.specs.Lists.{list_of, rows_of}
 use Rattle.predicate_bounds.specs.declared.columns.ColumnSteps.{ColumnSteps}
 use Rattle.predicate_bounds.specs.declared.columns.EntryStats.{EntryStats}
 use Rattle.predicate_bounds.specs.declared.columns.QueryStats.{QueryStats}
-use Rattle.predicate_bounds.specs.Told.{column_steps, columns_of, first_steps, list_in_stats, no_columns, row_bound_in_stats}
+use Rattle.predicate_bounds.specs.StatsLists.{column_steps, columns_of, first_steps, list_in_stats, no_columns, row_bound_in_stats}
 use Rattle.gathered_stats.proofs.Telling.{first_one, found_one}
 use Rattle.key_bounds.specs.Carrying.{AddUp}
 use Rattle.key_bounds.proofs.Made.{is_some}

@@ -3,7 +3,7 @@ use Rattle.std.proofs.Common.{◌≡◌, ℕ, ◌<◌, ◌≤◌, Bool, true, fa
 use Rattle.std.specs.Prelude.{if◌then◌else◌, nat_lt}
 use Rattle.std.specs.List.{Contains, filter}
 use Rattle.std.proofs.lemmas.Bool.{and_parts, cases_Bool, eqb-true, false≢true}
-use Rattle.degree_sequences.specs.RunningSums.{IsAbove}
+use Rattle.degree_sequences.specs.RunningSums.{HasHigherSums}
 use Rattle.degree_sequences.specs.Saturation.{saturated}
 use Rattle.berge_tree.specs.declared.edges.Edge.{Edge}
 use Rattle.entry_sets.specs.Sets.{IsWithin, has_entry}
@@ -16,8 +16,8 @@ use Rattle.tree_bounds.specs.Columns.{EachNamedColumn}
 use Rattle.tree_bounds.specs.SetBounds.{SetHasLists, bound_of_set}
 use Rattle.tree_bounds.specs.TreeBounds.{EntryBounds, HasList}
 use Rattle.bound_fold.proofs.TestedSets.{each_in_set, each_named}
-use Rattle.set_bounds.specs.AllSets.{bound_told}
-use Rattle.set_bounds.specs.Parts.{AreUnjoined, FallsInto, LooksAtParts}
+use Rattle.set_bounds.specs.AllSets.{bound_in_128_bits}
+use Rattle.set_bounds.specs.Parts.{AreUnjoined, FallsInto, DependsOnPartsOnly}
 use Rattle.sql_meaning.specs.Tables.{Tables}
 use Rattle.level_bounds.proofs.Lists.{all_from, each_of, from_filter, in_filter}
 use Rattle.query_bounds.specs.Bounds.{is_among, joined_columns}
@@ -115,18 +115,18 @@ module _ (schema : Schema) (query : Query) (subset part : ℕ) (within : IsWithi
     part_above : SetIsAbove (keyed part) (keyed subset) (equalities_of query) part
     part_above = record {
       rows = each_in_set (λ entry. (keyed subset).rows entry ≤ (keyed part).rows entry) part (λ entry small has. omega (arith, same_rows entry has));
-      columns = at_part (λ entry column. IsAbove ((keyed part).list entry column) ((keyed subset).list entry column)) (λ entry column low has among.
-          subst (λ (s : List ℕ). IsAbove ((keyed part).list entry column) s) (same_list entry column has) (λ r. omega arith));
+      columns = at_part (λ entry column. HasHigherSums ((keyed part).list entry column) ((keyed subset).list entry column)) (λ entry column low has among.
+          subst (λ (s : List ℕ). HasHigherSums ((keyed part).list entry column) s) (same_list entry column has) (λ r. omega arith));
     }
 
     part_below : SetIsAbove (keyed subset) (keyed part) (equalities_of query) part
     part_below = record {
       rows = each_in_set (λ entry. (keyed part).rows entry ≤ (keyed subset).rows entry) part (λ entry small has. omega (arith, same_rows entry has));
-      columns = at_part (λ entry column. IsAbove ((keyed subset).list entry column) ((keyed part).list entry column)) (λ entry column low has among.
-          subst (λ (s : List ℕ). IsAbove s ((keyed part).list entry column)) (same_list entry column has) (λ r. omega arith));
+      columns = at_part (λ entry column. HasHigherSums ((keyed subset).list entry column) ((keyed part).list entry column)) (λ entry column low has among.
+          subst (λ (s : List ℕ). HasHigherSums s ((keyed part).list entry column)) (same_list entry column has) (λ r. omega arith));
     }
 
-    pub same_bound : bound_told (keyed part) (equalities_of query) part ≡ bound_told (keyed subset) (equalities_of query) part
+    pub same_bound : bound_in_128_bits (keyed part) (equalities_of query) part ≡ bound_in_128_bits (keyed subset) (equalities_of query) part
     same_bound =
         ap saturated (
         let most : bound_of_set (keyed subset) (equalities_of query) part ≤ bound_of_set (keyed part) (equalities_of query) part =
@@ -152,7 +152,7 @@ module _ (query : Query) (subset part rest : ℕ) (falls : FallsInto (equalities
       ∙ sym (falls.others e.right.entry))
 
 pub looks_at_parts : (schema : Schema) (query : Query) (tables : Tables) (accuracy : ℕ) → EachNamedColumn (λ entry column. entry < length query.from) (equalities_of query)
-    → LooksAtParts (bounds_by_keys schema query tables accuracy) (equalities_of query)
+    → DependsOnPartsOnly (bounds_by_keys schema query tables accuracy) (equalities_of query)
 looks_at_parts schema query tables accuracy named subset part rest falls = (
   same_bound schema query subset part falls.within falls.unjoined tables accuracy named,
   same_bound schema query subset rest (rest_within query subset part rest falls) (rest_unjoined query subset part rest falls) tables accuracy named,

@@ -18,17 +18,17 @@ use Rattle.tree_bounds.specs.TreeBounds.{EntryBounds}
 use Rattle.bound_fold.specs.declared.lists.EntryLists.{EntryLists}
 use Rattle.bound_fold.specs.Lists.{bounds_of, list_of, rows_of}
 use Rattle.set_bounds.specs.AllSets.{bounds_in_sets}
-use Rattle.set_bounds.specs.Parts.{LooksAtParts}
+use Rattle.set_bounds.specs.Parts.{DependsOnPartsOnly}
 use Rattle.sql_meaning.specs.Tables.{Tables}
 use Rattle.query_bounds.specs.Bounds.{HoldsKnown, entry_bounds, is_among, is_at, joined_columns, scan_list, scan_rows}
 use Rattle.query_bounds.proofs.Sets.{both_among, list_there, row_there}
 use Rattle.gathered_stats.specs.Statistics.{statistics_of}
-use Rattle.planning.specs.declared.known.Known.{Known}
+use Rattle.planning.specs.declared.known.QueryBounds.{QueryBounds}
 use Rattle.planning.specs.Bounds.{scan_bounds_of}
 use Rattle.planning.specs.HasBounds.{HasBounds}
-use Rattle.planning.proofs.Giving.{told_scans}
+use Rattle.planning.proofs.Giving.{scans_from_statistics}
 use Rattle.key_carriers.specs.Carriers.{carriers, carriers_to}
-use Rattle.key_stats.specs.declared.carried.Carried.{Carried}
+use Rattle.key_stats.specs.declared.carried.CarriedBounds.{CarriedBounds}
 use Rattle.key_stats.specs.Carrying.{TellAlong, TellsCarried}
 use Rattle.key_stats.specs.Lists.{carried_list, carried_rows}
 use Rattle.key_bounds.specs.declared.key_lists.KeyLists.{KeyLists}
@@ -47,8 +47,8 @@ each_among Q (p ∷ places) all entry column among = elim (or_cases (is_at entry
 
 -- ---- the carried bounds of an entry, in the order of its carriers
 
-module _ {Y : Type 0} (subset entry : ℕ) (f : Carried → Y) (g : Edge → Y) where
-  same_made : (carried : List Carried) → AllByRecursion (λ c. c.edge.left.entry ≡ entry → f c ≡ g c.edge) carried
+module _ {Y : Type 0} (subset entry : ℕ) (f : CarriedBounds → Y) (g : Edge → Y) where
+  same_made : (carried : List CarriedBounds) → AllByRecursion (λ c. c.edge.left.entry ≡ entry → f c ≡ g c.edge) carried
       → map f (carried_to carried subset entry) ≡ map g (carriers_to (map (λ c. c.edge) carried) subset entry)
   same_made [] same = refl
   same_made (c ∷ carried) same =
@@ -65,7 +65,7 @@ module _ {Y : Type 0} (subset entry : ℕ) (f : Carried → Y) (g : Edge → Y) 
 
 -- ---- the bounds in a set, from statistics and carried lists
 
-module _ (schema : Schema) (query : Query) (tables : Tables) (accuracy : ℕ) (carried : List Carried) (along : TellAlong query tables accuracy (carriers schema query) carried)
+module _ (schema : Schema) (query : Query) (tables : Tables) (accuracy : ℕ) (carried : List CarriedBounds) (along : TellAlong query tables accuracy (carriers schema query) carried)
     (own : EntryLists) (held : HoldsKnown query (statistics_of tables accuracy) (length query.from) (joined_columns query) own) (count : ℕ) (all : count ≡ length query.from) where
   abbrev keys : KeyLists
   keys = record { count = count; own = own; carried = carried }
@@ -73,7 +73,7 @@ module _ (schema : Schema) (query : Query) (tables : Tables) (accuracy : ℕ) (c
   tell_each : AllByRecursion (TellsCarried query tables accuracy) carried
   tell_each = recursion_from_All (TellsCarried query tables accuracy) carried along.tell
 
-  each_of_them : (Q : Carried → Type 0) → ((c : Carried) → TellsCarried query tables accuracy c → Q c) → (some : List Carried) → AllByRecursion (TellsCarried query tables accuracy) some → AllByRecursion Q some
+  each_of_them : (Q : CarriedBounds → Type 0) → ((c : CarriedBounds) → TellsCarried query tables accuracy c → Q c) → (some : List CarriedBounds) → AllByRecursion (TellsCarried query tables accuracy) some → AllByRecursion Q some
   each_of_them Q more [] tell = tt
   each_of_them Q more (c ∷ some) tell = (more c tell.0, each_of_them Q more some tell.1)
 
@@ -149,7 +149,7 @@ module _ (schema : Schema) (query : Query) (tables : Tables) (accuracy : ℕ) (c
         carried = All-from_recursion (CarriesLists (equalities_of query)) carried (each_of_them (CarriesLists (equalities_of query)) (λ c tell. carries c (places_of (equalities_of query)) tell.lists) carried tell_each);
       })
     where
-      carries : (c : Carried) (places : List Place)
+      carries : (c : CarriedBounds) (places : List Place)
           → AllByRecursion (λ p. p.entry ≡ c.edge.left.entry → list_of c.lists p.entry p.column ≡ Some (carried_list query tables accuracy c.edge p.column)) places
           → AllByRecursion (λ place. CarriesTo place c) places
       carries c [] lists = tt
@@ -158,12 +158,12 @@ module _ (schema : Schema) (query : Query) (tables : Tables) (accuracy : ℕ) (c
         carries c places lists.1,
       )
 
-  pub keys_look : (es : List Edge) → es ≡ equalities_of query → EachNamedColumn (λ entry column. entry < length query.from) (equalities_of query) → LooksAtParts (known_by_keys keys) es
+  pub keys_look : (es : List Edge) → es ≡ equalities_of query → EachNamedColumn (λ entry column. entry < length query.from) (equalities_of query) → DependsOnPartsOnly (known_by_keys keys) es
   keys_look es split named =
-      subst (λ (s : List Edge). LooksAtParts (known_by_keys keys) s) (sym split)
-      (subst (λ (b : ℕ → EntryBounds). LooksAtParts b (equalities_of query)) (sym known_is) (looks_at_parts schema query tables accuracy named))
+      subst (λ (s : List Edge). DependsOnPartsOnly (known_by_keys keys) s) (sym split)
+      (subst (λ (b : ℕ → EntryBounds). DependsOnPartsOnly b (equalities_of query)) (sym known_is) (looks_at_parts schema query tables accuracy named))
 
-  pub keys_give : (es : List Edge) (scans : List ℕ) (known : Known) → es ≡ equalities_of query → scans ≡ map (bounds_of own).rows (range_with_len 0 count) → length scans ≡ length query.from
+  pub keys_give : (es : List Edge) (scans : List ℕ) (known : QueryBounds) → es ≡ equalities_of query → scans ≡ map (bounds_of own).rows (range_with_len 0 count) → length scans ≡ length query.from
       → bounds_of own ≡ entry_bounds query (statistics_of tables accuracy)
       → known.sets ≡ bounds_in_sets (known_by_keys keys) es (length scans) → known.scans ≡ scans
       → HasBounds (set_bounds_by_keys schema query tables accuracy) (scan_bounds_of query tables accuracy) known
@@ -172,5 +172,5 @@ module _ (schema : Schema) (query : Query) (tables : Tables) (accuracy : ℕ) (c
         made ∙ ap (λ (b : ℕ → EntryBounds). bounds_in_sets b es (length scans)) known_is
         ∙ ap (λ (s : List Edge). bounds_in_sets (bounds_by_keys schema query tables accuracy) s (length scans)) split
         ∙ ap (bounds_in_sets (bounds_by_keys schema query tables accuracy) (equalities_of query)) long;
-    scans = kept ∙ are ∙ ap (λ (n : ℕ). map (bounds_of own).rows (range_with_len 0 n)) all ∙ told_scans query (statistics_of tables accuracy) own told;
+    scans = kept ∙ are ∙ ap (λ (n : ℕ). map (bounds_of own).rows (range_with_len 0 n)) all ∙ scans_from_statistics query (statistics_of tables accuracy) own told;
   }

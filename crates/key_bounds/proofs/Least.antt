@@ -2,9 +2,9 @@
 use Rattle.std.proofs.Common.{◌≡◌, ℕ, ◌≤◌, min, List, [], ◌∷◌, length, map, sum, refl, ap, ◌∙◌, arith}
 use Rattle.std.specs.List.{AllByRecursion}
 use Rattle.degree_sequences.specs.Domination.{DominatesKeys}
-use Rattle.degree_sequences.specs.Falling.{IsFalling}
-use Rattle.degree_sequences.specs.RunningSums.{IsAbove, lesser}
-use Rattle.degree_sequences.proofs.Minima.{IsFalling-lesser, running_sum-lesser}
+use Rattle.degree_sequences.specs.Descending.{IsDescending}
+use Rattle.degree_sequences.specs.RunningSums.{HasHigherSums, lesser}
+use Rattle.degree_sequences.proofs.Minima.{IsDescending-lesser, running_sum-lesser}
 use Rattle.filtered_lists.proofs.Lists.{sum-lesser}
 use Rattle.berge_tree.specs.declared.edges.Edge.{Edge}
 use Rattle.key_bounds.specs.Bounds.{least_list, least_rows}
@@ -18,9 +18,9 @@ module _ (made : Edge → List ℕ) where
   least_dominates keys list [] first each = first
   least_dominates keys list (e ∷ es) first each = least_dominates keys (lesser list (made e)) es (both_dominate list (made e) keys first each.0) each.1
 
-  pub least_falls : (list : List ℕ) (es : List Edge) → IsFalling list → ((e : Edge) → IsFalling (made e)) → IsFalling (least_list list (map made es))
+  pub least_falls : (list : List ℕ) (es : List Edge) → IsDescending list → ((e : Edge) → IsDescending (made e)) → IsDescending (least_list list (map made es))
   least_falls list [] first each = first
-  least_falls list (e ∷ es) first each = least_falls (lesser list (made e)) es (IsFalling-lesser list (made e) first (each e)) each
+  least_falls list (e ∷ es) first each = least_falls (lesser list (made e)) es (IsDescending-lesser list (made e) first (each e)) each
 
   pub least_sum : (rows : Edge → ℕ) (list : List ℕ) (es : List Edge) → ((e : Edge) → sum (made e) ≡ rows e)
       → sum (least_list list (map made es)) ≡ least_rows (sum list) (map rows es)
@@ -28,7 +28,7 @@ module _ (made : Edge → List ℕ) where
   least_sum rows list (e ∷ es) each =
       least_sum rows (lesser list (made e)) es each ∙ ap (λ (n : ℕ). least_rows n (map rows es)) (sum-lesser list (made e) ∙ ap (min (sum list)) (each e))
 
-  pub least_below : (list : List ℕ) (es : List Edge) → IsAbove list (least_list list (map made es))
+  pub least_below : (list : List ℕ) (es : List Edge) → HasHigherSums list (least_list list (map made es))
   least_below list [] r = omega arith
   least_below list (e ∷ es) r = omega (arith, least_below (lesser list (made e)) es r, running_sum-lesser list (made e) r)
 

@@ -4,7 +4,7 @@ use Rattle.std.proofs.Common.{◌≡◌, ℕ, zero, suc, ◌+◌, ◌*◌, ◌^�
 use Rattle.std.specs.List.{AllByRecursion}
 use Rattle.std.proofs.Math.Nat.{mul-le-mul_left, pow-succ', pow-zero}
 use Rattle.std.proofs.lemmas.Bool.{cases_lt}
-use Rattle.degree_sequences.specs.RunningSums.{IsAbove, running_sum}
+use Rattle.degree_sequences.specs.RunningSums.{HasHigherSums, running_sum}
 use Rattle.berge_tree.specs.declared.edges.Edge.{Edge}
 use Rattle.berge_tree.specs.declared.edges.Place.{Place}
 use Rattle.berge_tree.specs.Equalities.{places_of}
@@ -75,7 +75,7 @@ scaled accuracy m n most = omega (arith, mul-le-mul_left accuracy most)
 
 pub record SetIsAbove (upper lower : EntryBounds) (es : List Edge) (subset : ℕ) : Type 0 where
   pub rows : AllByRecursion (λ entry. lower.rows entry ≤ upper.rows entry) (entries_of_set subset)
-  pub columns : EachNamedColumn (λ entry column. IsAbove (upper.list entry column) (lower.list entry column)) (equalities_within subset es)
+  pub columns : EachNamedColumn (λ entry column. HasHigherSums (upper.list entry column) (lower.list entry column)) (equalities_within subset es)
 
 pub set_at_most : (upper lower : EntryBounds) (es : List Edge) (subset : ℕ) → SetHasLists lower es subset → SetHasLists upper es subset → SetIsAbove upper lower es subset
     → bound_of_set lower es subset ≤ bound_of_set upper es subset
@@ -85,7 +85,7 @@ set_at_most upper lower es subset have have_too above =
     near : (accuracy : ℕ) → SetIsNear accuracy lower upper es subset
     near accuracy = record {
       rows = weaker (λ entry. lower.rows entry ≤ upper.rows entry) (RowsAreNear accuracy lower upper) (λ entry most. scaled accuracy (lower.rows entry) (upper.rows entry) most) (entries_of_set subset) above.rows;
-      columns = weaker_places (λ entry column. IsAbove (upper.list entry column) (lower.list entry column)) (ListIsNear accuracy lower upper)
+      columns = weaker_places (λ entry column. HasHigherSums (upper.list entry column) (lower.list entry column)) (ListIsNear accuracy lower upper)
           (λ entry column is r. scaled accuracy (running_sum (lower.list entry column) r) (running_sum (upper.list entry column) r) (is r))
           (places_of (equalities_within subset es)) above.columns;
     }

@@ -10,15 +10,15 @@ use Rattle.join_graph.specs.Kept.{joins_within}
 use Rattle.tree_bounds.specs.TreeBounds.{EntryBounds}
 use Rattle.bound_fold.specs.declared.lists.EntryLists.{EntryLists}
 use Rattle.bound_fold.specs.Lists.{bounds_of, list_of, rows_of}
-use Rattle.bound_fold.specs.Sets.{HaveLists, SetIsListed}
+use Rattle.bound_fold.specs.Sets.{HaveLists, SetHasBounds}
 use Rattle.bound_fold.proofs.TestedSets.{each_in_set, each_named}
 use Rattle.entry_sets.proofs.Listing.{entry_below}
 use Rattle.filtered_lists.proofs.Lists.{sum-lesser}
-use Rattle.set_bounds.specs.AllSets.{bound_told, bounds_of_sets}
-use Rattle.set_bounds.proofs.Telling.{told_at}
+use Rattle.set_bounds.specs.AllSets.{bound_in_128_bits, bounds_of_sets}
+use Rattle.set_bounds.proofs.SetBySet.{told_at}
 use Rattle.query_bounds.proofs.Holding.{pair_at}
 use Rattle.planning.proofs.SameBounds.{sets_same}
-use Rattle.key_stats.specs.declared.carried.Carried.{Carried}
+use Rattle.key_stats.specs.declared.carried.CarriedBounds.{CarriedBounds}
 use Rattle.key_bounds.specs.declared.key_lists.KeyLists.{KeyLists}
 use Rattle.key_bounds.specs.Bounds.{least_list, least_rows}
 use Rattle.key_bounds.specs.InSets.{CarriesLists, CarriesTo, IsPartOf, carried_to, fewer_by, is_carried, known_by_keys, list_carried, list_within, narrowed_by, rows_carried, rows_within}
@@ -33,17 +33,17 @@ is_some o x is = subst (λ o. IsSome o) (sym is) refl
 -- ---- the loop over the carried bounds
 
 module _ (subset entry : ℕ) where
-  next_carried : (c : Carried) (carried : List Carried)
+  next_carried : (c : CarriedBounds) (carried : List CarriedBounds)
       → carried_to (c ∷ carried) subset entry ≡ cond (is_carried subset entry c) (c ∷ carried_to carried subset entry) (carried_to carried subset entry)
   next_carried c carried = by (joins_within subset c.edge)
     where
-      by : (b : Bool) → filter (λ (c : Carried). eqb c.edge.left.entry entry) (cond b (c ∷ filter (λ (c : Carried). joins_within subset c.edge) carried) (filter (λ (c : Carried). joins_within subset c.edge) carried))
+      by : (b : Bool) → filter (λ (c : CarriedBounds). eqb c.edge.left.entry entry) (cond b (c ∷ filter (λ (c : CarriedBounds). joins_within subset c.edge) carried) (filter (λ (c : CarriedBounds). joins_within subset c.edge) carried))
           ≡ cond (b && eqb c.edge.left.entry entry) (c ∷ carried_to carried subset entry) (carried_to carried subset entry)
       by true = refl
       by false = refl
 
-  next_rows : (c : Carried) (carried : List Carried) (rows : ℕ) → rows_within (c ∷ carried) subset entry rows ≡ rows_within carried subset entry (fewer_by subset entry c rows)
-  next_rows c carried rows = ap (λ (s : List Carried). least_rows rows (map (rows_carried entry) s)) (next_carried c carried) ∙ by (is_carried subset entry c)
+  next_rows : (c : CarriedBounds) (carried : List CarriedBounds) (rows : ℕ) → rows_within (c ∷ carried) subset entry rows ≡ rows_within carried subset entry (fewer_by subset entry c rows)
+  next_rows c carried rows = ap (λ (s : List CarriedBounds). least_rows rows (map (rows_carried entry) s)) (next_carried c carried) ∙ by (is_carried subset entry c)
     where
       by : (b : Bool) → least_rows rows (map (rows_carried entry) (cond b (c ∷ carried_to carried subset entry) (carried_to carried subset entry)))
           ≡ rows_within carried subset entry (cond b (min rows (rows_carried entry c)) rows)
@@ -51,21 +51,21 @@ module _ (subset entry : ℕ) where
       by false = refl
 
   module _ (column : ℕ) where
-    next_list : (c : Carried) (carried : List Carried) (list : List ℕ)
+    next_list : (c : CarriedBounds) (carried : List CarriedBounds) (list : List ℕ)
         → list_within (c ∷ carried) subset entry column list ≡ list_within carried subset entry column (narrowed_by subset entry column c list)
-    next_list c carried list = ap (λ (s : List Carried). least_list list (map (list_carried entry column) s)) (next_carried c carried) ∙ by (is_carried subset entry c)
+    next_list c carried list = ap (λ (s : List CarriedBounds). least_list list (map (list_carried entry column) s)) (next_carried c carried) ∙ by (is_carried subset entry c)
       where
         by : (b : Bool) → least_list list (map (list_carried entry column) (cond b (c ∷ carried_to carried subset entry) (carried_to carried subset entry)))
             ≡ list_within carried subset entry column (cond b (lesser list (list_carried entry column c)) list)
         by true = refl
         by false = refl
 
-    carried_sum : (c : Carried) → IsSome (list_of c.lists entry column) → sum (list_carried entry column c) ≡ rows_carried entry c
+    carried_sum : (c : CarriedBounds) → IsSome (list_of c.lists entry column) → sum (list_carried entry column c) ≡ rows_carried entry c
     carried_sum c there =
         let found = some_there (list_of c.lists entry column) there in
         ap (λ (o : Option (List ℕ)). sum (unwrap_or o [])) found.1 ∙ sym (ap (λ (o : Option ℕ). unwrap_or o 0) (c.lists.sums entry column found.0 found.1).1)
 
-    narrowed_sum : (c : Carried) (list : List ℕ) → (c.edge.left.entry ≡ entry → IsSome (list_of c.lists entry column))
+    narrowed_sum : (c : CarriedBounds) (list : List ℕ) → (c.edge.left.entry ≡ entry → IsSome (list_of c.lists entry column))
         → sum (narrowed_by subset entry column c list) ≡ fewer_by subset entry c (sum list)
     narrowed_sum c list carries = elim (cases_Bool (is_carried subset entry c)) [
       | inl counts ↦ (let here : c.edge.left.entry ≡ entry = eqb-true c.edge.left.entry entry (and_parts (joins_within subset c.edge) (eqb c.edge.left.entry entry) counts).1 in
@@ -76,7 +76,7 @@ module _ (subset entry : ℕ) where
           ∙ sym (ap (λ (b : Bool). cond b (min (sum list) (rows_carried entry c)) (sum list)) passed)
     ]
 
-    within_sum : (carried : List Carried) (list : List ℕ) → AllByRecursion (λ c. c.edge.left.entry ≡ entry → IsSome (list_of c.lists entry column)) carried
+    within_sum : (carried : List CarriedBounds) (list : List ℕ) → AllByRecursion (λ c. c.edge.left.entry ≡ entry → IsSome (list_of c.lists entry column)) carried
         → sum (list_within carried subset entry column list) ≡ rows_within carried subset entry (sum list)
     within_sum [] list carry = refl
     within_sum (c ∷ carried) list carry =
@@ -145,7 +145,7 @@ module _ (bounds : EntryBounds) where
         let found = some_there (list_of made entry column) there in
         ap (λ (o : Option (List ℕ)). unwrap_or o []) found.1 ∙ part.columns entry column found.0 found.1
 
-    pub told_same : bound_told (bounds_of made) es subset ≡ bound_told bounds es subset
+    pub told_same : bound_in_128_bits (bounds_of made) es subset ≡ bound_in_128_bits bounds es subset
     told_same =
         let same : bounds_of_sets (bounds_of made) es count ≡ bounds_of_sets bounds es count =
         sets_same (bounds_of made) bounds rows_same es (λ k d low. (
@@ -155,7 +155,7 @@ module _ (bounds : EntryBounds) where
         sym (told_at (bounds_of made) es count subset (bounds_of_sets (bounds_of made) es count) refl fits)
         ∙ told_at bounds es count subset (bounds_of_sets (bounds_of made) es count) same fits
 
-    pub set_listed : SetIsListed made es subset
+    pub set_listed : SetHasBounds made es subset
     set_listed = record {
       rows = each_in_set (λ k. IsSome (rows_of made k)) subset (λ k low has. is_some (rows_of made k) (bounds.rows k) (part.rows k (entry_below count subset k fits has)));
       columns = each_named (λ entry column. IsSome (list_of made entry column)) subset es (λ k d low joins. have k d low);
@@ -196,7 +196,7 @@ small_there lists entry column list is = lists.bounds entry (sum list) (lists.su
 pub lesser_small : (own other made : List ℕ) → made ≡ lesser own other → sum own < 2 ^ 64 → sum made < 2 ^ 64
 lesser_small own other made is small = omega (arith, ap (λ (s : List ℕ). sum s) is, sum-lesser own other, small)
 
-pub carried_at : (es : List Edge) (carried : List Carried) → All (CarriesLists es) carried → (i : ℕ) (d : Edge) → i < length es
+pub carried_at : (es : List Edge) (carried : List CarriedBounds) → All (CarriesLists es) carried → (i : ℕ) (d : Edge) → i < length es
     → All (CarriesTo (get_or es i d).left) carried × All (CarriesTo (get_or es i d).right) carried
 carried_at es carried all i d low = (
   (λ k c h. (pair_at (λ entry column. (get_or carried k c).edge.left.entry ≡ entry → IsSome (list_of (get_or carried k c).lists entry column)) es (all k c h) i d low).0),

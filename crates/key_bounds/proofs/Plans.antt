@@ -10,7 +10,7 @@ use Rattle.join_steps.specs.Plans.{IsPlanOf}
 use Rattle.planning.specs.Bounds.{scan_bounds_of}
 use Rattle.planning.specs.Standing.{BoundLevels}
 use Rattle.planning.proofs.FromLists.{levels_bound, plan_over_lists}
-use Rattle.planning.proofs.NeverUnder.{told_bound}
+use Rattle.planning.proofs.NeverUnder.{scans_are_bounded}
 use Rattle.key_carriers.specs.DeclaredKeys.{DeclaredKeysHold}
 use Rattle.key_bounds.specs.Bounds.{bounds_by_keys, set_bounds_by_keys}
 use Rattle.key_bounds.specs.Plans.{planned_by_keys}
@@ -27,4 +27,4 @@ module _ (schema : Schema) (query : Query) (tables : Tables) (accuracy : ℕ) (h
   unfolding planned_by_keys
   plan_by_keys budget plan few small made =
       plan_over_lists query tables (scans_of query tables) (set_bounds_by_keys schema query tables accuracy) (scan_bounds_of query tables accuracy) levels_by_keys
-      (told_bound query tables accuracy) budget plan few small made
+      (scans_are_bounded query tables accuracy) budget plan few small made

@@ -6,7 +6,7 @@ use Rattle.std.proofs.lemmas.Bool.{and_parts, cases_Bool, eqb-true, lt-ltb}
 use Rattle.std.proofs.lemmas.List.{length-map}
 use Rattle.berge_tree.specs.declared.edges.Edge.{Edge}
 use Rattle.degree_sequences.specs.Domination.{DominatesKeys}
-use Rattle.degree_sequences.specs.Falling.{IsFalling}
+use Rattle.degree_sequences.specs.Descending.{IsDescending}
 use Rattle.entry_sets.specs.Sets.{has_entry}
 use Rattle.entry_sets.proofs.Listing.{entry_below}
 use Rattle.schema_types.specs.declared.types.Schema.{Schema}
@@ -27,11 +27,11 @@ use Rattle.level_bounds.proofs.Lists.{all_from, all_true, from_filter}
 use Rattle.filtered_lists.proofs.Counting.{count_is_enough, list_dominates}
 use Rattle.filtered_lists.proofs.Lists.{filtered_falls, sum-filtered}
 use Rattle.join_steps.specs.Lists.{list_at, scans_of}
-use Rattle.table_stats.specs.Keys.{TellsValues}
+use Rattle.table_stats.specs.Keys.{SeparatesValues}
 use Rattle.table_stats.specs.Statistics.{column_lists, entry_counts}
 use Rattle.table_stats.proofs.Dominating.{lists_stand}
 use Rattle.table_stats.proofs.FewerRows.{PassesBoth, fewer_dominated}
-use Rattle.table_stats.proofs.Summing.{counts_stand, lists_fall, lists_sum}
+use Rattle.table_stats.proofs.Summing.{counts_stand, lists_descend, lists_sum}
 use Rattle.table_stats.proofs.ValueNumbers.{have_keys}
 use Rattle.query_bounds.specs.Bounds.{is_among, joined_columns, scan_list, scan_rows}
 use Rattle.query_bounds.proofs.Sets.{both_among}
@@ -44,7 +44,7 @@ use Rattle.key_stats.specs.Lists.{carried_list, carried_rows}
 use Rattle.key_stats.proofs.CarriedLists.{carried_dominates, carried_falls, carried_fits, carried_sum}
 use Rattle.key_bounds.specs.Bounds.{bounds_by_keys, least_rows, list_by_keys, rows_by_keys}
 use Rattle.key_bounds.proofs.Least.{least_dominates, least_falls, least_fits, least_sum}
-use Rattle.key_bounds.proofs.Taking.{none_lost, of_scans, refers_to_all, taken_at, takes, taking, taking_at}
+use Rattle.key_bounds.proofs.Taking.{none_lost, of_scans, refers_to_all, taken_at, may_take_part, taking, taking_at}
 
 fewer_left : (p q : ℕ → Bool) → ((row : ℕ) → p row ≡ true → q row ≡ true) → (rows : List ℕ) → length (filter p rows) ≤ length (filter q rows)
 fewer_left p q more [] = omega arith
@@ -69,10 +69,10 @@ module _ (query : Query) (tables : Tables) (accuracy entry : ℕ) (es : List Edg
   base_sum column =
       sum-filtered (column_lists tables accuracy entry column) (entry_counts tables entry) entry query.conjuncts (lists_sum tables accuracy entry column)
 
-  base_falls : (column : ℕ) → IsFalling (scan_list query (statistics_of tables accuracy) entry column)
-  base_falls column = filtered_falls (column_lists tables accuracy entry column) entry query.conjuncts (lists_fall tables accuracy entry column)
+  base_falls : (column : ℕ) → IsDescending (scan_list query (statistics_of tables accuracy) entry column)
+  base_falls column = filtered_falls (column_lists tables accuracy entry column) entry query.conjuncts (lists_descend tables accuracy entry column)
 
-  pub keyed_falls : (column : ℕ) → IsFalling (list_by_keys query tables accuracy entry column es)
+  pub keyed_falls : (column : ℕ) → IsDescending (list_by_keys query tables accuracy entry column es)
   keyed_falls column =
       least_falls (λ e. carried_list query tables accuracy e column) (scan_list query (statistics_of tables accuracy) entry column) es (base_falls column)
       (λ e. carried_falls query tables e accuracy column)
@@ -100,7 +100,7 @@ module _ (schema : Schema) (query : Query) (tables : Tables) (accuracy subset : 
 
   pub has_list : (entry column : ℕ) → entry < length query.from → is_among (joined_columns query) entry column ≡ true → HasList bounds entry column
   has_list entry column low among = record {
-    falls = subst IsFalling (sym (list_is entry column among)) (keyed_falls query tables accuracy entry (to entry) column);
+    falls = subst IsDescending (sym (list_is entry column among)) (keyed_falls query tables accuracy entry (to entry) column);
     total = ap (λ (s : List ℕ). sum s) (list_is entry column among) ∙ keyed_sum query tables accuracy entry (to entry) column ∙ sym (rows_are entry low);
   }
 
@@ -125,14 +125,14 @@ module _ (schema : Schema) (query : Query) (tables : Tables) (accuracy subset : 
 
     -- ---- the rows that may take part
 
-    abbrev taken : ℕ → ℕ → Bool
-    taken entry = takes schema query tables subset fits entry
+    abbrev takes_part : ℕ → ℕ → Bool
+    takes_part entry = may_take_part schema query tables subset fits entry
 
-    own_passes : (entry row : ℕ) → taken entry row ≡ true → passes_own (conjuncts_of query tables) entry row ≡ true
+    own_passes : (entry row : ℕ) → takes_part entry row ≡ true → passes_own (conjuncts_of query tables) entry row ≡ true
     own_passes entry row passes =
         (and_parts (passes_own (conjuncts_of query tables) entry row) (refers_to_all schema query tables subset fits entry row) passes).0
 
-    it_refers : (e : Edge) (entry row : ℕ) → Contains (to entry) e → taken entry row ≡ true → refers_to_scanned query tables e row ≡ true
+    it_refers : (e : Edge) (entry row : ℕ) → Contains (to entry) e → takes_part entry row ≡ true → refers_to_scanned query tables e row ≡ true
     it_refers e entry row there passes =
         all_true (λ e. refers_to_scanned query tables e row) (to entry)
         (and_parts (passes_own (conjuncts_of query tables) entry row) (refers_to_all schema query tables subset fits entry row) passes).1 e there
@@ -146,7 +146,7 @@ module _ (schema : Schema) (query : Query) (tables : Tables) (accuracy subset : 
         subst (λ (n : ℕ). Contains (to n) e → length (taking_at schema query tables subset fits n) ≤ carried_rows query tables e) (its_left e entry there)
         (λ here. omega (
           arith,
-          fewer_left (taken e.left.entry) (refers_to_scanned query tables e) (λ row passes. it_refers e e.left.entry row here passes) (range_with_len 0 (row_counts tables e.left.entry)),
+          fewer_left (takes_part e.left.entry) (refers_to_scanned query tables e) (λ row passes. it_refers e e.left.entry row here passes) (range_with_len 0 (row_counts tables e.left.entry)),
           carried_fits query tables e,
         )) there
 
@@ -155,19 +155,19 @@ module _ (schema : Schema) (query : Query) (tables : Tables) (accuracy subset : 
         least_fits (carried_rows query tables) (length (taking_at schema query tables subset fits entry)) (scan_rows query (statistics_of tables accuracy) entry) (to entry)
         (omega (
           arith,
-          fewer_left (taken entry) (passes_own (conjuncts_of query tables) entry) (own_passes entry) (range_with_len 0 (row_counts tables entry)),
+          fewer_left (takes_part entry) (passes_own (conjuncts_of query tables) entry) (own_passes entry) (range_with_len 0 (row_counts tables entry)),
           count_is_enough (entry_counts tables entry) tables entry query.conjuncts (counts_stand tables entry),
         ))
         (all_from (λ e. length (taking_at schema query tables subset fits entry) ≤ carried_rows query tables e) (to entry) (λ e there. carried_rows_fit e entry there))
 
-    module _ (key : Keys) (tells : (entry column : ℕ) → TellsValues tables entry column (key entry column)) where
+    module _ (key : Keys) (tells : (entry column : ℕ) → SeparatesValues tables entry column (key entry column)) where
       carried_keys : (e : Edge) (entry column : ℕ) → Contains (to entry) e
           → DominatesKeys (carried_list query tables accuracy e column) (map (key entry column) (taking_at schema query tables subset fits entry))
       carried_keys e entry column there =
           subst (λ (n : ℕ). Contains (to n) e → DominatesKeys (carried_list query tables accuracy e column) (map (key n column) (taking_at schema query tables subset fits n))) (its_left e entry there)
           (λ here. let rows : List ℕ = range_with_len 0 (row_counts tables e.left.entry) in
-          fewer_dominated (key e.left.entry column) (taken e.left.entry) (refers_to_scanned query tables e) (carried_list query tables accuracy e column) rows
-          (all_rows_pass (taken e.left.entry) (refers_to_scanned query tables e) (λ row passes. it_refers e e.left.entry row here passes) (key e.left.entry column) rows)
+          fewer_dominated (key e.left.entry column) (takes_part e.left.entry) (refers_to_scanned query tables e) (carried_list query tables accuracy e column) rows
+          (all_rows_pass (takes_part e.left.entry) (refers_to_scanned query tables e) (λ row passes. it_refers e e.left.entry row here passes) (key e.left.entry column) rows)
           (carried_dominates query tables e accuracy column (key e.left.entry column) (tells e.left.entry column))) there
 
       keys_dominated : (entry column : ℕ) → DominatesKeys (list_by_keys query tables accuracy entry column (to entry)) (map (key entry column) (taking_at schema query tables subset fits entry))
@@ -175,8 +175,8 @@ module _ (schema : Schema) (query : Query) (tables : Tables) (accuracy subset : 
           let rows : List ℕ = range_with_len 0 (row_counts tables entry) in
           least_dominates (λ e. carried_list query tables accuracy e column) (map (key entry column) (taking_at schema query tables subset fits entry))
           (scan_list query (statistics_of tables accuracy) entry column) (to entry)
-          (fewer_dominated (key entry column) (taken entry) (passes_own (conjuncts_of query tables) entry) (scan_list query (statistics_of tables accuracy) entry column) rows
-          (all_rows_pass (taken entry) (passes_own (conjuncts_of query tables) entry) (own_passes entry) (key entry column) rows)
+          (fewer_dominated (key entry column) (takes_part entry) (passes_own (conjuncts_of query tables) entry) (scan_list query (statistics_of tables accuracy) entry column) rows
+          (all_rows_pass (takes_part entry) (passes_own (conjuncts_of query tables) entry) (own_passes entry) (key entry column) rows)
           (list_dominates (column_lists tables accuracy entry column) tables entry (key entry column) query.conjuncts (lists_stand tables accuracy entry column (key entry column) (tells entry column))))
           (all_from (λ e. DominatesKeys (carried_list query tables accuracy e column) (map (key entry column) (taking_at schema query tables subset fits entry))) (to entry)
           (λ e there. carried_keys e entry column there))

@@ -23,15 +23,15 @@ use Rattle.sql_meaning.specs.Choices.{all_rows, choices}
 use Rattle.sql_meaning.specs.Conditions.{cond_holds}
 use Rattle.sql_meaning.specs.Levels.{Conjunct, all_hold, all_pass, level_of, level_over, names_only, passes_own, row_in, scan}
 use Rattle.sql_meaning.specs.Tables.{Tables, row_counts}
-use Rattle.sql_meaning.proofs.AskFacts.{asks_only}
+use Rattle.sql_meaning.proofs.AskFacts.{depend_on_named}
 use Rattle.sql_meaning.proofs.LevelsOver.{over_restricted}
 use Rattle.level_bounds.specs.Keys.{Keys, are_equal_at, value_at}
 use Rattle.level_bounds.specs.Orders.{IsOrderOfSet}
-use Rattle.level_bounds.specs.Scans.{query_level}
+use Rattle.level_bounds.specs.Scans.{level_over_entries}
 use Rattle.level_bounds.proofs.Choosing.{entry_in, entry_of}
-use Rattle.level_bounds.proofs.EqualityFacts.{equality_holds, equality_names, equality_stands}
+use Rattle.level_bounds.proofs.EqualityFacts.{equality_holds, equality_names, equality_is_conjunct}
 use Rattle.level_bounds.proofs.Lists.{all_from, all_true, each_of, from_filter, in_filter, in_map, in_true, is_in, map_alike, range_within, true_for_all}
-use Rattle.level_bounds.proofs.Reordering.{back, stands}
+use Rattle.level_bounds.proofs.Reordering.{back, is_level_choice}
 use Rattle.level_bounds.proofs.Scanning.{implied, level_satisfies}
 use Rattle.join_steps.specs.Lists.{list_at, scans_of, AreOfScans, IsAscending}
 use Rattle.join_steps.proofs.WholeScans.{count_of, filter_ascends, levels_of_scans, range_ascends, scan_at}
@@ -121,11 +121,11 @@ module _ (schema : Schema) (query : Query) (tables : Tables) (subset : ℕ) (fit
   abbrev pub refers_to_all : ℕ → ℕ → Bool
   refers_to_all entry row = list_all (λ e. refers_to_scanned query tables e row) (carriers_to (carriers schema query) subset entry)
 
-  abbrev pub takes : ℕ → ℕ → Bool
-  takes entry row = passes_own conjuncts entry row && refers_to_all entry row
+  abbrev pub may_take_part : ℕ → ℕ → Bool
+  may_take_part entry row = passes_own conjuncts entry row && refers_to_all entry row
 
   abbrev pub taking_at : ℕ → List ℕ
-  taking_at entry = filter (takes entry) (all_rows rows entry)
+  taking_at entry = filter (may_take_part entry) (all_rows rows entry)
 
   abbrev pub taking : List (List ℕ)
   taking = map taking_at (entries_of query)
@@ -140,13 +140,13 @@ module _ (schema : Schema) (query : Query) (tables : Tables) (subset : ℕ) (fit
   of_scans = record {
     count = length-map-range_with_len taking_at 0 (length query.from) ∙ sym (count_of query tables);
     scanned = λ entry row has. elim (cases_lt entry (length query.from)) [
-      | inl low ↦ (let parts = from_filter (takes entry) (all_rows rows entry) row (subst (λ (s : List ℕ). Contains s row) (taken_at entry low) has) in
+      | inl low ↦ (let parts = from_filter (may_take_part entry) (all_rows rows entry) row (subst (λ (s : List ℕ). Contains s row) (taken_at entry low) has) in
           subst (λ (s : List ℕ). Contains s row) (sym (scan_at query tables entry low))
           (in_filter (passes_own conjuncts entry) (all_rows rows entry) row parts.0 (and_parts (passes_own conjuncts entry row) (refers_to_all entry row) parts.1).0))
       | inr past ↦ absurd (in_none row (subst (λ (s : List ℕ). Contains s row) (taken_past entry past) has))
     ];
     ascending = λ entry. elim (cases_lt entry (length query.from)) [
-      | inl low ↦ subst IsAscending (sym (taken_at entry low)) (filter_ascends (takes entry) (all_rows rows entry) (range_ascends 0 (rows entry)))
+      | inl low ↦ subst IsAscending (sym (taken_at entry low)) (filter_ascends (may_take_part entry) (all_rows rows entry) (range_ascends 0 (rows entry)))
       | inr past ↦ subst IsAscending (sym (taken_past entry past)) tt
     ];
   }
@@ -160,7 +160,7 @@ module _ (schema : Schema) (query : Query) (tables : Tables) (subset : ℕ) (fit
     placed : (entry : ℕ) → has_entry subset entry ≡ true → Contains order entry
     placed entry has = entry_in (entries_of_set subset) order o entry (set_entries_only subset entry has)
 
-    module _ (choice : List ℕ) (k : Contains (query_level query tables order) choice) where
+    module _ (choice : List ℕ) (k : Contains (level_over_entries query tables order) choice) where
       abbrev row_of : ℕ → ℕ
       row_of = row_in order choice
 
@@ -170,7 +170,7 @@ module _ (schema : Schema) (query : Query) (tables : Tables) (subset : ℕ) (fit
       satisfies : SatisfiesScanned (scan conjuncts rows) no_keys (entries_of_set subset) [] row_of
       satisfies =
           each_of (SatisfiesScanned (scan conjuncts rows) no_keys (entries_of_set subset) []) (map (row_in order) (level_of conjuncts rows order))
-          (level_satisfies conjuncts rows no_keys [] subset order (asks_only tables query.conjuncts) tt o) row_of (in_map (row_in order) (level_of conjuncts rows order) choice k)
+          (level_satisfies conjuncts rows no_keys [] subset order (depend_on_named tables query.conjuncts) tt o) row_of (in_map (row_in order) (level_of conjuncts rows order) choice k)
 
       scanned_row : (entry : ℕ) → has_entry subset entry ≡ true → Contains (all_rows rows entry) (row_of entry) × (passes_own conjuncts entry (row_of entry) ≡ true)
       scanned_row entry has =
@@ -183,10 +183,10 @@ module _ (schema : Schema) (query : Query) (tables : Tables) (subset : ℕ) (fit
       equality_true : (e : Edge) → Contains (equalities_of query) e → has_entry subset e.left.entry ≡ true → has_entry subset e.right.entry ≡ true
           → are_equal_at tables e (row_of e.left.entry) (row_of e.right.entry) ≡ true
       equality_true e there left right =
-          let stood = (equality_stands query e).0 there in
+          let stood = (equality_is_conjunct query e).0 there in
           sym (equality_holds tables row_of stood.0 e stood.2)
           ∙ implied (names_only (conjunct_of tables stood.0) order) (cond_holds tables row_of stood.0)
-          (all_true (λ (c : Conjunct). not (names_only c order) || c.holds row_of) conjuncts (stands conjuncts rows order choice k).holds (conjunct_of tables stood.0)
+          (all_true (λ (c : Conjunct). not (names_only c order) || c.holds row_of) conjuncts (is_level_choice conjuncts rows order choice k).holds (conjunct_of tables stood.0)
           (in_map (conjunct_of tables) query.conjuncts stood.0 stood.1))
           (subst (λ (named : List ℕ). list_all (is_in order) named ≡ true) (sym (equality_names stood.0 e stood.2))
           (rw (in_true order e.left.entry (placed e.left.entry left), in_true order e.right.entry (placed e.right.entry right)) refl))
@@ -214,7 +214,7 @@ module _ (schema : Schema) (query : Query) (tables : Tables) (subset : ℕ) (fit
           right_named (λ entry column. is_declared_key schema (table_of query entry) column ≡ true → HaveUniqueValues tables entry column) (equalities_of query) keys e way key in
           it_refers query tables e apart (row_of e.left.entry) (row_of e.right.entry) (row_low e.right.entry both.1) (either_true e way both.0 both.1) (scanned_row e.right.entry both.1).1
 
-      takes_row : (entry : ℕ) → Contains order entry → takes entry (row_of entry) ≡ true
+      takes_row : (entry : ℕ) → Contains order entry → may_take_part entry (row_of entry) ≡ true
       takes_row entry here =
           let has : has_entry subset entry ≡ true = set_entries subset entry (entry_of (entries_of_set subset) order o entry here) in
           rw ((scanned_row entry has).1)
@@ -223,24 +223,24 @@ module _ (schema : Schema) (query : Query) (tables : Tables) (subset : ℕ) (fit
           let within = from_filter (joins_within subset) (carriers schema query) e to.0 in
           subst (λ (n : ℕ). refers_to_scanned query tables e (row_of n) ≡ true) (eqb-true e.left.entry entry to.1) (carrier_true e within.0 within.1)))
 
-      all_taken : (placed : List ℕ) → ((entry : ℕ) → Contains placed entry → takes entry (row_of entry) ≡ true) → all_pass takes placed (map row_of placed) ≡ true
+      all_taken : (placed : List ℕ) → ((entry : ℕ) → Contains placed entry → may_take_part entry (row_of entry) ≡ true) → all_pass may_take_part placed (map row_of placed) ≡ true
       all_taken [] each = refl
       all_taken (entry ∷ placed) each = rw (each entry (in_front entry placed entry refl), all_taken placed (λ x here. each x (in_rest entry placed x here))) refl
 
-      choice_taken : all_pass takes order choice ≡ true
+      choice_taken : all_pass may_take_part order choice ≡ true
       choice_taken =
-          subst (λ (c : List ℕ). all_pass takes order c ≡ true) (back conjuncts rows (entries_of_set subset) order order o o choice k)
+          subst (λ (c : List ℕ). all_pass may_take_part order c ≡ true) (back conjuncts rows (entries_of_set subset) order order o o choice k)
           (all_taken order takes_row)
 
-    over_taken : level_over conjuncts (list_at taking) order ≡ query_level query tables order
+    over_taken : level_over conjuncts (list_at taking) order ≡ level_over_entries query tables order
     over_taken =
         ap (λ (lists : List (List ℕ)). filter (λ choice. all_hold conjuncts order (row_in order choice)) (choices lists))
         (map_alike (list_at taking) taking_at order (λ entry here. taken_at entry (low_in entry here)))
-        ∙ over_restricted conjuncts rows takes order ∙ filter_all (all_pass takes order) (query_level query tables order) choice_taken
+        ∙ over_restricted conjuncts rows may_take_part order ∙ filter_all (all_pass may_take_part order) (level_over_entries query tables order) choice_taken
 
-    over_scans : level_over conjuncts (list_at (scans_of query tables)) order ≡ query_level query tables order
+    over_scans : level_over conjuncts (list_at (scans_of query tables)) order ≡ level_over_entries query tables order
     over_scans =
-        subst (λ (s : List ℕ). level_over conjuncts (list_at (scans_of query tables)) s ≡ query_level query tables s) (take_all (length order) order (omega arith))
+        subst (λ (s : List ℕ). level_over conjuncts (list_at (scans_of query tables)) s ≡ level_over_entries query tables s) (take_all (length order) order (omega arith))
         (levels_of_scans query tables order (length order) (all_from (λ entry. entry < length query.from) order low_in) o.once)
 
     pub none_lost : level_over conjuncts (list_at (scans_of query tables)) order ≡ level_over conjuncts (list_at taking) order

@@ -5,12 +5,12 @@ use Rattle.berge_tree.specs.declared.edges.Edge.{Edge}
 use Rattle.query_types.specs.declared.types.Query.{Query}
 use Rattle.join_graph.specs.Conjuncts.{equalities_of}
 use Rattle.predicate_bounds.specs.declared.columns.QueryStats.{QueryStats}
-use Rattle.predicate_bounds.specs.Told.{columns_of, list_in_stats, row_bound_in_stats}
+use Rattle.predicate_bounds.specs.StatsLists.{columns_of, list_in_stats, row_bound_in_stats}
 use Rattle.key_carriers.specs.Carriers.{both_ways}
 
 -- the equality is one of the query's, or one of these with its sides exchanged
-abbrev pub IsJoined : Query → Edge → Type 0
-IsJoined query e = Contains (both_ways (equalities_of query)) e
+abbrev pub IsEqualityEitherWay : Query → Edge → Type 0
+IsEqualityEitherWay query e = Contains (both_ways (equalities_of query)) e
 
 -- the statistics have lists of at least one column of the first entry, each column once. Each list sums to the entry's row bound
 pub record AddUp (stats : QueryStats) : Type 0 where

@@ -9,7 +9,7 @@ use Rattle.query_types.specs.declared.types.Operand.TheVariants as operand
 use Rattle.query_types.specs.declared.types.Query.{Query}
 use Rattle.join_graph.specs.Conjuncts.{column_operand}
 use Rattle.sql_meaning.specs.Tables.{Tables}
-use Rattle.key_carriers.specs.Examples.{by_number, customers_with, number_column}
+use Rattle.key_carriers.specs.Examples.{id_key, customers_with, number_column}
 use Rattle.planning.specs.ReducedExamples.{columns_equal, numbers, region_tables, source}
 
 -- column `column` of entry `entry` is equal to n
@@ -58,7 +58,7 @@ trades = record {
 }
 
 abbrev pub trade_schema : Schema
-trade_schema = record { tables = trades ∷ customers_with by_number ∷ [] }
+trade_schema = record { tables = trades ∷ customers_with id_key ∷ [] }
 
 -- SELECT O.N FROM O, C AS B, C AS P WHERE O.BUYER = B.ID AND O.PAYER = P.ID AND B.REG = 3 AND P.REG = 3
 abbrev pub by_both : Query

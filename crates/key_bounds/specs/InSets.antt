@@ -12,37 +12,37 @@ use Rattle.tree_bounds.specs.TreeBounds.{EntryBounds}
 use Rattle.bound_fold.specs.declared.lists.EntryLists.{EntryLists}
 use Rattle.bound_fold.specs.Lists.{list_of, rows_of}
 use Rattle.bound_fold.specs.Sets.{HaveLists}
-use Rattle.key_stats.specs.declared.carried.Carried.{Carried}
+use Rattle.key_stats.specs.declared.carried.CarriedBounds.{CarriedBounds}
 use Rattle.key_bounds.specs.declared.key_lists.KeyLists.{KeyLists}
 use Rattle.key_bounds.specs.Bounds.{least_list, least_rows}
 
 -- ---- what is carried to an entry within a set
 
-abbrev pub carried_to : List Carried → ℕ → ℕ → List Carried
+abbrev pub carried_to : List CarriedBounds → ℕ → ℕ → List CarriedBounds
 carried_to carried subset entry = filter (λ c. c.edge.left.entry == entry) (filter (λ c. joins_within subset c.edge) carried)
 
-abbrev pub rows_carried : ℕ → Carried → ℕ
+abbrev pub rows_carried : ℕ → CarriedBounds → ℕ
 rows_carried entry c = unwrap_or (rows_of c.lists entry) 0
 
-abbrev pub list_carried : ℕ → ℕ → Carried → List ℕ
+abbrev pub list_carried : ℕ → ℕ → CarriedBounds → List ℕ
 list_carried entry column c = unwrap_or (list_of c.lists entry column) []
 
 -- the least of a row bound and of the row bounds that are carried to the entry within the set; below, the same for a list
-abbrev pub rows_within : List Carried → ℕ → ℕ → ℕ → ℕ
+abbrev pub rows_within : List CarriedBounds → ℕ → ℕ → ℕ → ℕ
 rows_within carried subset entry rows = least_rows rows (map (rows_carried entry) (carried_to carried subset entry))
 
-abbrev pub list_within : List Carried → ℕ → ℕ → ℕ → List ℕ → List ℕ
+abbrev pub list_within : List CarriedBounds → ℕ → ℕ → ℕ → List ℕ → List ℕ
 list_within carried subset entry column list = least_list list (map (list_carried entry column) (carried_to carried subset entry))
 
 -- ---- `rows_within` and `list_within` in steps, one for each carried bound
 
-abbrev pub is_carried : ℕ → ℕ → Carried → Bool
+abbrev pub is_carried : ℕ → ℕ → CarriedBounds → Bool
 is_carried subset entry c = joins_within subset c.edge && c.edge.left.entry == entry
 
-abbrev pub fewer_by : ℕ → ℕ → Carried → ℕ → ℕ
+abbrev pub fewer_by : ℕ → ℕ → CarriedBounds → ℕ → ℕ
 fewer_by subset entry c rows = if is_carried subset entry c then min rows (rows_carried entry c) else rows
 
-abbrev pub narrowed_by : ℕ → ℕ → ℕ → Carried → List ℕ → List ℕ
+abbrev pub narrowed_by : ℕ → ℕ → ℕ → CarriedBounds → List ℕ → List ℕ
 narrowed_by subset entry column c list = if is_carried subset entry c then lesser list (list_carried entry column c) else list
 
 -- ---- the bounds of all entries in a set
@@ -56,11 +56,11 @@ known_by_keys keys subset = record {
 -- ---- which lists must be known for a set
 
 -- if `c` is carried to the entry of `place` (an entry and one of its columns), `c` has a list of this column
-abbrev pub CarriesTo : Place → Carried → Type 0
+abbrev pub CarriesTo : Place → CarriedBounds → Type 0
 CarriesTo place c = c.edge.left.entry ≡ place.entry → IsSome (list_of c.lists place.entry place.column)
 
 -- `c` has a list of each column of its left entry that these equalities name
-abbrev pub CarriesLists : List Edge → Carried → Type 0
+abbrev pub CarriesLists : List Edge → CarriedBounds → Type 0
 CarriesLists es c = AllByRecursion (λ place. CarriesTo place c) (places_of es)
 
 -- the set has only entries below `keys.count`, which is at most `most_entries`. Each entry below `keys.count` has a row bound, and each column that

@@ -1,6 +1,6 @@
 pub mod Bounds
 pub mod InSets
 pub mod Carrying
-pub mod Told
+pub mod TableStats
 pub mod Plans
 pub mod Examples

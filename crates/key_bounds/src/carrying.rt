@@ -3,21 +3,21 @@
 ghost use Rattle.std.specs.Prelude.{◌≡◌, All, IfOk, Some, length};
 ghost use Rattle.bound_fold.specs.Lists.{list_of, rows_of};
 ghost use Rattle.join_graph.specs.Conjuncts.{equalities_of, local_of};
-ghost use Rattle.predicate_bounds.specs.Told.{columns_of, list_in_stats, row_bound_in_stats};
+ghost use Rattle.predicate_bounds.specs.StatsLists.{columns_of, list_in_stats, row_bound_in_stats};
 ghost use Rattle.sql_meaning.specs.Databases.{IsDatabaseOf};
 ghost use Rattle.sql_meaning.specs.Tables.{tables_of};
 ghost use Rattle.gathered_stats.specs.Asked.{AreGathered};
 ghost use Rattle.key_stats.specs.Carrying.{TellAlong, TellsCarried};
-ghost use Rattle.key_bounds.specs.Carrying.{AddUp, IsJoined};
+ghost use Rattle.key_bounds.specs.Carrying.{AddUp, IsEqualityEitherWay};
 
 use base_io::{NoMemory, Seq};
 use berge_tree::Edge;
 use bound_fold::EntryLists;
 use csv_tables::Database;
-use gathered_stats::{Beside, characters_differ, gather_beside};
+use gathered_stats::{PairedRows, characters_differ, gather_paired};
 use join_graph::Parts;
 use key_carriers::widened_rows;
-use key_stats::Carried;
+use key_stats::CarriedBounds;
 use limits::Accuracy;
 use predicate_bounds::QueryStats;
 use query_types::Query;
@@ -49,12 +49,12 @@ fn carried_over(
     own: &QueryStats,
     edge: Edge,
     accuracy: Accuracy,
-) -> Result<Carried, NoMemory>
+) -> Result<CarriedBounds, NoMemory>
     requires local { parts.now.local ≡ local_of query.now }
     requires equalities { parts.now.equalities ≡ equalities_of query.now }
     requires database { IsDatabaseOf query.now db.now }
     requires own { AreGathered query.now db.now accuracy (length query.now.from) own.now.entries }
-    requires joined { IsJoined query.now edge }
+    requires joined { IsEqualityEitherWay query.now edge }
     ensures edge { IfOk result (λ made. made.edge ≡ edge) }
     ensures tells { IfOk result (TellsCarried query.now (tables_of db.now) accuracy) }
 {
@@ -62,18 +62,18 @@ fn carried_over(
     let widened = widened_rows(alloc, db, edge)?;
     let rows = widened.rows.as_slice();
     let others = widened.others.as_slice();
-    let beside = Beside {
+    let beside = PairedRows {
         entry: edge.right.entry,
         rows: others,
         other: edge.left.entry,
         other_rows: rows,
         other_stats: own.entries.get(usize::from(edge.left.entry)),
     };
-    let gathered = gather_beside(alloc, query, parts, db, &beside, accuracy)?;
+    let gathered = gather_paired(alloc, query, parts, db, &beside, accuracy)?;
     let entries = Seq::one(alloc, gathered)?;
     let stats = QueryStats { entries };
     let lists = first_lists(alloc, &stats, edge.left.entry)?;
-    Ok(Carried { edge, lists })
+    Ok(CarriedBounds { edge, lists })
 }
 
 /// The bounds that are carried along each of `edges`. These are equalities of the query, some with their sides exchanged. `parts` is the result of
@@ -86,12 +86,12 @@ pub(crate) fn carried_along(
     own: &QueryStats,
     edges: &[Edge],
     accuracy: Accuracy,
-) -> Result<Seq<Carried>, NoMemory>
+) -> Result<Seq<CarriedBounds>, NoMemory>
     requires local { parts.now.local ≡ local_of query.now }
     requires equalities { parts.now.equalities ≡ equalities_of query.now }
     requires database { IsDatabaseOf query.now db.now }
     requires own { AreGathered query.now db.now accuracy (length query.now.from) own.now.entries }
-    requires joined { All (IsJoined query.now) edges.now }
+    requires joined { All (IsEqualityEitherWay query.now) edges.now }
     ensures { IfOk result (TellAlong query.now (tables_of db.now) accuracy edges.now) }
 {
     let mut carried = Seq::new(alloc);

@@ -24,7 +24,7 @@ pub fn who_carries()
 pub fn widened_tables()
     ensures rows { referring region_tables (edge_of 0 1 1 0) ≡ 0 ∷ 1 ∷ 2 ∷ 3 ∷ 4 ∷ [] }
     ensures others { referred region_tables (edge_of 0 1 1 0) ≡ 0 ∷ 1 ∷ 1 ∷ 1 ∷ 1 ∷ [] }
-    ensures without_the_stray { referring with_a_stray (edge_of 0 1 1 0) ≡ 0 ∷ 1 ∷ 2 ∷ 3 ∷ 4 ∷ [] }
+    ensures stray_is_left_out { referring with_a_stray (edge_of 0 1 1 0) ≡ 0 ∷ 1 ∷ 2 ∷ 3 ∷ 4 ∷ [] }
 {}
 
 /// O and C, where C.REG = 3 for one customer, who has one order. The bound of the set of both entries is 4 without carried conjuncts and 1 with

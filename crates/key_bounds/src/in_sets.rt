@@ -12,13 +12,13 @@ use berge_tree::{Edge, Place};
 use bound_fold::EntryLists;
 use entry_sets::EntrySet;
 use join_graph::{Parts, joins_within};
-use key_stats::Carried;
+use key_stats::CarriedBounds;
 use piece_math::Pieces;
 use set_bounds::{KnownInSets, folded_bound};
 use std::alloc::Global;
 
 // Whether carried bounds count for an entry in a set: both entries of their equality are in the set, and `entry` is its left entry.
-fn is_carried(carried: &Carried, subset: EntrySet, entry: u8) -> bool
+fn is_carried(carried: &CarriedBounds, subset: EntrySet, entry: u8) -> bool
     ensures { result ≡ is_carried subset entry carried.now }
 {
     if !joins_within(subset, carried.edge) {
@@ -28,7 +28,7 @@ fn is_carried(carried: &Carried, subset: EntrySet, entry: u8) -> bool
 }
 
 // The lesser of `rows` and the carried row bound, if this bound counts for the entry in the set; otherwise `rows`.
-fn fewer(rows: u64, one: &Carried, subset: EntrySet, entry: u8) -> u64
+fn lesser_rows(rows: u64, one: &CarriedBounds, subset: EntrySet, entry: u8) -> u64
     ensures { result ≡ fewer_by subset entry one.now rows }
 {
     if is_carried(one, subset, entry) {
@@ -38,12 +38,12 @@ fn fewer(rows: u64, one: &Carried, subset: EntrySet, entry: u8) -> u64
 }
 
 // The row bound of an entry in a set. `own` is the entry's row bound without carried bounds.
-fn least_rows(carried: &[Carried], subset: EntrySet, entry: u8, own: u64) -> u64
+fn rows_within(carried: &[CarriedBounds], subset: EntrySet, entry: u8, own: u64) -> u64
     ensures { result ≡ rows_within carried.now subset entry own }
 {
     let mut rows = own;
     for one in carried {
-        rows = fewer(rows, one, subset, entry);
+        rows = lesser_rows(rows, one, subset, entry);
     }
     rows
 }
@@ -61,7 +61,12 @@ fn list_at(lists: &EntryLists, place: Place) -> &Pieces
 }
 
 // The list `list`, lowered to the carried list of its column if this list counts for the entry in the set.
-fn narrowed(list: Pieces, one: &Carried, subset: EntrySet, place: Place) -> Result<Pieces, NoMemory>
+fn narrowed(
+    list: Pieces,
+    one: &CarriedBounds,
+    subset: EntrySet,
+    place: Place,
+) -> Result<Pieces, NoMemory>
     requires small { sum list < 2 ^ 64 }
     requires carries { CarriesTo place one.now }
     ensures list { IfOk result (λ made. made ≡ narrowed_by subset place.entry place.column one.now list) }
@@ -74,9 +79,9 @@ fn narrowed(list: Pieces, one: &Carried, subset: EntrySet, place: Place) -> Resu
 }
 
 // The list of a column in a set. `own` is the column's list without carried lists.
-fn least_list(
+fn list_within(
     own: &Pieces,
-    carried: &[Carried],
+    carried: &[CarriedBounds],
     subset: EntrySet,
     place: Place,
 ) -> Result<Pieces, NoMemory>
@@ -102,7 +107,7 @@ fn with_rows(alloc: Global, keys: &KeyLists, subset: EntrySet) -> Result<EntryLi
         let own = keys.own.rows(entry).unwrap_or(0);
         made.set_rows(
             entry,
-            least_rows(keys.carried.as_slice(), subset, entry, own),
+            rows_within(keys.carried.as_slice(), subset, entry, own),
         )?;
     }
     Ok(made)
@@ -125,7 +130,7 @@ fn add_new(
     ensures kept { OnOk result ((entry column : ℕ) → IsSome (list_of made.old entry column) → IsSome (list_of made.new entry column)) }
 {
     let own = list_at(&keys.own, place);
-    let list = least_list(own, keys.carried.as_slice(), subset, place)?;
+    let list = list_within(own, keys.carried.as_slice(), subset, place)?;
     made.add(place.entry, place.column, list)?;
     Ok(())
 }

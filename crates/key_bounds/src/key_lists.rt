@@ -1,7 +1,7 @@
 //! The own bounds of a query's entries, and the bounds that are carried to entries.
 use base_io::Seq;
 use bound_fold::EntryLists;
-use key_stats::Carried;
+use key_stats::CarriedBounds;
 
 /// `own` has a row bound for each of the first `count` entries, and a list for each of their joined columns. `carried` has the bounds that are
 /// carried along equalities. Each carried bound counts only in sets that have both entries of its equality.
@@ -9,5 +9,5 @@ use key_stats::Carried;
 pub struct KeyLists {
     pub count: u8,
     pub own: EntryLists,
-    pub carried: Seq<Carried>,
+    pub carried: Seq<CarriedBounds>,
 }

@@ -7,7 +7,7 @@ ghost use Rattle.schema_types.specs.declared.types.Schema.{Schema};
 ghost use Rattle.query_types.specs.declared.types.Query.{Query};
 ghost use Rattle.join_graph.specs.Conjuncts.{equalities_of};
 ghost use Rattle.tree_bounds.specs.Columns.{EachNamedColumn};
-ghost use Rattle.set_bounds.specs.Parts.{LooksAtParts};
+ghost use Rattle.set_bounds.specs.Parts.{DependsOnPartsOnly};
 ghost use Rattle.sql_meaning.specs.Tables.{Tables};
 ghost use Rattle.level_bounds.specs.Keys.{Keys};
 ghost use Rattle.join_steps.specs.Lists.{scans_of};
@@ -45,5 +45,5 @@ pub fn keys_are_never_under()
 pub fn keys_look_at_parts()
     ensures { (schema : Schema) (query : Query) (tables : Tables) (accuracy : ℕ)
         → EachNamedColumn (λ entry column. entry < length query.from) (equalities_of query)
-        → LooksAtParts (bounds_by_keys schema query tables accuracy) (equalities_of query) }
+        → DependsOnPartsOnly (bounds_by_keys schema query tables accuracy) (equalities_of query) }
 {}

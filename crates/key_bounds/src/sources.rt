@@ -9,7 +9,7 @@ ghost use Rattle.sql_meaning.specs.Tables.{Tables, tables_of};
 ghost use Rattle.planning.specs.Bounds.{scan_bounds_of};
 ghost use Rattle.planning.specs.HasBounds.{HasBounds};
 ghost use Rattle.key_bounds.specs.Bounds.{set_bounds_by_keys};
-ghost use Rattle.key_bounds.specs.Told.{AreTold, TellByKeys};
+ghost use Rattle.key_bounds.specs.TableStats.{AreStatsOfSomeTables, AreStatsByKeys};
 
 use crate::carrying::carried_along;
 use crate::key_lists::KeyLists;
@@ -18,9 +18,9 @@ use csv_tables::Database;
 use gathered_stats::gather_query;
 use join_graph::{Parts, split};
 use key_carriers::carriers;
-use key_stats::Carried;
+use key_stats::CarriedBounds;
 use limits::Accuracy;
-use planning::{Known, bounds_from};
+use planning::{QueryBounds, bounds_from};
 use predicate_bounds::QueryStats;
 use query_bounds::{entry_lists, scans_of};
 use query_types::Query;
@@ -34,14 +34,14 @@ pub fn from_carried(
     query: &Query,
     parts: &Parts,
     stats: &QueryStats,
-    carried: Seq<Carried>,
-) -> Result<Known, NoMemory>
+    carried: Seq<CarriedBounds>,
+) -> Result<QueryBounds, NoMemory>
     requires few { length query.now.from ≤ most_entries }
     requires equalities { parts.now.equalities ≡ equalities_of query.now }
     requires named { EachNamedColumn (λ entry column. entry < length query.now.from) (equalities_of query.now) }
-    requires told { AreTold query.now stats.now carried }
+    requires told { AreStatsOfSomeTables query.now stats.now carried }
     ensures { IfOk result (λ known. (schema : SchemaText) (tables : Tables) (accuracy : ℕ)
-        → TellByKeys schema query.now tables accuracy stats.now carried
+        → AreStatsByKeys schema query.now tables accuracy stats.now carried
         → HasBounds (set_bounds_by_keys schema query.now tables accuracy) (scan_bounds_of query.now tables accuracy) known) }
 {
     let own = entry_lists(alloc, query, parts, stats)?;
@@ -69,7 +69,7 @@ pub fn from_keys(
     query: &Query,
     db: &Database,
     accuracy: Accuracy,
-) -> Result<Known, NoMemory>
+) -> Result<QueryBounds, NoMemory>
     requires database { IsDatabaseOf query.now db.now }
     ensures { IfOk result (HasBounds (set_bounds_by_keys schema.now query.now (tables_of db.now) accuracy)
         (scan_bounds_of query.now (tables_of db.now) accuracy)) }

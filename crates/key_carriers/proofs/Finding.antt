@@ -22,22 +22,22 @@ use Rattle.sql_meaning.proofs.LoopFacts.{rows_are}
 use Rattle.level_bounds.specs.Keys.{are_equal_at, value_at}
 use Rattle.join_steps.specs.Columns.{column_cells}
 use Rattle.join_steps.proofs.Cells.{cell_count, cell_of_row, kind_at, same_cells, value_by_cell}
-use Rattle.key_carriers.specs.Cells.{AreOfOneKind, column_of, widened_to, with_found, with_other}
-use Rattle.key_carriers.specs.Widened.{referred_row, widened_row, with_row}
+use Rattle.key_carriers.specs.Cells.{AreOfOneKind, column_at_place, widened_to, with_found, with_other}
+use Rattle.key_carriers.specs.Widened.{referred_row, widened_row, row_pair}
 use Rattle.key_carriers.proofs.Ascending.{range_more}
 
 module _ (db : Database) (e : Edge) (tables : AreTables db) (different : TextsAreDifferent db.pool) (utf8 : All IsUtf8 db.pool) (one : AreOfOneKind db e) where
   abbrev left_cells : List ℕ
-  left_cells = column_cells db (column_of e.left)
+  left_cells = column_cells db (column_at_place e.left)
 
   abbrev right_cells : List ℕ
-  right_cells = column_cells db (column_of e.right)
+  right_cells = column_cells db (column_at_place e.right)
 
   pub left_count : length left_cells ≡ row_counts (tables_of db) e.left.entry
-  left_count = cell_count db (column_of e.left) tables one.left.exists ∙ sym (rows_are db e.left.entry)
+  left_count = cell_count db (column_at_place e.left) tables one.left.exists ∙ sym (rows_are db e.left.entry)
 
   pub right_count : length right_cells ≡ row_counts (tables_of db) e.right.entry
-  right_count = cell_count db (column_of e.right) tables one.right.exists ∙ sym (rows_are db e.right.entry)
+  right_count = cell_count db (column_at_place e.right) tables one.right.exists ∙ sym (rows_are db e.right.entry)
 
   module _ (row : ℕ) (low : row < row_counts (tables_of db) e.left.entry) where
     abbrev left_kind : Kind
@@ -53,11 +53,11 @@ module _ (db : Database) (e : Edge) (tables : AreTables db) (different : TextsAr
     cells_tell other high =
         let below : row < (cells_of db e.left.entry).rows = omega (arith, low, rows_are db e.left.entry) in
         let beside : other < (cells_of db e.right.entry).rows = omega (arith, high, rows_are db e.right.entry) in
-        ap (λ (v : Value). is_eq (value_cmp v (value_at (tables_of db) e.right.entry e.right.column other))) (value_by_cell db (column_of e.left) (λ x. row) tables one.left.exists below)
-        ∙ ap (λ (v : Value). is_eq (value_cmp (value_of_cell db.pool left_kind cell) v)) (value_by_cell db (column_of e.right) (λ x. other) tables one.right.exists beside)
+        ap (λ (v : Value). is_eq (value_cmp v (value_at (tables_of db) e.right.entry e.right.column other))) (value_by_cell db (column_at_place e.left) (λ x. row) tables one.left.exists below)
+        ∙ ap (λ (v : Value). is_eq (value_cmp (value_of_cell db.pool left_kind cell) v)) (value_by_cell db (column_at_place e.right) (λ x. other) tables one.right.exists beside)
         ∙ same_cells db.pool different utf8 left_kind right_kind cell (get_or right_cells other 0)
-        (kind_at db (column_of e.left) one.text one.left ∙ sym (kind_at db (column_of e.right) one.text one.right))
-        (cell_of_row db (column_of e.left) row tables one.left.exists below) (cell_of_row db (column_of e.right) other tables one.right.exists beside)
+        (kind_at db (column_at_place e.left) one.text one.left ∙ sym (kind_at db (column_at_place e.right) one.text one.right))
+        (cell_of_row db (column_at_place e.left) row tables one.left.exists below) (cell_of_row db (column_at_place e.right) other tables one.right.exists beside)
 
     abbrev others : List ℕ
     others = range_with_len 0 (row_counts (tables_of db) e.right.entry)
@@ -96,22 +96,22 @@ module _ (db : Database) (e : Edge) where
   module _ (row : ℕ) (other : Option ℕ) (is : other ≡ referred_row (tables_of db) e row) (old new : List ℕ) where
     pub row_added : old ≡ map (λ pair. pair.0) (widened_to (tables_of db) e row) → new ≡ with_found old row other → new ≡ map (λ pair. pair.0) (widened_to (tables_of db) e (row + 1))
     row_added before added =
-        added ∙ found_is other ∙ ap (λ (s : List ℕ). s ++ map (λ pair. pair.0) (cons_option (option_map (with_row row) other) [])) before
-        ∙ ap (λ (o : Option ℕ). map (λ pair. pair.0) (widened_to (tables_of db) e row) ++ map (λ pair. pair.0) (cons_option (option_map (with_row row) o) [])) is
+        added ∙ found_is other ∙ ap (λ (s : List ℕ). s ++ map (λ pair. pair.0) (cons_option (option_map (row_pair row) other) [])) before
+        ∙ ap (λ (o : Option ℕ). map (λ pair. pair.0) (widened_to (tables_of db) e row) ++ map (λ pair. pair.0) (cons_option (option_map (row_pair row) o) [])) is
         ∙ sym (map-append (λ (pair : ℕ × ℕ). pair.0) (widened_to (tables_of db) e row) (cons_option (widened_row (tables_of db) e row) []))
         ∙ ap (map (λ pair. pair.0)) (sym (to_more row))
       where
-        found_is : (o : Option ℕ) → with_found old row o ≡ old ++ map (λ pair. pair.0) (cons_option (option_map (with_row row) o) [])
+        found_is : (o : Option ℕ) → with_found old row o ≡ old ++ map (λ pair. pair.0) (cons_option (option_map (row_pair row) o) [])
         found_is None = sym (append-nil old)
         found_is (Some other) = refl
 
     pub other_added : old ≡ map (λ pair. pair.1) (widened_to (tables_of db) e row) → new ≡ with_other old other → new ≡ map (λ pair. pair.1) (widened_to (tables_of db) e (row + 1))
     other_added before added =
-        added ∙ other_is other ∙ ap (λ (s : List ℕ). s ++ map (λ pair. pair.1) (cons_option (option_map (with_row row) other) [])) before
-        ∙ ap (λ (o : Option ℕ). map (λ pair. pair.1) (widened_to (tables_of db) e row) ++ map (λ pair. pair.1) (cons_option (option_map (with_row row) o) [])) is
+        added ∙ other_is other ∙ ap (λ (s : List ℕ). s ++ map (λ pair. pair.1) (cons_option (option_map (row_pair row) other) [])) before
+        ∙ ap (λ (o : Option ℕ). map (λ pair. pair.1) (widened_to (tables_of db) e row) ++ map (λ pair. pair.1) (cons_option (option_map (row_pair row) o) [])) is
         ∙ sym (map-append (λ (pair : ℕ × ℕ). pair.1) (widened_to (tables_of db) e row) (cons_option (widened_row (tables_of db) e row) []))
         ∙ ap (map (λ pair. pair.1)) (sym (to_more row))
       where
-        other_is : (o : Option ℕ) → with_other old o ≡ old ++ map (λ pair. pair.1) (cons_option (option_map (with_row row) o) [])
+        other_is : (o : Option ℕ) → with_other old o ≡ old ++ map (λ pair. pair.1) (cons_option (option_map (row_pair row) o) [])
         other_is None = sym (append-nil old)
         other_is (Some other) = refl

@@ -9,16 +9,16 @@ use Rattle.berge_tree.specs.declared.edges.Edge.{Edge}
 use Rattle.sql_meaning.specs.Tables.{Tables, row_counts}
 use Rattle.level_bounds.specs.Keys.{are_equal_at}
 use Rattle.level_bounds.proofs.Lists.{from_filter_map, from_map, range_within}
-use Rattle.key_carriers.specs.Widened.{referred_row, referred, referring, widened, widened_row, with_row}
+use Rattle.key_carriers.specs.Widened.{referred_row, referred, referring, widened, widened_row, row_pair}
 
 module _ (tables : Tables) (e : Edge) where
   abbrev pairs : List (ℕ × ℕ)
   pairs = widened tables e
 
-  pair_of : (row : ℕ) (o : Option ℕ) (pair : ℕ × ℕ) → option_map (with_row row) o ≡ Some pair → (pair.0 ≡ row) × (o ≡ Some pair.1)
+  pair_of : (row : ℕ) (o : Option ℕ) (pair : ℕ × ℕ) → option_map (row_pair row) o ≡ Some pair → (pair.0 ≡ row) × (o ≡ Some pair.1)
   pair_of row None pair is = absurd (cc)
   pair_of row (Some other) pair is =
-      let same : with_row row other ≡ pair = cc in
+      let same : row_pair row other ≡ pair = cc in
       (sym (ap (λ (p : ℕ × ℕ). p.0) same), ap (λ (p : ℕ × ℕ). Some p.1) same)
 
   found : (pair : ℕ × ℕ) → Contains pairs pair → (row : ℕ) × (row < row_counts tables e.left.entry) × (pair.0 ≡ row) × (referred_row tables e row ≡ Some pair.1)

@@ -19,22 +19,22 @@ abbrev pub table_at : Schema → ℕ → Table
 table_at schema table = slice_index_or schema.tables table no_table
 
 -- the list has this column and no other
-abbrev pub is_just : ℕ → List ℕ → Bool
-is_just column [] = false
-is_just column (first ∷ []) = first == column
-is_just column (first ∷ (second ∷ columns)) = false
+abbrev pub is_only_column : ℕ → List ℕ → Bool
+is_only_column column [] = false
+is_only_column column (first ∷ []) = first == column
+is_only_column column (first ∷ (second ∷ columns)) = false
 
 -- the column alone is a PRIMARY KEY or UNIQUE of the table
 abbrev pub is_declared_key : Schema → ℕ → ℕ → Bool
-is_declared_key schema table column = list_any (is_just column) (table_at schema table).keys
+is_declared_key schema table column = list_any (is_only_column column) (table_at schema table).keys
 
 -- the reference is from just this column to just the column `target` of the table
-abbrev pub leads : ℕ → ℕ → ℕ → Reference → Bool
-leads column table target reference = is_just column reference.columns && (reference.table == table && is_just target reference.targets)
+abbrev pub is_reference_from_to : ℕ → ℕ → ℕ → Reference → Bool
+is_reference_from_to column table target reference = is_only_column column reference.columns && (reference.table == table && is_only_column target reference.targets)
 
 -- the schema declares a reference from this column of the table to column `target` of table `other`
 abbrev pub refers : Schema → ℕ → ℕ → ℕ → ℕ → Bool
-refers schema table column other target = list_any (leads column other target) (table_at schema table).references
+refers schema table column other target = list_any (is_reference_from_to column other target) (table_at schema table).references
 
 -- ---- what the schema declares of a query's entries
 

@@ -12,14 +12,14 @@ use Rattle.key_carriers.specs.declared.key_rows.KeyRows.TheVariants as key
 use Rattle.key_carriers.specs.Widened.{widened_row}
 
 -- a column of an equality, in the form in which conditions name it
-abbrev pub column_of : Place → ColumnRef
-column_of place = record { from = place.entry; column = place.column }
+abbrev pub column_at_place : Place → ColumnRef
+column_at_place place = record { from = place.entry; column = place.column }
 
 -- both columns of the equality are in the database, and have the same kind
 pub record AreOfOneKind (db : Database) (e : Edge) : Type 0 where
   pub text : Bool
-  pub left : IsColumnOfKind db (column_of e.left) text
-  pub right : IsColumnOfKind db (column_of e.right) text
+  pub left : IsColumnOfKind db (column_at_place e.left) text
+  pub right : IsColumnOfKind db (column_at_place e.right) text
 
 -- the cells of the column, row by row, by which rows are found
 abbrev pub cells_found : KeyRows → List ℕ

@@ -32,16 +32,16 @@ abbrev pub to_customers : Reference
 to_customers = record { columns = 1 ∷ []; table = 1; targets = 0 ∷ [] }
 
 -- ID PRIMARY KEY
-abbrev pub by_number : List (List ℕ)
-by_number = (0 ∷ []) ∷ []
+abbrev pub id_key : List (List ℕ)
+id_key = (0 ∷ []) ∷ []
 
 -- O is table 0 and C is table 1
 abbrev pub shop_schema : Schema
-shop_schema = record { tables = orders_with (to_customers ∷ []) ∷ customers_with by_number ∷ [] }
+shop_schema = record { tables = orders_with (to_customers ∷ []) ∷ customers_with id_key ∷ [] }
 
 -- the schema without REFERENCES, and the schema without PRIMARY KEY
 abbrev pub undeclared_schema : Schema
-undeclared_schema = record { tables = orders_with [] ∷ customers_with by_number ∷ [] }
+undeclared_schema = record { tables = orders_with [] ∷ customers_with id_key ∷ [] }
 
 abbrev pub keyless_schema : Schema
 keyless_schema = record { tables = orders_with (to_customers ∷ []) ∷ customers_with [] ∷ [] }

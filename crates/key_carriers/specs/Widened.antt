@@ -13,12 +13,12 @@ use Rattle.level_bounds.specs.Keys.{are_equal_at, value_at}
 abbrev pub referred_row : Tables → Edge → ℕ → Option ℕ
 referred_row tables e row = position (are_equal_at tables e row) (range_with_len 0 (row_counts tables e.right.entry))
 
-abbrev pub with_row : ℕ → ℕ → ℕ × ℕ
-with_row row other = (row, other)
+abbrev pub row_pair : ℕ → ℕ → ℕ × ℕ
+row_pair row other = (row, other)
 
 -- a row with the row to which it refers, if there is one
 abbrev pub widened_row : Tables → Edge → ℕ → Option (ℕ × ℕ)
-widened_row tables e row = option_map (with_row row) (referred_row tables e row)
+widened_row tables e row = option_map (row_pair row) (referred_row tables e row)
 
 -- each row of the left entry with the row to which it refers, in file order. A row that refers to no row is left out
 abbrev pub widened : Tables → Edge → List (ℕ × ℕ)

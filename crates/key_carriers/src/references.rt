@@ -3,7 +3,7 @@ ghost use Rattle.std.specs.Prelude.{◌≡◌, ◌++◌, ◌∷◌, [], ◌<◌,
 ghost use Rattle.std.specs.List.{list_any};
 ghost use Rattle.join_graph.specs.Conjuncts.{equalities_of, local_of};
 ghost use Rattle.tree_bounds.specs.Columns.{EachNamedColumn};
-ghost use Rattle.key_carriers.specs.Carriers.{carriers, carries, has_own, is_just, is_declared_key, leads, refers, refers_to_key, table_of, exchanged};
+ghost use Rattle.key_carriers.specs.Carriers.{carriers, carries, has_own, is_only_column, is_declared_key, is_reference_from_to, refers, refers_to_key, table_of, exchanged};
 
 use base_io::{NoMemory, Seq};
 use berge_tree::Edge;
@@ -13,8 +13,8 @@ use schema_types::{Reference, Schema};
 use std::alloc::Global;
 
 // Whether a list has this column and no other.
-fn is_just(column: u32, columns: &[u32]) -> bool
-    ensures { result ≡ is_just column columns.now }
+fn is_only_column(column: u32, columns: &[u32]) -> bool
+    ensures { result ≡ is_only_column column columns.now }
 {
     match columns {
         [only] => *only == column,
@@ -23,34 +23,34 @@ fn is_just(column: u32, columns: &[u32]) -> bool
 }
 
 // Whether a reference is from just this column to just the column `target` of the table.
-fn leads(column: u32, table: u32, target: u32, reference: &Reference) -> bool
-    ensures { result ≡ leads column table target reference.now }
+fn is_reference_from_to(column: u32, table: u32, target: u32, reference: &Reference) -> bool
+    ensures { result ≡ is_reference_from_to column table target reference.now }
 {
-    if !is_just(column, reference.columns.as_slice()) {
+    if !is_only_column(column, reference.columns.as_slice()) {
         return false;
     }
     if reference.table != table {
         return false;
     }
-    is_just(target, reference.targets.as_slice())
+    is_only_column(target, reference.targets.as_slice())
 }
 
 fn some_leads(column: u32, table: u32, target: u32, references: &[Reference]) -> bool
-    ensures { result ≡ list_any (leads column table target) references.now }
+    ensures { result ≡ list_any (is_reference_from_to column table target) references.now }
 {
     for reference in references {
-        if leads(column, table, target, reference) {
+        if is_reference_from_to(column, table, target, reference) {
             return true;
         }
     }
     false
 }
 
-fn some_is_just(column: u32, keys: &[Seq<u32>]) -> bool
-    ensures { result ≡ list_any (is_just column) keys.now }
+fn some_is_only_column(column: u32, keys: &[Seq<u32>]) -> bool
+    ensures { result ≡ list_any (is_only_column column) keys.now }
 {
     for key in keys {
-        if is_just(column, key.as_slice()) {
+        if is_only_column(column, key.as_slice()) {
             return true;
         }
     }
@@ -76,7 +76,7 @@ fn is_key(schema: &Schema, table: u32, column: u32) -> bool
     let at = table as usize;
     if at < schema.tables.len() {
         let table = schema.tables.get(at);
-        return some_is_just(column, table.keys.as_slice());
+        return some_is_only_column(column, table.keys.as_slice());
     }
     false
 }
@@ -133,7 +133,7 @@ fn add_carrier(
     edges.push(edge)
 }
 
-fn turned(edge: Edge) -> Edge
+fn exchanged(edge: Edge) -> Edge
     ensures { result ≡ exchanged edge }
 {
     Edge {
@@ -161,7 +161,7 @@ pub fn carriers(
     'equalities: for number in 0..equalities.len() {
         let edge = equalities[number];
         add_carrier(schema, query, parts, edge, &mut edges)?;
-        add_carrier(schema, query, parts, turned(edge), &mut edges)?;
+        add_carrier(schema, query, parts, exchanged(edge), &mut edges)?;
     }
     Ok(edges)
 }

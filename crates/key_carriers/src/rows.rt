@@ -3,7 +3,7 @@ ghost use Rattle.std.specs.Prelude.{◌≡◌, ◌≤◌, IfOk, OnOk};
 ghost use Rattle.limits.specs.Profile.{most_rows};
 ghost use Rattle.sql_meaning.specs.Databases.{AreTables};
 ghost use Rattle.sql_meaning.specs.Tables.{row_counts, tables_of};
-ghost use Rattle.key_carriers.specs.Cells.{AreOfOneKind, column_of, with_found, with_other};
+ghost use Rattle.key_carriers.specs.Cells.{AreOfOneKind, column_at_place, with_found, with_other};
 ghost use Rattle.key_carriers.specs.Widened.{referred, referring};
 
 use crate::key_rows::KeyRows;
@@ -22,8 +22,8 @@ pub struct Widened {
     pub others: Vec<u32>,
 }
 
-fn column_of(place: Place) -> ColumnRef
-    ensures { result ≡ column_of place }
+fn column_at_place(place: Place) -> ColumnRef
+    ensures { result ≡ column_at_place place }
 {
     ColumnRef {
         from: place.entry,
@@ -56,8 +56,8 @@ pub fn widened_rows(alloc: Global, db: &Database, edge: Edge) -> Result<Widened,
     ensures others { IfOk result (λ made. made.others.items ≡ referred (tables_of db.now) edge) }
 {
     texts_are_different(&db.pool);
-    let left = cells_of_column(db, column_of(edge.left));
-    let right = cells_of_column(db, column_of(edge.right));
+    let left = cells_of_column(db, column_at_place(edge.left));
+    let right = cells_of_column(db, column_at_place(edge.right));
     let key = KeyRows::new(alloc, right)?;
     let mut made = Widened {
         rows: Vec::with_capacity(alloc, left.len())?,

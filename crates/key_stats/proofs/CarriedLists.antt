@@ -13,7 +13,7 @@ use Rattle.entry_sets.proofs.Listing.{in_front, in_rest}
 use Rattle.std.specs.Ordering.{is_eq}
 use Rattle.berge_tree.specs.declared.edges.Edge.{Edge}
 use Rattle.degree_sequences.specs.Domination.{DominatesKeys}
-use Rattle.degree_sequences.specs.Falling.{IsFalling}
+use Rattle.degree_sequences.specs.Descending.{IsDescending}
 use Rattle.query_types.specs.declared.types.Query.{Query}
 use Rattle.sql_meaning.specs.Answers.{conjuncts_of, conjunct_of}
 use Rattle.sql_meaning.specs.Levels.{passes_own}
@@ -25,10 +25,10 @@ use Rattle.filtered_lists.specs.Standing.{scan_of, ListsStandFor}
 use Rattle.filtered_lists.proofs.Counting.{count_is_enough, list_dominates}
 use Rattle.filtered_lists.proofs.Lists.{filtered_falls, sum-filtered}
 use Rattle.table_stats.specs.Columns.{value_of_row}
-use Rattle.table_stats.specs.Keys.{TellsListed, TellsValues}
+use Rattle.table_stats.specs.Keys.{TellsListed, SeparatesValues}
 use Rattle.table_stats.proofs.Dominating.{listed_stand}
 use Rattle.table_stats.proofs.Summing.{counts_stand, listed_fall, listed_sum}
-use Rattle.key_carriers.specs.Widened.{is_scanned, referred_row, referred, referring, refers_to_scanned, rows_referring, tables_at, values_at, widened, widened_row, with_row}
+use Rattle.key_carriers.specs.Widened.{is_scanned, referred_row, referred, referring, refers_to_scanned, rows_referring, tables_at, values_at, widened, widened_row, row_pair}
 use Rattle.key_stats.specs.Lists.{carried_counts, carried_list, carried_lists, carried_rows}
 use Rattle.key_carriers.proofs.Referring.{referring_low}
 use Rattle.key_stats.proofs.RowsThere.{own_there}
@@ -74,7 +74,7 @@ module _ (query : Query) (tables : Tables) (e : Edge) where
   module _ (key : ℕ → ℕ) where
     one_pair : (row : ℕ) (rows : List ℕ) (o : Option ℕ)
         → map (λ pair. key pair.0) (filter (λ pair. passes pair.1) (filter_map (widened_row tables e) rows)) ≡ map key (filter refers rows)
-        → map (λ pair. key pair.0) (filter (λ pair. passes pair.1) (cons_option (option_map (with_row row) o) (filter_map (widened_row tables e) rows)))
+        → map (λ pair. key pair.0) (filter (λ pair. passes pair.1) (cons_option (option_map (row_pair row) o) (filter_map (widened_row tables e) rows)))
         ≡ map key (cond (is_scanned query tables e.right.entry o) (row ∷ filter refers rows) (filter refers rows))
     one_pair row rows None ih = ih
     one_pair row rows (Some other) ih = elim (cases_Bool (passes other)) [
@@ -126,7 +126,7 @@ module _ (query : Query) (tables : Tables) (e : Edge) where
     value_there n low =
         get_or-map (value_at tables e.left.entry column) (referring tables e) n 0 (Int (pos 0)) (omega (arith, low, length-map (referring tables e) (value_at tables e.left.entry column)))
 
-    module _ (key : ℕ → ℕ) (tells : TellsValues tables e.left.entry column key) where
+    module _ (key : ℕ → ℕ) (tells : SeparatesValues tables e.left.entry column key) where
       abbrev key_there : ℕ → ℕ
       key_there n = key (get_or (referring tables e) n 0)
 
@@ -145,7 +145,7 @@ module _ (query : Query) (tables : Tables) (e : Edge) where
           (list_dominates (carried_lists tables accuracy e column) there e.right.entry key_there query.conjuncts
           (listed_stand there accuracy e.right.entry joined key_there long tell))
 
-    pub carried_falls : IsFalling (carried_list query tables accuracy e column)
+    pub carried_falls : IsDescending (carried_list query tables accuracy e column)
     carried_falls = filtered_falls (carried_lists tables accuracy e column) e.right.entry query.conjuncts (listed_fall there accuracy e.right.entry joined)
 
     pub carried_sum : sum (carried_list query tables accuracy e column) ≡ carried_rows query tables e

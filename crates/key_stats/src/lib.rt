@@ -9,5 +9,5 @@
 mod carried;
 mod laws;
 
-pub use carried::Carried;
+pub use carried::CarriedBounds;
 pub use laws::carried_lists_stand;

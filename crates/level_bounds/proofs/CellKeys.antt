@@ -29,7 +29,7 @@ use Rattle.query_types.specs.declared.types.Cond.TheViews.{out-Cond}
 use Rattle.query_types.specs.declared.types.Query.{Query}
 use Rattle.query_types.specs.Typing.{IsTypedLayer, Compares}
 use Rattle.join_graph.specs.Conjuncts.{equalities_of, equality_of}
-use Rattle.sql_meaning.specs.Databases.{AreCells, AreTables, IsAskable, IsColumnOf, IsDatabaseOf, IsColumnOfKind}
+use Rattle.sql_meaning.specs.Databases.{AreCells, AreTables, IsWellTyped, IsColumnOf, IsDatabaseOf, IsColumnOfKind}
 use Rattle.sql_meaning.specs.Tables.{cells_of, no_cells, row_counts, tables_of}
 use Rattle.sql_meaning.proofs.ColumnFacts.{column_at, value_at as cell_value}
 use Rattle.sql_meaning.proofs.LoopFacts.{rows_are}
@@ -118,7 +118,7 @@ cells_join query db of differ = all_from (JoinsEqualKeys (tables_of db) (cell_at
     each e there =
         let found : (cond : Cond) × Contains query.conjuncts cond × (equality_of cond ≡ Some e) = from_filter_map equality_of query.conjuncts e there in
         let j : IsJoin (out-Cond found.0) e = is_join found.0 e found.2 in
-        let asked : IsAskable db found.0 = All-contains (IsAskable db) query.conjuncts found.0 of.conjuncts found.1 in
+        let asked : IsWellTyped db found.0 = All-contains (IsWellTyped db) query.conjuncts found.0 of.conjuncts found.1 in
         let can : Compares (IsColumnOfKind db) (operand.Column j.left) (operand.Column j.right) = subst (IsTypedLayer (IsColumnOfKind db)) j.compares (every_here-Cond (IsTypedLayer (IsColumnOfKind db)) found.0 asked) in
         subst (JoinsEqualKeys (tables_of db) (cell_at db)) (sym j.joins) (columns_join db of.tables differ j.left j.right can.left_kind.exists can.right_kind.exists)
 

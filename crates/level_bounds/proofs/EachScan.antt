@@ -19,7 +19,7 @@ use Rattle.sql_meaning.specs.Tables.{Tables, row_counts, tables_of}
 use Rattle.degree_sequences.proofs.ProductDominates.{All-first}
 use Rattle.level_bounds.specs.Keys.{HaveDifferentCharacters, JoinsEqualKeys, Keys, cell_at}
 use Rattle.level_bounds.specs.Orders.{IsOrderOfSet}
-use Rattle.level_bounds.specs.Scans.{BoundsEachScan, BoundsScans, query_level, query_scan}
+use Rattle.level_bounds.specs.Scans.{BoundsEachScan, BoundsScans, level_over_entries, query_scan}
 use Rattle.level_bounds.proofs.CellKeys.{cells_join}
 use Rattle.level_bounds.proofs.Lists.{all_filtered, all_from, each_of, in_range, range_within}
 use Rattle.level_bounds.proofs.NeverUnder.{within}
@@ -43,7 +43,7 @@ each_is_enough query tables key b subset known low = record {
 }
 
 pub database_within : (query : Query) (db : Database) (b : EntryBounds) (subset : ℕ) (order : List ℕ) → IsDatabaseOf query db → HaveDifferentCharacters db.pool
-    → BoundsScans b query (tables_of db) (cell_at db) subset → IsOrderOfSet (entries_of_set subset) order → length (query_level query (tables_of db) order) ≤ bound_of_set b (equalities_of query) subset
+    → BoundsScans b query (tables_of db) (cell_at db) subset → IsOrderOfSet (entries_of_set subset) order → length (level_over_entries query (tables_of db) order) ≤ bound_of_set b (equalities_of query) subset
 database_within query db b subset order of differ known o =
     within query (tables_of db) (cell_at db) b subset order
     (all_filtered (joins_within subset) (JoinsEqualKeys (tables_of db) (cell_at db)) (equalities_of query) (cells_join query db of differ)) known o

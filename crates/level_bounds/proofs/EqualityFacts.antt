@@ -25,8 +25,8 @@ use Rattle.level_bounds.proofs.Lists.{all_from, each_of, from_filter_map, in_fil
 
 -- ---- the conjunct of an equality
 
-pub equality_stands : (query : Query) (e : Edge) → Contains (equalities_of query) e ↔ ((cond : Cond) × Contains query.conjuncts cond × (equality_of cond ≡ Some e))
-equality_stands query e = (
+pub equality_is_conjunct : (query : Query) (e : Edge) → Contains (equalities_of query) e ↔ ((cond : Cond) × Contains query.conjuncts cond × (equality_of cond ≡ Some e))
+equality_is_conjunct query e = (
   from_filter_map equality_of query.conjuncts e,
   λ found. in_filter_map equality_of query.conjuncts found.0 e found.1 found.2,
 )

@@ -15,7 +15,7 @@ use Rattle.sql_meaning.specs.Levels.{level_of, row_in}
 use Rattle.sql_meaning.specs.Tables.{Tables, row_counts}
 use Rattle.sql_meaning.proofs.AnswerFacts.{last_level}
 use Rattle.level_bounds.specs.Orders.{IsOrderOfSet, reordered}
-use Rattle.level_bounds.specs.Scans.{query_level}
+use Rattle.level_bounds.specs.Scans.{level_over_entries}
 use Rattle.level_bounds.proofs.Lists.{is_in, true_in, map_both, range_within}
 use Rattle.level_bounds.proofs.Choosing.{entry_of, row_out}
 use Rattle.level_bounds.proofs.Reordering.{rearranged}
@@ -35,19 +35,19 @@ listed_back n f out = fun_ext at
       | inr high ↦ past_end (map f (range_with_len 0 n)) x (omega (arith, length-map-range_with_len f 0 n)) ∙ sym (out x high)
     ]
 
-pub level_is_chosen : (query : Query) (tables : Tables) → NamesItsEntries query → query_level query tables (entries_of query) ≡ chosen query tables
+pub level_is_chosen : (query : Query) (tables : Tables) → NamesItsEntries query → level_over_entries query tables (entries_of query) ≡ chosen query tables
 level_is_chosen query tables own =
     sym (ap (level_of (conjuncts_of query tables) (row_counts tables)) (take_all (length query.from) (entries_of query) (omega (arith, length-range_with_len 0 (length query.from)))))
     ∙ last_level query tables own
 
 pub last_level_is_answer : (query : Query) (tables : Tables) (order : List ℕ) → NamesItsEntries query → IsOrderOfSet (entries_of query) order
-    → IsPermutation (map (λ choice. selected query tables (row_in order choice)) (query_level query tables order)) (answer query tables)
+    → IsPermutation (map (λ choice. selected query tables (row_in order choice)) (level_over_entries query tables order)) (answer query tables)
 last_level_is_answer query tables order own o =
     subst (λ (rows : List Row). IsPermutation rows (answer query tables))
-    (map_both values (reordered order (entries_of query)) (λ choice. selected query tables (row_in order choice)) same_values (query_level query tables order))
-    (subst (λ (choices : List (List ℕ)). IsPermutation (map values (map (reordered order (entries_of query)) (query_level query tables order))) (map values choices))
+    (map_both values (reordered order (entries_of query)) (λ choice. selected query tables (row_in order choice)) same_values (level_over_entries query tables order))
+    (subst (λ (choices : List (List ℕ)). IsPermutation (map values (map (reordered order (entries_of query)) (level_over_entries query tables order))) (map values choices))
     (level_is_chosen query tables own)
-    (IsPermutation-map values (map (reordered order (entries_of query)) (query_level query tables order)) (query_level query tables (entries_of query))
+    (IsPermutation-map values (map (reordered order (entries_of query)) (level_over_entries query tables order)) (level_over_entries query tables (entries_of query))
     (rearranged (conjuncts_of query tables) (row_counts tables) (entries_of query) order (entries_of query) o itself)))
   where
     values : List ℕ → Row

@@ -5,9 +5,9 @@ use Rattle.std.proofs.lemmas.List.FromFn.{length-map-range_with_len, length-rang
 use Rattle.degree_sequences.specs.Compression.{compressed}
 use Rattle.degree_sequences.specs.Degrees.{degree_list}
 use Rattle.degree_sequences.specs.Domination.{DominatesKeys}
-use Rattle.degree_sequences.specs.Families.{SumsAreWithin}
-use Rattle.degree_sequences.proofs.CompressedLists.{IsFalling-compressed, compressed-near, compressed_dominates, sum-compressed}
-use Rattle.degree_sequences.proofs.DegreeLists.{IsFalling-degree_list, sum-degree_list}
+use Rattle.degree_sequences.specs.ComparedChildren.{SumsAreWithin}
+use Rattle.degree_sequences.proofs.CompressedLists.{IsDescending-compressed, compressed-near, compressed_dominates, sum-compressed}
+use Rattle.degree_sequences.proofs.DegreeLists.{IsDescending-degree_list, sum-degree_list}
 use Rattle.berge_tree.specs.declared.edges.Edge.{Edge}
 use Rattle.berge_tree.specs.declared.edges.Place.{Place}
 use Rattle.berge_tree.specs.Equalities.{places_of}
@@ -26,7 +26,7 @@ use Rattle.sql_meaning.specs.Conditions.{cond_holds}
 use Rattle.sql_meaning.specs.Tables.{Tables, row_counts}
 use Rattle.berge_tree.proofs.Forest.{within_place}
 use Rattle.level_bounds.specs.Keys.{Keys}
-use Rattle.level_bounds.specs.Scans.{BoundsScans, filters_of, query_scan}
+use Rattle.level_bounds.specs.Scans.{BoundsScans, own_conjuncts_of, query_scan}
 use Rattle.level_bounds.specs.Whole.{AreCompressed, keys_of, uncompressed}
 use Rattle.level_bounds.proofs.Lists.{all_from, each_of}
 use Rattle.level_bounds.proofs.OwnConjuncts.{scan_by_own}
@@ -37,7 +37,7 @@ pub all_kept : (rows : List ℕ) → filter (λ row. true) rows ≡ rows
 all_kept [] = refl
 all_kept (row ∷ rows) = ap (λ (s : List ℕ). row ∷ s) (all_kept rows)
 
-pub whole_scan : (query : Query) (tables : Tables) (entry : ℕ) → filters_of query entry ≡ [] → query_scan query tables entry ≡ range_with_len 0 (row_counts tables entry)
+pub whole_scan : (query : Query) (tables : Tables) (entry : ℕ) → own_conjuncts_of query entry ≡ [] → query_scan query tables entry ≡ range_with_len 0 (row_counts tables entry)
 whole_scan query tables entry none =
     scan_by_own query tables entry
     ∙ ap (λ (own : List Cond). filter (λ row. list_all (cond_holds tables (λ e. row)) own) (range_with_len 0 (row_counts tables entry))) none
@@ -51,7 +51,7 @@ module _ (tables : Tables) (key : Keys) where
 
   exact_list : (entry column : ℕ) → HasList (uncompressed tables key) entry column
   exact_list entry column = record {
-    falls = IsFalling-degree_list (keys_of tables key entry column);
+    falls = IsDescending-degree_list (keys_of tables key entry column);
     total = sum-degree_list (keys_of tables key entry column) ∙ key_count entry column;
   }
 
@@ -79,7 +79,7 @@ module _ (tables : Tables) (key : Keys) where
     lists = all_from (λ (p : Place). HasList b p.entry p.column) named (λ p k.
         let exact : IsListOf (row_counts tables p.entry) (degree_list (keys_of tables key p.entry p.column)) = exact_list p.entry p.column in
         subst (IsListOf (b.rows p.entry)) (sym (list_at p k)) (record {
-          falls = IsFalling-compressed accuracy (degree_list (keys_of tables key p.entry p.column)) exact.falls;
+          falls = IsDescending-compressed accuracy (degree_list (keys_of tables key p.entry p.column)) exact.falls;
           total = sum-compressed accuracy (degree_list (keys_of tables key p.entry p.column)) exact.falls ∙ exact.total ∙ sym (rows_at p.entry (inside p k));
         }))
 
@@ -87,7 +87,7 @@ module _ (tables : Tables) (key : Keys) where
     is_near = record {
       rows = all_from (RowsAreNear accuracy b (uncompressed tables key)) (entries_of_set subset) (λ entry k. rw (rows_at entry k) (omega arith));
       columns = all_from (λ (p : Place). ListIsNear accuracy b (uncompressed tables key) p.entry p.column) named (λ p k.
-          let falls = IsFalling-degree_list (keys_of tables key p.entry p.column) in
+          let falls = IsDescending-degree_list (keys_of tables key p.entry p.column) in
           subst (λ (s : List ℕ). SumsAreWithin accuracy (accuracy + 1) s (degree_list (keys_of tables key p.entry p.column))) (sym (list_at p k))
           (within_by_elements accuracy (accuracy + 1) (list_of p.entry p.column) (degree_list (keys_of tables key p.entry p.column))
           (compressed-near accuracy (degree_list (keys_of tables key p.entry p.column)) falls)));
@@ -96,7 +96,7 @@ module _ (tables : Tables) (key : Keys) where
     pub near : accuracy ^ length (entries_of_set subset) * bound_of_set b es subset ≤ (accuracy + 1) ^ length (entries_of_set subset) * bound_of_set (uncompressed tables key) es subset
     near = set_near accuracy b (uncompressed tables key) es subset lists (exact_lists es subset) is_near
 
-pub whole_bounds : (query : Query) (tables : Tables) (key : Keys) (accuracy : ℕ) (b : EntryBounds) (subset : ℕ) → AllByRecursion (λ entry. filters_of query entry ≡ []) (entries_of_set subset)
+pub whole_bounds : (query : Query) (tables : Tables) (key : Keys) (accuracy : ℕ) (b : EntryBounds) (subset : ℕ) → AllByRecursion (λ entry. own_conjuncts_of query entry ≡ []) (entries_of_set subset)
     → AreCompressed accuracy b tables key (equalities_of query) subset → BoundsScans b query tables key subset
 whole_bounds query tables key accuracy b subset none are = record {
   lists = lists tables key accuracy b (equalities_of query) subset are;
@@ -110,4 +110,4 @@ whole_bounds query tables key accuracy b subset none are = record {
 }
   where
     scan_at : (entry : ℕ) → Contains (entries_of_set subset) entry → query_scan query tables entry ≡ range_with_len 0 (row_counts tables entry)
-    scan_at entry k = whole_scan query tables entry (each_of (λ entry. filters_of query entry ≡ []) (entries_of_set subset) none entry k)
+    scan_at entry k = whole_scan query tables entry (each_of (λ entry. own_conjuncts_of query entry ≡ []) (entries_of_set subset) none entry k)

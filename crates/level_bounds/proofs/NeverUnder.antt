@@ -14,20 +14,20 @@ use Rattle.tree_bounds.specs.SetBounds.{bound_of_set}
 use Rattle.tree_bounds.specs.Tables.{ChoicesAreDifferent, Dominates, SetDominates}
 use Rattle.tree_bounds.specs.TreeBounds.{EntryBounds}
 use Rattle.sql_meaning.specs.Answers.{conjuncts_of}
-use Rattle.sql_meaning.specs.Levels.{AsksOnly, row_in}
+use Rattle.sql_meaning.specs.Levels.{DependsOnNamed, row_in}
 use Rattle.sql_meaning.specs.Tables.{Tables, row_counts}
-use Rattle.sql_meaning.proofs.AskFacts.{asks_only}
+use Rattle.sql_meaning.proofs.AskFacts.{depend_on_named}
 use Rattle.level_bounds.specs.Equalities.{IsImplied}
 use Rattle.level_bounds.specs.Keys.{JoinsEqualKeys, Keys}
 use Rattle.level_bounds.specs.Orders.{IsOrderOfSet}
-use Rattle.level_bounds.specs.Scans.{BoundsScans, query_level, query_scan}
+use Rattle.level_bounds.specs.Scans.{BoundsScans, level_over_entries, query_scan}
 use Rattle.level_bounds.proofs.EqualityFacts.{are_asked}
 use Rattle.level_bounds.proofs.Lists.{all_from, each_of, from_filter}
 use Rattle.level_bounds.proofs.Scanning.{choices_differ, level_satisfies, level_within}
 
 module _ (query : Query) (tables : Tables) where
-  asks : AllByRecursion AsksOnly (conjuncts_of query tables)
-  asks = asks_only tables query.conjuncts
+  asks : AllByRecursion DependsOnNamed (conjuncts_of query tables)
+  asks = depend_on_named tables query.conjuncts
 
   asked : (key : Keys) (subset : ℕ) → AllByRecursion (JoinsEqualKeys tables key) (equalities_within subset (equalities_of query))
       → AllByRecursion (IsImplied (conjuncts_of query tables) (row_counts tables) key) (equalities_within subset (equalities_of query))
@@ -45,13 +45,13 @@ module _ (query : Query) (tables : Tables) where
   }
 
   pub satisfies : (key : Keys) (subset : ℕ) (order : List ℕ) → AllByRecursion (JoinsEqualKeys tables key) (equalities_within subset (equalities_of query)) → IsOrderOfSet (entries_of_set subset) order
-      → AllByRecursion (SatisfiesScanned (query_scan query tables) key (entries_of_set subset) (equalities_within subset (equalities_of query))) (map (row_in order) (query_level query tables order))
+      → AllByRecursion (SatisfiesScanned (query_scan query tables) key (entries_of_set subset) (equalities_within subset (equalities_of query))) (map (row_in order) (level_over_entries query tables order))
   satisfies key subset order keys o = level_satisfies (conjuncts_of query tables) (row_counts tables) key (equalities_of query) subset order asks (asked key subset keys) o
 
-  pub differ : (subset : ℕ) (order : List ℕ) → IsOrderOfSet (entries_of_set subset) order → ChoicesAreDifferent (entries_of_set subset) (map (row_in order) (query_level query tables order))
+  pub differ : (subset : ℕ) (order : List ℕ) → IsOrderOfSet (entries_of_set subset) order → ChoicesAreDifferent (entries_of_set subset) (map (row_in order) (level_over_entries query tables order))
   differ subset order o = choices_differ (conjuncts_of query tables) (row_counts tables) (entries_of_set subset) order o
 
   pub within : (key : Keys) (b : EntryBounds) (subset : ℕ) (order : List ℕ) → AllByRecursion (JoinsEqualKeys tables key) (equalities_within subset (equalities_of query))
-      → BoundsScans b query tables key subset → IsOrderOfSet (entries_of_set subset) order → length (query_level query tables order) ≤ bound_of_set b (equalities_of query) subset
+      → BoundsScans b query tables key subset → IsOrderOfSet (entries_of_set subset) order → length (level_over_entries query tables order) ≤ bound_of_set b (equalities_of query) subset
   within key b subset order keys known o =
       level_within (conjuncts_of query tables) (row_counts tables) key (equalities_of query) subset order asks (asked key subset keys) o b known.lists (dominates key b subset known)

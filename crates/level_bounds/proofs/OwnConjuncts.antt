@@ -13,7 +13,7 @@ use Rattle.sql_meaning.specs.Answers.{conjunct_of, conjuncts_of}
 use Rattle.sql_meaning.specs.Conditions.{cond_holds}
 use Rattle.sql_meaning.specs.Levels.{names_just as names_just_it}
 use Rattle.sql_meaning.specs.Tables.{Tables, row_counts}
-use Rattle.level_bounds.specs.Scans.{filters_of, query_scan}
+use Rattle.level_bounds.specs.Scans.{own_conjuncts_of, query_scan}
 use Rattle.level_bounds.proofs.Lists.{from_filter, in_filter, in_range, range_within}
 
 -- the planner and the meaning of SQL have one definition of an entry's own conjuncts
@@ -31,10 +31,10 @@ module _ (tables : Tables) (entry row : ℕ) where
   ]
 
 pub scan_by_own : (query : Query) (tables : Tables) (entry : ℕ)
-    → query_scan query tables entry ≡ filter (λ row. list_all (cond_holds tables (λ e. row)) (filters_of query entry)) (range_with_len 0 (row_counts tables entry))
+    → query_scan query tables entry ≡ filter (λ row. list_all (cond_holds tables (λ e. row)) (own_conjuncts_of query entry)) (range_with_len 0 (row_counts tables entry))
 scan_by_own query tables entry =
     filter_agree (λ row. list_all (λ c. not (names_just_it c entry) || c.holds (λ e. row)) (conjuncts_of query tables))
-    (λ row. list_all (cond_holds tables (λ e. row)) (filters_of query entry)) (λ row. own_hold tables entry row query.conjuncts) (range_with_len 0 (row_counts tables entry))
+    (λ row. list_all (cond_holds tables (λ e. row)) (own_conjuncts_of query entry)) (λ row. own_hold tables entry row query.conjuncts) (range_with_len 0 (row_counts tables entry))
 
 -- ---- own conjuncts by their numbers
 
@@ -72,15 +72,15 @@ pub scan_by_number : (query : Query) (tables : Tables) (entry row : ℕ) → ent
     ↔ ((row < row_counts tables entry) × ((k : ℕ) → Contains (slice_index_or (local_of query) entry []) k
     → IsSomeAnd (slice_get query.conjuncts k) (λ cond. IsTrue (cond_holds tables (λ e. row) cond))))
 scan_by_number query tables entry row low = (
-  λ k. let parts : Contains (range_with_len 0 (row_counts tables entry)) row × (list_all passes (filters_of query entry) ≡ true) =
-      from_filter (λ row. list_all (cond_holds tables (λ e. row)) (filters_of query entry)) (range_with_len 0 (row_counts tables entry)) row
+  λ k. let parts : Contains (range_with_len 0 (row_counts tables entry)) row × (list_all passes (own_conjuncts_of query entry) ≡ true) =
+      from_filter (λ row. list_all (cond_holds tables (λ e. row)) (own_conjuncts_of query entry)) (range_with_len 0 (row_counts tables entry)) row
       (subst (λ (rows : List ℕ). Contains rows row) (scan_by_own query tables entry) k) in (
         omega (arith, (range_within 0 (row_counts tables entry) row parts.0).1),
         λ number at. each_from_all (names_just entry) passes query.conjuncts parts.1 number
             (number_passes (names_just entry) query.conjuncts number (subst (λ (numbers : List ℕ). Contains numbers number) (local_at query entry low) at)),
       ),
   λ h. subst (λ (rows : List ℕ). Contains rows row) (sym (scan_by_own query tables entry))
-      (in_filter (λ row. list_all (cond_holds tables (λ e. row)) (filters_of query entry)) (range_with_len 0 (row_counts tables entry)) row
+      (in_filter (λ row. list_all (cond_holds tables (λ e. row)) (own_conjuncts_of query entry)) (range_with_len 0 (row_counts tables entry)) row
       (in_range 0 (row_counts tables entry) row (omega arith) (omega (arith, h.0)))
       (all_from_each (names_just entry) passes query.conjuncts
       (λ number own. h.1 number (subst (λ (numbers : List ℕ). Contains numbers number) (sym (local_at query entry low)) (passing_is_numbered (names_just entry) query.conjuncts number own))))),

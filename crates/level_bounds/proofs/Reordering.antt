@@ -18,17 +18,17 @@ use Rattle.level_bounds.proofs.Choosing.{choice_back, choice_row, entry_in, entr
 module _ (conjuncts : List Conjunct) (rows : ℕ → ℕ) where
   -- ---- members of a level
 
-  pub record StandsIn (order choice : List ℕ) : Type 0 where
+  pub record IsLevelChoice (order choice : List ℕ) : Type 0 where
     pub chosen : IsChoiceOf rows order choice
     pub holds : all_hold conjuncts order (row_in order choice) ≡ true
 
-  pub stands : (order choice : List ℕ) → Contains (level_of conjuncts rows order) choice → StandsIn order choice
-  stands order choice k =
+  pub is_level_choice : (order choice : List ℕ) → Contains (level_of conjuncts rows order) choice → IsLevelChoice order choice
+  is_level_choice order choice k =
       let parts : Contains (choices_of rows order) choice × (all_hold conjuncts order (row_in order choice) ≡ true) =
       from_filter (λ choice. all_hold conjuncts order (row_in order choice)) (choices_of rows order) choice k in
       record { chosen = is_choice rows order choice parts.0; holds = parts.1 }
 
-  pub in_level : (order choice : List ℕ) → StandsIn order choice → Contains (level_of conjuncts rows order) choice
+  pub in_level : (order choice : List ℕ) → IsLevelChoice order choice → Contains (level_of conjuncts rows order) choice
   in_level order choice s =
       in_filter (λ choice. all_hold conjuncts order (row_in order choice)) (choices_of rows order) choice (has_choice rows order choice s.chosen) s.holds
 
@@ -48,7 +48,7 @@ module _ (conjuncts : List Conjunct) (rows : ℕ → ℕ) where
 
     pub moved : (choice : List ℕ) → Contains (level_of conjuncts rows order) choice → Contains (level_of conjuncts rows other) (reordered order other choice)
     moved choice k =
-        let s : StandsIn order choice = stands order choice k in
+        let s : IsLevelChoice order choice = is_level_choice order choice k in
         in_level other (reordered order other choice) (record {
           chosen = mapped_choice rows (row_in order choice) other
               (λ x here. choice_row rows order choice s.chosen x (in_true order x (entry_in set order o x (entry_of set other p x here))));
@@ -56,7 +56,7 @@ module _ (conjuncts : List Conjunct) (rows : ℕ → ℕ) where
         })
 
     pub back : (choice : List ℕ) → Contains (level_of conjuncts rows order) choice → map (row_in order choice) order ≡ choice
-    back choice k = choice_back order choice o.once (choice_length rows order choice (stands order choice k).chosen)
+    back choice k = choice_back order choice o.once (choice_length rows order choice (is_level_choice order choice k).chosen)
 
   module _ (set order other : List ℕ) (o : IsOrderOfSet set order) (p : IsOrderOfSet set other) where
     one_source : (c d : List ℕ) → Contains (level_of conjuncts rows order) c → Contains (level_of conjuncts rows order) d

@@ -13,14 +13,14 @@ use Rattle.tree_bounds.specs.SetBounds.{SetHasLists, bound_of_set}
 use Rattle.tree_bounds.specs.Tables.{ChoicesAreDifferent, SetDominates}
 use Rattle.tree_bounds.specs.TreeBounds.{EntryBounds}
 use Rattle.tree_bounds.proofs.Scanned.{equalities_inside, scanned_within}
-use Rattle.sql_meaning.specs.Levels.{AsksOnly, Conjunct, level_of, names_just, names_only, row_in, scan}
+use Rattle.sql_meaning.specs.Levels.{DependsOnNamed, Conjunct, level_of, names_just, names_only, row_in, scan}
 use Rattle.sql_meaning.proofs.LevelFacts.{names_at}
 use Rattle.level_bounds.specs.Equalities.{IsImplied}
 use Rattle.level_bounds.specs.Keys.{Keys}
 use Rattle.level_bounds.specs.Orders.{IsOrderOfSet}
 use Rattle.level_bounds.proofs.Lists.{all_from, all_true, each_of, from_map, in_filter, in_range, in_true, is_in, map_alike, same_at, true_for_all, true_in}
 use Rattle.level_bounds.proofs.Choosing.{choice_row, entry_in, entry_of}
-use Rattle.level_bounds.proofs.Reordering.{stands, level_differs, back}
+use Rattle.level_bounds.proofs.Reordering.{is_level_choice, level_differs, back}
 
 names_more : (entries few many : List ℕ) → ((x : ℕ) → Contains few x → Contains many x) → list_all (is_in few) entries ≡ true → list_all (is_in many) entries ≡ true
 names_more entries few many more h = true_for_all (is_in many) entries (λ x k. in_true many x (more x (true_in few x (all_true (is_in few) entries h x k))))
@@ -37,14 +37,14 @@ module _ (conjuncts : List Conjunct) (rows : ℕ → ℕ) (set order : List ℕ)
   holds_within : (choice : List ℕ) → Contains (level_of conjuncts rows order) choice → (c : Conjunct) → Contains conjuncts c → names_only c order ≡ true → c.holds (row_in order choice) ≡ true
   holds_within choice k c there names =
       implied (names_only c order) (c.holds (row_in order choice))
-      (all_true (λ c. not (names_only c order) || c.holds (row_in order choice)) conjuncts (stands conjuncts rows order choice k).holds c there) names
+      (all_true (λ c. not (names_only c order) || c.holds (row_in order choice)) conjuncts (is_level_choice conjuncts rows order choice k).holds c there) names
 
   row_low : (choice : List ℕ) → Contains (level_of conjuncts rows order) choice → (x : ℕ) → Contains set x → row_in order choice x < rows x
-  row_low choice k x here = choice_row rows order choice (stands conjuncts rows order choice k).chosen x (in_true order x (entry_in set order o x here))
+  row_low choice k x here = choice_row rows order choice (is_level_choice conjuncts rows order choice k).chosen x (in_true order x (entry_in set order o x here))
 
-  module _ (asks : AllByRecursion AsksOnly conjuncts) where
+  module _ (asks : AllByRecursion DependsOnNamed conjuncts) where
     asks_row : (c : Conjunct) → Contains conjuncts c → (entry : ℕ) (f : ℕ → ℕ) → names_only c (entry ∷ []) ≡ true → c.holds (λ e. f entry) ≡ c.holds f
-    asks_row c there entry f names = each_of AsksOnly conjuncts asks c there (λ e. f entry) f (λ x here. ap f (alone x here))
+    asks_row c there entry f names = each_of DependsOnNamed conjuncts asks c there (λ e. f entry) f (λ x here. ap f (alone x here))
       where
         alone : (x : ℕ) → is_in c.entries x ≡ true → entry ≡ x
         alone x here = elim (or_cases (eqb x entry) false (names_at c.entries (entry ∷ []) names x here)) [
@@ -105,7 +105,7 @@ module _ (conjuncts : List Conjunct) (rows : ℕ → ℕ) (set order : List ℕ)
           ∙ back conjuncts rows set order order o o y l
 
 module _ (conjuncts : List Conjunct) (rows : ℕ → ℕ) (key : Keys) (es : List Edge) (subset : ℕ) (order : List ℕ)
-    (asks : AllByRecursion AsksOnly conjuncts) (asked : AllByRecursion (IsImplied conjuncts rows key) (equalities_within subset es)) (o : IsOrderOfSet (entries_of_set subset) order) where
+    (asks : AllByRecursion DependsOnNamed conjuncts) (asked : AllByRecursion (IsImplied conjuncts rows key) (equalities_within subset es)) (o : IsOrderOfSet (entries_of_set subset) order) where
   all_equal : (choice : List ℕ) → Contains (level_of conjuncts rows order) choice → (edges : List Edge) → AreWithin (entries_of_set subset) edges → AllByRecursion (IsImplied conjuncts rows key) edges
       → AllByRecursion (λ e. key e.left.entry e.left.column (row_in order choice e.left.entry) ≡ key e.right.entry e.right.column (row_in order choice e.right.entry)) edges
   all_equal choice k [] inside asked' = tt

@@ -16,7 +16,7 @@ use Rattle.tree_bounds.specs.Examples.{triangle_bounds}
 use Rattle.tree_bounds.specs.TreeBounds.{HasList}
 use Rattle.sql_meaning.specs.Answers.{conjuncts_of}
 use Rattle.sql_meaning.specs.Choices.{choices_of}
-use Rattle.sql_meaning.specs.Conditions.{comparison_says, cond_holds}
+use Rattle.sql_meaning.specs.Conditions.{comparison_holds, cond_holds}
 use Rattle.sql_meaning.specs.Examples.{column_at, triangle, triangle_tables}
 use Rattle.sql_meaning.specs.Levels.{all_hold, row_in}
 use Rattle.sql_meaning.specs.Tables.{row_counts}
@@ -24,7 +24,7 @@ use Rattle.sql_meaning.proofs.ConditionFacts.{holds_compare}
 use Rattle.level_bounds.specs.Examples.{three_tables, triangle_level, triangle_scan}
 use Rattle.level_bounds.specs.Keys.{cell_at}
 use Rattle.level_bounds.specs.Orders.{IsOrderOfSet}
-use Rattle.level_bounds.specs.Scans.{BoundsEachScan, BoundsScans, DominatesScan, filters_of}
+use Rattle.level_bounds.specs.Scans.{BoundsEachScan, BoundsScans, DominatesScan, own_conjuncts_of}
 use Rattle.level_bounds.specs.Whole.{AreCompressed}
 use Rattle.level_bounds.proofs.Lists.{is_in}
 use Rattle.level_bounds.proofs.NearWhole.{whole_bounds, whole_scan}
@@ -38,7 +38,7 @@ triangle_joined =
 -- ---- levels
 
 abbrev side : List ℕ → (ℕ → ℕ) → ℕ → ℕ → ℕ → ℕ → Bool
-side order row_of a i b j = not (list_all (is_in order) (a ∷ b ∷ [])) || comparison_says three_tables row_of op.Eq (column_at a i) (column_at b j)
+side order row_of a i b j = not (list_all (is_in order) (a ∷ b ∷ [])) || comparison_holds three_tables row_of op.Eq (column_at a i) (column_at b j)
 
 abbrev sides_hold : List ℕ → (ℕ → ℕ) → Bool
 sides_hold order row_of = side order row_of 0 0 1 0 && (side order row_of 1 1 2 0 && (side order row_of 2 1 0 1 && true))
@@ -58,13 +58,13 @@ triangle_level_is order =
 
 -- ---- scans and bounds
 
-pub none_own_0 : filters_of triangle 0 ≡ []
+pub none_own_0 : own_conjuncts_of triangle 0 ≡ []
 none_own_0 = rw (entries_compare op.Eq (column_at 0 0) (column_at 1 0), entries_compare op.Eq (column_at 1 1) (column_at 2 0), entries_compare op.Eq (column_at 2 1) (column_at 0 1)) refl
 
-pub none_own_1 : filters_of triangle 1 ≡ []
+pub none_own_1 : own_conjuncts_of triangle 1 ≡ []
 none_own_1 = rw (entries_compare op.Eq (column_at 0 0) (column_at 1 0), entries_compare op.Eq (column_at 1 1) (column_at 2 0), entries_compare op.Eq (column_at 2 1) (column_at 0 1)) refl
 
-pub none_own_2 : filters_of triangle 2 ≡ []
+pub none_own_2 : own_conjuncts_of triangle 2 ≡ []
 none_own_2 = rw (entries_compare op.Eq (column_at 0 0) (column_at 1 0), entries_compare op.Eq (column_at 1 1) (column_at 2 0), entries_compare op.Eq (column_at 2 1) (column_at 0 1)) refl
 
 pub triangle_scan_1 : triangle_scan 1 ≡ 0 ∷ 1 ∷ 2 ∷ []

@@ -2,7 +2,7 @@
 use Rattle.std.specs.Prelude.{ℕ, List}
 use Rattle.sql_meaning.specs.Examples.{triangle, triangle_tables}
 use Rattle.sql_meaning.specs.Tables.{Tables, tables_of}
-use Rattle.level_bounds.specs.Scans.{query_level, query_scan}
+use Rattle.level_bounds.specs.Scans.{level_over_entries, query_scan}
 
 -- the tables of R(A, C), S(A, B) and T(B, C), each of three rows
 abbrev pub three_tables : Tables
@@ -13,4 +13,4 @@ abbrev pub triangle_scan : ℕ → List ℕ
 triangle_scan entry = query_scan triangle three_tables entry
 
 abbrev pub triangle_level : List ℕ → List (List ℕ)
-triangle_level order = query_level triangle three_tables order
+triangle_level order = level_over_entries triangle three_tables order

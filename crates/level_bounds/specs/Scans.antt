@@ -21,12 +21,12 @@ abbrev pub query_scan : Query → Tables → ℕ → List ℕ
 query_scan query tables entry = scan (conjuncts_of query tables) (row_counts tables) entry
 
 -- the choices of the level over these entries, in this order
-abbrev pub query_level : Query → Tables → List ℕ → List (List ℕ)
-query_level query tables order = level_of (conjuncts_of query tables) (row_counts tables) order
+abbrev pub level_over_entries : Query → Tables → List ℕ → List (List ℕ)
+level_over_entries query tables order = level_of (conjuncts_of query tables) (row_counts tables) order
 
 -- the conjuncts that name the entry and no other entry
-abbrev pub filters_of : Query → ℕ → List Cond
-filters_of query entry = filter (names_just entry) query.conjuncts
+abbrev pub own_conjuncts_of : Query → ℕ → List Cond
+own_conjuncts_of query entry = filter (names_just entry) query.conjuncts
 
 -- the equalities of the query that join two entries of a set
 abbrev pub equalities_in : Query → ℕ → List Edge

@@ -20,12 +20,12 @@ ghost use Rattle.csv_tables.specs.Pools.{TextsAreDifferent as AreDifferentTexts}
 ghost use Rattle.sql_meaning.specs.Answers.{answer, conjunct_of, conjuncts_of, entries_of, selected};
 ghost use Rattle.sql_meaning.specs.Conditions.{cond_holds};
 ghost use Rattle.sql_meaning.specs.Databases.{IsColumnOf, IsDatabaseOf};
-ghost use Rattle.sql_meaning.specs.Levels.{AsksOnly, Conjunct, level, level_of, names_just as names_just_it, row_in, scan};
+ghost use Rattle.sql_meaning.specs.Levels.{DependsOnNamed, Conjunct, level, level_of, names_just as names_just_it, row_in, scan};
 ghost use Rattle.sql_meaning.specs.Tables.{Tables, cells_of, row_counts, tables_of};
 ghost use Rattle.level_bounds.specs.Equalities.{IsImplied};
 ghost use Rattle.level_bounds.specs.Keys.{AreKeys, HaveDifferentCharacters, Keys, are_equal_at, cell_at};
 ghost use Rattle.level_bounds.specs.Orders.{IsOrderOfSet, reordered};
-ghost use Rattle.level_bounds.specs.Scans.{BoundsEachScan, BoundsScans, equalities_in, filters_of, query_level, query_scan};
+ghost use Rattle.level_bounds.specs.Scans.{BoundsEachScan, BoundsScans, equalities_in, own_conjuncts_of, level_over_entries, query_scan};
 ghost use Rattle.level_bounds.specs.Whole.{AreCompressed, keys_of, uncompressed};
 
 /// The planner and the meaning of SQL agree which conjuncts are an entry's own. The entry's scan has the rows for which all
@@ -34,7 +34,7 @@ pub fn scans_ask_local_conjuncts()
     ensures same { (tables : Tables) (entry : ℕ) (cond : Cond) → names_just_it (conjunct_of tables cond) entry ≡ names_just entry cond }
     ensures scan { (query : Query) (tables : Tables) (entry : ℕ)
         → query_scan query tables entry
-        ≡ filter (λ row. list_all (cond_holds tables (λ e. row)) (filters_of query entry)) (range_with_len 0 (row_counts tables entry)) }
+        ≡ filter (λ row. list_all (cond_holds tables (λ e. row)) (own_conjuncts_of query entry)) (range_with_len 0 (row_counts tables entry)) }
     ensures by_number { (query : Query) (tables : Tables) (entry row : ℕ) → entry < length query.from
         → Contains (query_scan query tables entry) row
         ↔ ((row < row_counts tables entry) × ((k : ℕ) → Contains (slice_index_or (local_of query) entry []) k
@@ -76,9 +76,9 @@ pub fn levels_are_choices_of_scanned_rows()
     ensures satisfy { (query : Query) (tables : Tables) (key : Keys) (subset : ℕ) (order : List ℕ)
         → AreKeys tables key (equalities_in query subset) → IsOrderOfSet (entries_of_set subset) order
         → AllByRecursion (SatisfiesScanned (query_scan query tables) key (entries_of_set subset) (equalities_in query subset))
-        (map (row_in order) (query_level query tables order)) }
+        (map (row_in order) (level_over_entries query tables order)) }
     ensures different { (query : Query) (tables : Tables) (subset : ℕ) (order : List ℕ) → IsOrderOfSet (entries_of_set subset) order
-        → ChoicesAreDifferent (entries_of_set subset) (map (row_in order) (query_level query tables order)) }
+        → ChoicesAreDifferent (entries_of_set subset) (map (row_in order) (level_over_entries query tables order)) }
 {}
 
 /// No bound is too low: a level over the entries of a set, in any order, has at most as many rows as the bound of the set.
@@ -87,7 +87,7 @@ pub fn levels_are_never_under()
     ensures database { (query : Query) (db : Database) (b : EntryBounds) (subset : ℕ) (order : List ℕ)
         → IsDatabaseOf query db → HaveDifferentCharacters db.pool → BoundsScans b query (tables_of db) (cell_at db) subset
         → IsOrderOfSet (entries_of_set subset) order
-        → length (query_level query (tables_of db) order) ≤ bound_of_set b (equalities_of query) subset }
+        → length (level_over_entries query (tables_of db) order) ≤ bound_of_set b (equalities_of query) subset }
     // for level k of an order of all entries; its set is the first k entries
     ensures levels { (query : Query) (db : Database) (b : EntryBounds) (order : List ℕ) (k : ℕ)
         → IsDatabaseOf query db → HaveDifferentCharacters db.pool → BoundsEachScan b query (tables_of db) (cell_at db)
@@ -98,10 +98,10 @@ pub fn levels_are_never_under()
     ensures tables { (query : Query) (tables : Tables) (key : Keys) (b : EntryBounds) (subset : ℕ) (order : List ℕ)
         → AreKeys tables key (equalities_in query subset) → BoundsScans b query tables key subset
         → IsOrderOfSet (entries_of_set subset) order
-        → length (query_level query tables order) ≤ bound_of_set b (equalities_of query) subset }
+        → length (level_over_entries query tables order) ≤ bound_of_set b (equalities_of query) subset }
     // for any conjuncts, if each equality of the set follows from one of them
     ensures conjuncts { (conjuncts : List Conjunct) (rows : ℕ → ℕ) (key : Keys) (es : List Edge) (b : EntryBounds) (subset : ℕ)
-        (order : List ℕ) → AllByRecursion AsksOnly conjuncts → AllByRecursion (IsImplied conjuncts rows key) (equalities_within subset es)
+        (order : List ℕ) → AllByRecursion DependsOnNamed conjuncts → AllByRecursion (IsImplied conjuncts rows key) (equalities_within subset es)
         → SetHasLists b es subset → SetDominates b (scanned (scan conjuncts rows) key) es subset
         → IsOrderOfSet (entries_of_set subset) order → length (level_of conjuncts rows order) ≤ bound_of_set b es subset }
 {}
@@ -126,20 +126,20 @@ pub fn levels_are_of_sets()
 /// as in the answer.
 pub fn last_levels_are_the_answer()
     ensures tables { (query : Query) (tables : Tables) (order : List ℕ) → NamesItsEntries query → IsOrderOfSet (entries_of query) order
-        → IsPermutation (map (λ choice. selected query tables (row_in order choice)) (query_level query tables order))
+        → IsPermutation (map (λ choice. selected query tables (row_in order choice)) (level_over_entries query tables order))
         (answer query tables) }
     ensures database { (query : Query) (db : Database) (order : List ℕ) → IsDatabaseOf query db → IsOrderOfSet (entries_of query) order
-        → IsPermutation (map (λ choice. selected query (tables_of db) (row_in order choice)) (query_level query (tables_of db) order))
+        → IsPermutation (map (λ choice. selected query (tables_of db) (row_in order choice)) (level_over_entries query (tables_of db) order))
         (answer query (tables_of db)) }
 {}
 
 /// The scan of an entry without own conjuncts is its whole table. Bounds from compressed degree lists of whole tables hold
 /// for these scans.
 pub fn unfiltered_scans_are_whole_tables()
-    ensures whole { (query : Query) (tables : Tables) (entry : ℕ) → filters_of query entry ≡ []
+    ensures whole { (query : Query) (tables : Tables) (entry : ℕ) → own_conjuncts_of query entry ≡ []
         → query_scan query tables entry ≡ range_with_len 0 (row_counts tables entry) }
     ensures bounded { (query : Query) (tables : Tables) (key : Keys) (accuracy : ℕ) (b : EntryBounds) (subset : ℕ)
-        → AllByRecursion (λ entry. filters_of query entry ≡ []) (entries_of_set subset)
+        → AllByRecursion (λ entry. own_conjuncts_of query entry ≡ []) (entries_of_set subset)
         → AreCompressed accuracy b tables key (equalities_of query) subset → BoundsScans b query tables key subset }
 {}
 

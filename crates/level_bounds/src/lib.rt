@@ -9,7 +9,7 @@
 //! - If no conjunct of a set's entries names one entry alone, the bound of the set is near its bound from the degree lists
 //!   of whole tables (SafeBound, SIGMOD 2023).
 //!
-//! Callers cite `query_scan`, `query_level` and `BoundsEachScan`. They also cite `IsOrderOfSet` for a set in an order, and
+//! Callers cite `query_scan`, `level_over_entries` and `BoundsEachScan`. They also cite `IsOrderOfSet` for a set in an order, and
 //! `AreCompressed` and `uncompressed` for the bounds of whole tables.
 #![tactic(auto)]
 

@@ -51,8 +51,8 @@ least_budget = 1
 abbrev pub most_budget : ℕ
 most_budget = 20000000
 
-abbrev pub usual_budget : ℕ
-usual_budget = 1000000
+abbrev pub default_budget : ℕ
+default_budget = 1000000
 
 -- the most rows of a table that lists accept, and the greatest budget that searches accept, whatever a program allows. Twelve bounds within
 -- this budget have a sum below 2^63
@@ -69,8 +69,8 @@ least_accuracy = 1
 abbrev pub most_accuracy : ℕ
 most_accuracy = 64
 
-abbrev pub usual_accuracy : ℕ
-usual_accuracy = 1
+abbrev pub default_accuracy : ℕ
+default_accuracy = 1
 
 -- the greatest number of 128 bits. As a bound it means this number or more
 abbrev pub top_bound : ℕ

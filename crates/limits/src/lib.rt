@@ -53,7 +53,7 @@ pub const GREATEST_ROWS: u64 = 1 << 48;
 pub const GREATEST_BUDGET: u64 = 1 << 59;
 
 /// The default budget, in rows.
-pub const USUAL_BUDGET: u64 = 1_000_000;
+pub const DEFAULT_BUDGET: u64 = 1_000_000;
 
 /// The least accuracy of compressed lists.
 pub const LEAST_ACCURACY: u8 = 1;
@@ -62,7 +62,7 @@ pub const LEAST_ACCURACY: u8 = 1;
 pub const MOST_ACCURACY: u8 = 64;
 
 /// The default accuracy.
-pub const USUAL_ACCURACY: u8 = 1;
+pub const DEFAULT_ACCURACY: u8 = 1;
 
 /// The greatest number of 128 bits. As a bound it means this number or more.
 pub const TOP_BOUND: u128 = u128::MAX;
@@ -76,9 +76,9 @@ pub fn limits_are_named()
     ensures entries { MOST_ENTRIES ≡ profile.most_entries }
     ensures queries { (MOST_VALUES ≡ profile.most_values) × (MOST_CONJUNCTS ≡ profile.most_conjuncts)
         × (MOST_OUTPUTS ≡ profile.most_outputs) }
-    ensures budget { (LEAST_BUDGET ≡ profile.least_budget) × (MOST_BUDGET ≡ profile.most_budget) × (USUAL_BUDGET ≡ profile.usual_budget) }
+    ensures budget { (LEAST_BUDGET ≡ profile.least_budget) × (MOST_BUDGET ≡ profile.most_budget) × (DEFAULT_BUDGET ≡ profile.default_budget) }
     ensures greatest { (GREATEST_ROWS ≡ profile.greatest_rows) × (GREATEST_BUDGET ≡ profile.greatest_budget) }
     ensures accuracy { (LEAST_ACCURACY ≡ profile.least_accuracy) × (MOST_ACCURACY ≡ profile.most_accuracy)
-        × (USUAL_ACCURACY ≡ profile.usual_accuracy) }
+        × (DEFAULT_ACCURACY ≡ profile.default_accuracy) }
     ensures bound { TOP_BOUND ≡ profile.top_bound }
 {}

@@ -4,7 +4,7 @@ use Rattle.std.proofs.Common.{◌≡◌, ℕ, zero, suc, cond, Option, Some, Non
 use Rattle.ll_grammars.specs.declared.lexeme.Lexeme.{Lexeme}
 use Rattle.ll_grammars.specs.declared.terminal.Terminal.{Terminal}
 use Rattle.ll_grammars.specs.Language.{Language}
-use Rattle.ll_grammars.specs.Reading.{Parser, Answer, next, ◌>>=◌, starts, give, read_second, read_then, read_made, read_maybe, read_others, read_up_to, read_many}
+use Rattle.ll_grammars.specs.Reading.{Parser, Answer, next, ◌>>=◌, starts, give, read_second, read_then, read_mapped, read_maybe, read_others, read_up_to, read_many}
 use Rattle.ll_grammars.specs.Reads.{FirstAndFollow, Splits, Reads}
 
 abbrev pub AreAlikeOn : {A : Type 0} → (List Lexeme → Type 0) → Parser A → Parser A → Type 0
@@ -32,7 +32,7 @@ module _ (P : List Lexeme → Type 0) where
   pub then_alike : {A B : Type 0} (p p' : Parser A) (q q' : Parser B) → StaysIn P p → AreAlikeOn P p p' → AreAlikeOn P q q' → AreAlikeOn P (read_then p q) (read_then p' q')
   then_alike p p' q q' stay same same' = bind_alike p p' (read_second q) (read_second q') stay same (λ a text holds. ap (λ x. x >>= λ b. give (a, b)) (same' text holds))
 
-  pub made_alike : {A B : Type 0} (f : A → B) (p p' : Parser A) → AreAlikeOn P p p' → AreAlikeOn P (read_made f p) (read_made f p')
+  pub made_alike : {A B : Type 0} (f : A → B) (p p' : Parser A) → AreAlikeOn P p p' → AreAlikeOn P (read_mapped f p) (read_mapped f p')
   made_alike f p p' same text holds = ap (λ x. x >>= λ a. give (f a)) (same text holds)
 
   pub maybe_alike : {A : Type 0} (first : List Terminal) (p p' : Parser A) → AreAlikeOn P p p' → AreAlikeOn P (read_maybe first p) (read_maybe first p')

@@ -4,19 +4,19 @@ use Rattle.ll_grammars.specs.declared.lexeme.Lexeme.{Lexeme}
 use Rattle.ll_grammars.specs.declared.terminal.Terminal.{Terminal}
 use Rattle.ll_grammars.specs.declared.terminal.Terminal.TheVariants as terminal
 use Rattle.ll_grammars.specs.Terminals.{among, apart}
-use Rattle.ll_grammars.specs.Language.{Language, ◌▸◌, made, ◌∪◌, maybe, many}
-use Rattle.ll_grammars.specs.Reading.{Parser, read_then, read_made, read_either, read_maybe, read_many}
+use Rattle.ll_grammars.specs.Language.{Language, ◌▸◌, mapped, ◌∪◌, maybe, many}
+use Rattle.ll_grammars.specs.Reading.{Parser, read_then, read_mapped, read_either, read_maybe, read_many}
 use Rattle.ll_grammars.specs.Reads.{FirstAndFollow, Reads, BeginsIn, Splits}
 use Rattle.ll_grammars.specs.Rules.{middle, word, in_parentheses, read_word, read_in_parentheses}
-use Rattle.ll_grammars.proofs.Sets.{among_right, Stops-right}
-use Rattle.ll_grammars.proofs.Steps.{one_shape, then_shape, either_shape, maybe_shape, reads_one, reads_then, reads_made, reads_either, reads_maybe}
+use Rattle.ll_grammars.proofs.Sets.{among_right, BeginsOutside-right}
+use Rattle.ll_grammars.proofs.Steps.{one_shape, then_shape, either_shape, maybe_shape, reads_one, reads_then, reads_mapped, reads_either, reads_maybe}
 use Rattle.ll_grammars.proofs.Repeats.{many_shape, reads_many}
 
 pub row : {A B : Type 0} {L : Language A} {M : Language B} {s t : FirstAndFollow} {p : Parser A} {q : Parser B} → Reads L s p → Reads M t q → apart s.more t.first ≡ true → Reads (L ▸ M) (then_shape s t) (read_then p q)
 row first second h = reads_then _ _ _ _ _ _ first second h
 
-pub value : {A B : Type 0} {L : Language A} {s : FirstAndFollow} {p : Parser A} → (f : A → B) → Reads L s p → Reads (made f L) s (read_made f p)
-value f reads = reads_made _ f _ _ reads
+pub value : {A B : Type 0} {L : Language A} {s : FirstAndFollow} {p : Parser A} → (f : A → B) → Reads L s p → Reads (mapped f L) s (read_mapped f p)
+value f reads = reads_mapped _ f _ _ reads
 
 pub choice : {A : Type 0} {L M : Language A} {s t : FirstAndFollow} {p q : Parser A} → Reads L s p → Reads M t q → s.nullable ≡ false → t.nullable ≡ false → apart s.first t.first ≡ true → Reads (L ∪ M) (either_shape s t) (read_either s.first p q)
 choice first second full full' h = reads_either _ _ _ _ _ _ first second full full' h
@@ -69,7 +69,7 @@ right_only {A = A} {L = L} {M = M} {t = t} {q = q} s none reads full = record {
   some = record { more = reads.some.more; value = reads.some.value; spelled = inr reads.some.spelled };
   begins = λ text v l. elim l [ inl a ↦ absurd (none text v a) | inr m ↦ wider text (reads.begins text v m) ];
   splits = λ text. split text (q text).0 (q text).1 (reads.splits text);
-  complete = λ front rest v l stop. elim l [ inl a ↦ absurd (none front v a) | inr m ↦ reads.complete front rest v m (Stops-right s.more t.more rest stop) ];
+  complete = λ front rest v l stop. elim l [ inl a ↦ absurd (none front v a) | inr m ↦ reads.complete front rest v m (BeginsOutside-right s.more t.more rest stop) ];
   looks = reads.looks;
 } where
   wider : (text : List Lexeme) → BeginsIn t text → BeginsIn (either_shape s t) text

@@ -6,7 +6,7 @@ use Rattle.ll_grammars.specs.Language.{Language, GoesWrong}
 use Rattle.ll_grammars.specs.Reading.{Parser}
 use Rattle.ll_grammars.specs.Reads.{FirstAndFollow, Reads}
 use Rattle.ll_grammars.specs.Rules.{place, is_empty}
-use Rattle.ll_grammars.specs.Places.{IsSyntaxPlace}
+use Rattle.ll_grammars.specs.Places.{IsSyntaxErrorAt}
 use Rattle.ll_grammars.proofs.Theory.{goes_wrong, spells, found, one_value}
 
 empty_is : (rest : List Lexeme) → is_empty rest ≡ true → rest ≡ []
@@ -16,12 +16,12 @@ empty_is (t ∷ rest) h = absurd cc
 pub spelled : {A : Type 0} {L : Language A} {s : FirstAndFollow} {p : Parser A} → Reads L s p → (tokens : List Lexeme) (value : A) (rest : List Lexeme) → p tokens ≡ (Some value, rest) → is_empty rest ≡ true → L tokens value
 spelled reads tokens value rest e h = spells _ _ _ reads tokens value (e ∙ ap (λ x. (Some value, x)) (empty_is rest h))
 
-pub wrong_after : {A : Type 0} {L : Language A} {s : FirstAndFollow} {p : Parser A} → Reads L s p → (tokens : List Lexeme) (value : A) (rest : List Lexeme) (text_len at : ℕ) → p tokens ≡ (Some value, rest) → is_empty rest ≡ false → at ≡ place rest text_len → IsSyntaxPlace L tokens text_len at
+pub wrong_after : {A : Type 0} {L : Language A} {s : FirstAndFollow} {p : Parser A} → Reads L s p → (tokens : List Lexeme) (value : A) (rest : List Lexeme) (text_len at : ℕ) → p tokens ≡ (Some value, rest) → is_empty rest ≡ false → at ≡ place rest text_len → IsSyntaxErrorAt L tokens text_len at
 wrong_after {A = A} {L = L} {s = s} {p = p} reads tokens value rest text_len at e h here =
     let other : (v : A) → p tokens ≡ (Some v, []) → ⊥ = λ v f. (let k : rest ≡ [] = ap (λ x. x.1) (sym e ∙ f) in let k' : is_empty rest ≡ true = rw k refl in cc) in
     record { rest = rest; wrong = subst (λ x. GoesWrong L tokens x) (ap (λ x. x.1) e) (goes_wrong _ _ _ reads tokens other); here = here }
 
-pub wrong_at : {A : Type 0} {L : Language A} {s : FirstAndFollow} {p : Parser A} → Reads L s p → (tokens : List Lexeme) (rest : List Lexeme) (text_len at : ℕ) → p tokens ≡ (None, rest) → at ≡ place rest text_len → IsSyntaxPlace L tokens text_len at
+pub wrong_at : {A : Type 0} {L : Language A} {s : FirstAndFollow} {p : Parser A} → Reads L s p → (tokens : List Lexeme) (rest : List Lexeme) (text_len at : ℕ) → p tokens ≡ (None, rest) → at ≡ place rest text_len → IsSyntaxErrorAt L tokens text_len at
 wrong_at {A = A} {L = L} {s = s} {p = p} reads tokens rest text_len at e here =
     let other : (v : A) → p tokens ≡ (Some v, []) → ⊥ = λ v f. (let k : ◌≡◌ {A = Option A} None (Some v) = ap (λ x. x.0) (sym e ∙ f) in cc) in
     record { rest = rest; wrong = subst (λ x. GoesWrong L tokens x) (ap (λ x. x.1) e) (goes_wrong _ _ _ reads tokens other); here = here }

@@ -3,7 +3,7 @@ use Rattle.std.proofs.Common.{inl, inr, All, Contains, IfSome, List, [], ◌∷�
 use Rattle.std.proofs.lemmas.List.Elements.{All-nil, All-cons, All-head, All-tail, All-contains_itself}
 use Rattle.ll_grammars.specs.declared.lexeme.Lexeme.{Lexeme}
 use Rattle.ll_grammars.specs.declared.terminal.Terminal.{Terminal}
-use Rattle.ll_grammars.specs.Language.{Language, one, ◌▸◌, made, ◌∪◌, maybe, many}
+use Rattle.ll_grammars.specs.Language.{Language, one, ◌▸◌, mapped, ◌∪◌, maybe, many}
 use Rattle.ll_grammars.specs.Keeping.{Keeps, IsOneOf}
 
 all_front : {X : Type 0} (P : X → Type 0) (front rest : List X) → All P (front ++ rest) → All P front
@@ -24,8 +24,8 @@ keeps_then {P = P} first second = record {
       (first.kept l.front values.0 l.first (all_front P l.front l.rest parts), second.kept l.rest values.1 l.second (all_rest P l.front l.rest parts));
 }
 
-pub keeps_made : {P : Lexeme → Type 0} {A B : Type 0} {L : Language A} {Q : A → Type 0} (f : A → B) (R : B → Type 0) → Keeps P L Q → ((a : A) → Q a → R (f a)) → Keeps P (made f L) R
-keeps_made f R inner step = record { kept = λ text value l h. subst R l.1 (step l.0 (inner.kept text l.0 l.2 h)) }
+pub keeps_mapped : {P : Lexeme → Type 0} {A B : Type 0} {L : Language A} {Q : A → Type 0} (f : A → B) (R : B → Type 0) → Keeps P L Q → ((a : A) → Q a → R (f a)) → Keeps P (mapped f L) R
+keeps_mapped f R inner step = record { kept = λ text value l h. subst R l.1 (step l.0 (inner.kept text l.0 l.2 h)) }
 
 pub keeps_union : {P : Lexeme → Type 0} {A : Type 0} {L M : Language A} {Q : A → Type 0} → Keeps P L Q → Keeps P M Q → Keeps P (L ∪ M) Q
 keeps_union left right = record { kept = λ text value l h. elim l [ inl a ↦ left.kept text value a h | inr b ↦ right.kept text value b h ] }

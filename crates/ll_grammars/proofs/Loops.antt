@@ -5,9 +5,9 @@ use Rattle.ll_grammars.specs.declared.lexeme.Lexeme.{Lexeme}
 use Rattle.ll_grammars.specs.declared.stop.Stop.{Stop}
 use Rattle.ll_grammars.specs.declared.stop.Stop.TheVariants as stop
 use Rattle.ll_grammars.specs.Language.{Language}
-use Rattle.ll_grammars.specs.Reading.{Parser, Answer, next, ◌>>=◌, starts, give, read_then, read_made, read_others, read_many, with_front}
+use Rattle.ll_grammars.specs.Reading.{Parser, Answer, next, ◌>>=◌, starts, give, read_then, read_mapped, read_others, read_many, with_front}
 use Rattle.ll_grammars.specs.Rules.{IsReadAs}
-use Rattle.ll_grammars.specs.Rules.{all}
+use Rattle.ll_grammars.specs.Rules.{first_and_others}
 use Rattle.ll_grammars.specs.Reads.{FirstAndFollow, Splits, Reads}
 use Rattle.ll_grammars.proofs.Repeats.{many_step, many_stop, begins_length}
 
@@ -15,11 +15,11 @@ pub front_others : {A : Type 0} → (front : List A) (a : A) (o : Option (List A
 front_others front a None end = refl
 front_others front a (Some others) end = ap (λ x. (Some x, end)) (sym (append_assoc front (a ∷ []) others))
 
-listed_at : {A : Type 0} → (a : A) (o : Option (List A)) (end : List Lexeme) → with_front (a ∷ []) (o, end) ≡ (next {B = A × List A} o end (λ b. give (a, b)) >>= λ parts. give (all parts))
+listed_at : {A : Type 0} → (a : A) (o : Option (List A)) (end : List Lexeme) → with_front (a ∷ []) (o, end) ≡ (next {B = A × List A} o end (λ b. give (a, b)) >>= λ parts. give (first_and_others parts))
 listed_at a None end = refl
 listed_at a (Some others) end = refl
 
-pub listed_start : {A : Type 0} → (p : Parser A) (m : Parser (List A)) (text : List Lexeme) (a : A) (rest : List Lexeme) → p text ≡ (Some a, rest) → with_front (a ∷ []) (m rest) ≡ read_made all (read_then p m) text
+pub listed_start : {A : Type 0} → (p : Parser A) (m : Parser (List A)) (text : List Lexeme) (a : A) (rest : List Lexeme) → p text ≡ (Some a, rest) → with_front (a ∷ []) (m rest) ≡ read_mapped first_and_others (read_then p m) text
 listed_start p m text a rest e = rw e (listed_at a (m rest).0 (m rest).1)
 
 pub many_start : {A : Type 0} → (answer : Answer (List A)) → with_front [] answer ≡ answer

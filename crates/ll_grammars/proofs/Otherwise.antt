@@ -4,8 +4,8 @@ use Rattle.ll_grammars.specs.declared.lexeme.Lexeme.{Lexeme}
 use Rattle.ll_grammars.specs.Terminals.{apart}
 use Rattle.ll_grammars.specs.Language.{Language, ◌∪◌}
 use Rattle.ll_grammars.specs.Reading.{Parser, starts, read_either}
-use Rattle.ll_grammars.specs.Reads.{FirstAndFollow, BeginsIn, Stops, SameHead, Splits, Reads}
-use Rattle.ll_grammars.proofs.Sets.{apart_false, among_left, among_right, Stops-left, Stops-right, Stops-starts, starts_same, starts_front}
+use Rattle.ll_grammars.specs.Reads.{FirstAndFollow, BeginsIn, BeginsOutside, SameHead, Splits, Reads}
+use Rattle.ll_grammars.proofs.Sets.{apart_false, among_left, among_right, BeginsOutside-left, BeginsOutside-right, BeginsOutside-starts, starts_same, starts_front}
 
 abbrev pub otherwise_shape : FirstAndFollow → FirstAndFollow → FirstAndFollow
 otherwise_shape s t = record { first = s.first ++ t.first; nullable = t.nullable; more = s.first ++ (s.more ++ t.more) }
@@ -23,15 +23,15 @@ module _ {A : Type 0} {L M : Language A} {s t : FirstAndFollow} {p q : Parser A}
   splits_if text true = left_splits text (p text).0 (p text).1 (first.splits text)
   splits_if text false = right_splits text (q text).0 (q text).1 (second.splits text)
 
-  none_starts : (front rest : List Lexeme) → BeginsIn t front → Stops s.first rest → starts s.first (front ++ rest) ≡ false
-  none_starts [] rest b stop = Stops-starts s.first rest stop
+  none_starts : (front rest : List Lexeme) → BeginsIn t front → BeginsOutside s.first rest → starts s.first (front ++ rest) ≡ false
+  none_starts [] rest b stop = BeginsOutside-starts s.first rest stop
   none_starts (x ∷ front) rest b stop = apart_false s.first t.first x.terminal apart_ b
 
-  completes : (front rest : List Lexeme) (value : A) → (L ∪ M) front value → Stops (s.first ++ (s.more ++ t.more)) rest → read_either s.first p q (front ++ rest) ≡ (Some value, rest)
-  completes front rest value (inl l) stop = rw (starts_front s front rest full (first.begins front value l)) (first.complete front rest value l (Stops-left s.more t.more rest (Stops-right s.first (s.more ++ t.more) rest stop)))
+  completes : (front rest : List Lexeme) (value : A) → (L ∪ M) front value → BeginsOutside (s.first ++ (s.more ++ t.more)) rest → read_either s.first p q (front ++ rest) ≡ (Some value, rest)
+  completes front rest value (inl l) stop = rw (starts_front s front rest full (first.begins front value l)) (first.complete front rest value l (BeginsOutside-left s.more t.more rest (BeginsOutside-right s.first (s.more ++ t.more) rest stop)))
   completes front rest value (inr m) stop =
-      rw (none_starts front rest (second.begins front value m) (Stops-left s.first (s.more ++ t.more) rest stop))
-      (second.complete front rest value m (Stops-right s.more t.more rest (Stops-right s.first (s.more ++ t.more) rest stop)))
+      rw (none_starts front rest (second.begins front value m) (BeginsOutside-left s.first (s.more ++ t.more) rest stop))
+      (second.complete front rest value m (BeginsOutside-right s.more t.more rest (BeginsOutside-right s.first (s.more ++ t.more) rest stop)))
 
   begins_in : (text : List Lexeme) (value : A) → (L ∪ M) text value → BeginsIn (otherwise_shape s t) text
   begins_in [] value (inl l) = absurd (let k : s.nullable ≡ true = first.begins [] value l in cc)

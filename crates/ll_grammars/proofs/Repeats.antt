@@ -6,8 +6,8 @@ use Rattle.ll_grammars.specs.declared.terminal.Terminal.{Terminal}
 use Rattle.ll_grammars.specs.Terminals.{apart}
 use Rattle.ll_grammars.specs.Language.{Language, many}
 use Rattle.ll_grammars.specs.Reading.{Parser, Answer, next, ◌>>=◌, starts, give, read_others, read_many, read_up_to}
-use Rattle.ll_grammars.specs.Reads.{FirstAndFollow, BeginsIn, Stops, SameHead, Spelled, Splits, Reads}
-use Rattle.ll_grammars.proofs.Sets.{Stops-left, Stops-right, Stops-next, Stops-starts, starts_same, SameHead-append, self_append, starts_front}
+use Rattle.ll_grammars.specs.Reads.{FirstAndFollow, BeginsIn, BeginsOutside, SameHead, Spelled, Splits, Reads}
+use Rattle.ll_grammars.proofs.Sets.{BeginsOutside-left, BeginsOutside-right, BeginsOutside-next, BeginsOutside-starts, starts_same, SameHead-append, self_append, starts_front}
 use Rattle.ll_grammars.proofs.Steps.{next_give_rest}
 
 abbrev pub many_shape : FirstAndFollow → FirstAndFollow
@@ -62,10 +62,10 @@ module _ {A : Type 0} (L : Language A) (s : FirstAndFollow) (p : Parser A) (read
   many_begins_at (x ∷ text) [] l = absurd cc
   many_begins_at (x ∷ text) (v ∷ values) l = let k : BeginsIn s (x ∷ text) = subst (λ t. BeginsIn s t) (sym l.2) (begins_append s l.0 l.1 full (reads.begins l.0 v l.3)) in k
 
-  many_complete : apart s.more s.first ≡ true → (n : ℕ) (values : List A) (front rest : List Lexeme) → length (front ++ rest) ≤ n → many L front values → Stops (s.first ++ s.more) rest
+  many_complete : apart s.more s.first ≡ true → (n : ℕ) (values : List A) (front rest : List Lexeme) → length (front ++ rest) ≤ n → many L front values → BeginsOutside (s.first ++ s.more) rest
       → read_up_to n s.first p (front ++ rest) ≡ (Some values, rest)
   many_complete apart_ zero [] front rest le l stop = rw l refl
-  many_complete apart_ (suc n) [] front rest le l stop = rw (l, Stops-starts s.first rest (Stops-left s.first s.more rest stop)) refl
+  many_complete apart_ (suc n) [] front rest le l stop = rw (l, BeginsOutside-starts s.first rest (BeginsOutside-left s.first s.more rest stop)) refl
   many_complete apart_ zero (v ∷ values) front rest le l stop =
       let pos : 0 < length l.0 = begins_length s l.0 full (reads.begins l.0 v l.3) in
       absurd (omega (arith, length-append front rest, ap length l.2, length-append l.0 l.1))
@@ -73,7 +73,7 @@ module _ {A : Type 0} (L : Language A) (s : FirstAndFollow) (p : Parser A) (read
       let begins = reads.begins l.0 v l.3 in
       let pos : 0 < length l.0 = begins_length s l.0 full begins in
       let small : length (l.1 ++ rest) ≤ n = omega (arith, length-append front rest, ap length l.2, length-append l.0 l.1, length-append l.1 rest) in
-      let stop1 : Stops s.more (l.1 ++ rest) = Stops-next s.more (many_shape s) l.1 rest apart_ (many_begins_at l.1 values l.4) (Stops-right s.first s.more rest stop) in
+      let stop1 : BeginsOutside s.more (l.1 ++ rest) = BeginsOutside-next s.more (many_shape s) l.1 rest apart_ (many_begins_at l.1 values l.4) (BeginsOutside-right s.first s.more rest stop) in
       let e1 = reads.complete l.0 (l.1 ++ rest) v l.3 stop1 in
       let e2 = many_complete apart_ n values l.1 rest small l.4 stop in
       let regroup : front ++ rest ≡ l.0 ++ (l.1 ++ rest) = ap (λ x. x ++ rest) l.2 ∙ append_assoc l.0 l.1 rest in

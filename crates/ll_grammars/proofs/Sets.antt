@@ -6,7 +6,7 @@ use Rattle.ll_grammars.specs.declared.lexeme.Lexeme.{Lexeme}
 use Rattle.ll_grammars.specs.declared.terminal.Terminal.{Terminal}
 use Rattle.ll_grammars.specs.Terminals.{code, among, apart}
 use Rattle.ll_grammars.specs.Reading.{starts}
-use Rattle.ll_grammars.specs.Reads.{FirstAndFollow, BeginsIn, Stops, SameHead}
+use Rattle.ll_grammars.specs.Reads.{FirstAndFollow, BeginsIn, BeginsOutside, SameHead}
 use Rattle.ll_grammars.specs.Reads.SameHead.{nothing, token}
 
 pub same_code : (ds : List Terminal) (c d : Terminal) → code c ≡ code d → among ds c ≡ among ds d
@@ -40,21 +40,21 @@ apart_false (x ∷ cs) ds c h e =
       here true q h0 ih = let k : code x ≡ code c = eqb-true (code x) (code c) q in let m = same_code ds x c k in absurd cc
       here false q h0 ih = ih
 
-pub Stops-left : (cs ds : List Terminal) (text : List Lexeme) → Stops (cs ++ ds) text → Stops cs text
-Stops-left cs ds [] h = tt
-Stops-left cs ds (t ∷ ts) h = (or_parts (among cs t.terminal) (among ds t.terminal) (sym (among-append cs ds t.terminal) ∙ h)).0
+pub BeginsOutside-left : (cs ds : List Terminal) (text : List Lexeme) → BeginsOutside (cs ++ ds) text → BeginsOutside cs text
+BeginsOutside-left cs ds [] h = tt
+BeginsOutside-left cs ds (t ∷ ts) h = (or_parts (among cs t.terminal) (among ds t.terminal) (sym (among-append cs ds t.terminal) ∙ h)).0
 
-pub Stops-right : (cs ds : List Terminal) (text : List Lexeme) → Stops (cs ++ ds) text → Stops ds text
-Stops-right cs ds [] h = tt
-Stops-right cs ds (t ∷ ts) h = (or_parts (among cs t.terminal) (among ds t.terminal) (sym (among-append cs ds t.terminal) ∙ h)).1
+pub BeginsOutside-right : (cs ds : List Terminal) (text : List Lexeme) → BeginsOutside (cs ++ ds) text → BeginsOutside ds text
+BeginsOutside-right cs ds [] h = tt
+BeginsOutside-right cs ds (t ∷ ts) h = (or_parts (among cs t.terminal) (among ds t.terminal) (sym (among-append cs ds t.terminal) ∙ h)).1
 
-pub Stops-starts : (cs : List Terminal) (text : List Lexeme) → Stops cs text → starts cs text ≡ false
-Stops-starts cs [] h = refl
-Stops-starts cs (t ∷ ts) h = h
+pub BeginsOutside-starts : (cs : List Terminal) (text : List Lexeme) → BeginsOutside cs text → starts cs text ≡ false
+BeginsOutside-starts cs [] h = refl
+BeginsOutside-starts cs (t ∷ ts) h = h
 
-pub Stops-next : (more : List Terminal) (s : FirstAndFollow) (text rest : List Lexeme) → apart more s.first ≡ true → BeginsIn s text → Stops (cond s.nullable more []) rest → Stops more (text ++ rest)
-Stops-next more s [] rest h b stop = let k : Stops (cond true more []) rest = subst (λ (e : Bool). Stops (cond e more []) rest) b stop in k
-Stops-next more s (t ∷ ts) rest h b stop = apart_false more s.first t.terminal h b
+pub BeginsOutside-next : (more : List Terminal) (s : FirstAndFollow) (text rest : List Lexeme) → apart more s.first ≡ true → BeginsIn s text → BeginsOutside (cond s.nullable more []) rest → BeginsOutside more (text ++ rest)
+BeginsOutside-next more s [] rest h b stop = let k : BeginsOutside (cond true more []) rest = subst (λ (e : Bool). BeginsOutside (cond e more []) rest) b stop in k
+BeginsOutside-next more s (t ∷ ts) rest h b stop = apart_false more s.first t.terminal h b
 
 pub starts_same : (cs : List Terminal) (front rest other : List Lexeme) → SameHead rest other → starts cs (front ++ rest) ≡ starts cs (front ++ other)
 starts_same cs [] [] [] nothing = refl

@@ -4,11 +4,11 @@ use Rattle.std.proofs.lemmas.List.{append_cancel_right}
 use Rattle.ll_grammars.specs.declared.lexeme.Lexeme.{Lexeme}
 use Rattle.ll_grammars.specs.declared.terminal.Terminal.{Terminal}
 use Rattle.ll_grammars.specs.Terminals.{among, apart}
-use Rattle.ll_grammars.specs.Language.{Language, ◌▸◌, one, made, maybe, ◌∪◌, IsViablePrefix}
-use Rattle.ll_grammars.specs.Reading.{Parser, Answer, next, ◌>>=◌, starts, give, read_second, read_one, read_then, read_made, read_either, read_maybe}
-use Rattle.ll_grammars.specs.Reads.{FirstAndFollow, BeginsIn, Stops, SameHead, Splits, Reads}
+use Rattle.ll_grammars.specs.Language.{Language, ◌▸◌, one, mapped, maybe, ◌∪◌, IsViablePrefix}
+use Rattle.ll_grammars.specs.Reading.{Parser, Answer, next, ◌>>=◌, starts, give, read_second, read_one, read_then, read_mapped, read_either, read_maybe}
+use Rattle.ll_grammars.specs.Reads.{FirstAndFollow, BeginsIn, BeginsOutside, SameHead, Splits, Reads}
 use Rattle.ll_grammars.specs.Reads.SameHead.{nothing, token}
-use Rattle.ll_grammars.proofs.Sets.{apart_false, among_left, among_right, Stops-left, Stops-right, Stops-next, Stops-starts, starts_same, SameHead-append, self_append, starts_front}
+use Rattle.ll_grammars.proofs.Sets.{apart_false, among_left, among_right, BeginsOutside-left, BeginsOutside-right, BeginsOutside-next, BeginsOutside-starts, starts_same, SameHead-append, self_append, starts_front}
 
 -- ---- the tokens that a step leaves
 
@@ -104,11 +104,11 @@ module _ {A B : Type 0} (L : Language A) (M : Language B) (s t : FirstAndFollow)
       }
   then_splits text (Some a) r split = then_splits_second text split.front r a split.whole split.spelled (q r).0 (q r).1 (second.splits r)
 
-  then_complete : (f g rest : List Lexeme) (a : A) (b : B) → apart s.more t.first ≡ true → L f a → M g b → Stops (t.more ++ cond t.nullable s.more []) rest → read_then p q ((f ++ g) ++ rest) ≡ (Some (a, b), rest)
+  then_complete : (f g rest : List Lexeme) (a : A) (b : B) → apart s.more t.first ≡ true → L f a → M g b → BeginsOutside (t.more ++ cond t.nullable s.more []) rest → read_then p q ((f ++ g) ++ rest) ≡ (Some (a, b), rest)
   then_complete f g rest a b apart_ l m stop =
-      let stop1 : Stops s.more (g ++ rest) = Stops-next s.more t g rest apart_ (second.begins g b m) (Stops-right t.more (cond t.nullable s.more []) rest stop) in
+      let stop1 : BeginsOutside s.more (g ++ rest) = BeginsOutside-next s.more t g rest apart_ (second.begins g b m) (BeginsOutside-right t.more (cond t.nullable s.more []) rest stop) in
       let e1 = first.complete f (g ++ rest) a l stop1 in
-      let e2 = second.complete g rest b m (Stops-left t.more (cond t.nullable s.more []) rest stop) in
+      let e2 = second.complete g rest b m (BeginsOutside-left t.more (cond t.nullable s.more []) rest stop) in
       rw (append_assoc f g rest, e1, e2) refl
 
   then_begins : (f g : List Lexeme) → BeginsIn s f → BeginsIn t g → BeginsIn (then_shape s t) (f ++ g)
@@ -159,20 +159,20 @@ reads_then L M s t p q first second apart_ = record {
   looks = λ front rest other same stop. then_looks L M s t p q first second front rest other same (p (front ++ rest)).0 (p (front ++ rest)).1 refl stop;
 }
 
--- ---- `read_made`: a value made of another value
+-- ---- `read_mapped`: a value made of another value
 
 module _ {A B : Type 0} (L : Language A) (f : A → B) (s : FirstAndFollow) (p : Parser A) (reads : Reads L s p) where
-  made_splits : (text : List Lexeme) (o : Option A) (r : List Lexeme) → Splits L text o r → Splits (made f L) text (next o r (λ a. give (f a))).0 (next o r (λ a. give (f a))).1
+  made_splits : (text : List Lexeme) (o : Option A) (r : List Lexeme) → Splits L text o r → Splits (mapped f L) text (next o r (λ a. give (f a))).0 (next o r (λ a. give (f a))).1
   made_splits text None r split = record { front = split.front; whole = split.whole; spelled = record { more = split.spelled.more; value = f split.spelled.value; spelled = (split.spelled.value, refl, split.spelled.spelled) } }
   made_splits text (Some a) r split = record { front = split.front; whole = split.whole; spelled = (a, refl, split.spelled) }
 
   made_looks : (front rest other : List Lexeme) → SameHead rest other → (o : Option A) (r : List Lexeme) → p (front ++ rest) ≡ (o, r) → (next o r (λ a. give (f a))).1 ≡ rest
-      → read_made f p (front ++ other) ≡ ((next o r (λ a. give (f a))).0, other)
+      → read_mapped f p (front ++ other) ≡ ((next o r (λ a. give (f a))).0, other)
   made_looks front rest other same None r e stop = rw (reads.looks front rest other same (ap (λ x. x.1) e ∙ stop), e) refl
   made_looks front rest other same (Some a) r e stop = rw (reads.looks front rest other same (ap (λ x. x.1) e ∙ stop), e) refl
 
-pub reads_made : {A B : Type 0} → (L : Language A) (f : A → B) (s : FirstAndFollow) (p : Parser A) → Reads L s p → Reads (made f L) s (read_made f p)
-reads_made L f s p reads = record {
+pub reads_mapped : {A B : Type 0} → (L : Language A) (f : A → B) (s : FirstAndFollow) (p : Parser A) → Reads L s p → Reads (mapped f L) s (read_mapped f p)
+reads_mapped L f s p reads = record {
   some = record { more = reads.some.more; value = f reads.some.value; spelled = (reads.some.value, refl, reads.some.spelled) };
   begins = λ text value l. reads.begins text l.0 l.2;
   splits = λ text. made_splits L f s p reads text (p text).0 (p text).1 (reads.splits text);
@@ -208,9 +208,9 @@ module _ {A : Type 0} (L M : Language A) (s t : FirstAndFollow) (p q : Parser A)
   either_splits text true = left_splits text (p text).0 (p text).1 (first.splits text)
   either_splits text false = right_splits text (q text).0 (q text).1 (second.splits text)
 
-  either_complete : (front rest : List Lexeme) (value : A) → (L ∪ M) front value → Stops (s.more ++ t.more) rest → read_either s.first p q (front ++ rest) ≡ (Some value, rest)
-  either_complete front rest value (inl l) stop = rw (starts_front s front rest full (first.begins front value l)) (first.complete front rest value l (Stops-left s.more t.more rest stop))
-  either_complete front rest value (inr m) stop = rw (starts_not s.first t front rest full' apart_ (second.begins front value m)) (second.complete front rest value m (Stops-right s.more t.more rest stop))
+  either_complete : (front rest : List Lexeme) (value : A) → (L ∪ M) front value → BeginsOutside (s.more ++ t.more) rest → read_either s.first p q (front ++ rest) ≡ (Some value, rest)
+  either_complete front rest value (inl l) stop = rw (starts_front s front rest full (first.begins front value l)) (first.complete front rest value l (BeginsOutside-left s.more t.more rest stop))
+  either_complete front rest value (inr m) stop = rw (starts_not s.first t front rest full' apart_ (second.begins front value m)) (second.complete front rest value m (BeginsOutside-right s.more t.more rest stop))
 
   either_begins : (text : List Lexeme) (value : A) → (L ∪ M) text value → BeginsIn (either_shape s t) text
   either_begins [] value (inl l) = absurd (let k : s.nullable ≡ true = first.begins [] value l in cc)
@@ -246,9 +246,9 @@ module _ {A : Type 0} (L : Language A) (s : FirstAndFollow) (p : Parser A) (read
   maybe_splits text true = maybe_splits_some text (p text).0 (p text).1 (reads.splits text)
   maybe_splits text false = record { front = []; whole = refl; spelled = refl }
 
-  maybe_complete : (front rest : List Lexeme) (value : Option A) → maybe L front value → Stops (s.first ++ s.more) rest → read_maybe s.first p (front ++ rest) ≡ (Some value, rest)
-  maybe_complete front rest None l stop = rw (l, Stops-starts s.first rest (Stops-left s.first s.more rest stop)) refl
-  maybe_complete front rest (Some a) l stop = rw (starts_front s front rest full (reads.begins front a l), reads.complete front rest a l (Stops-right s.first s.more rest stop)) refl
+  maybe_complete : (front rest : List Lexeme) (value : Option A) → maybe L front value → BeginsOutside (s.first ++ s.more) rest → read_maybe s.first p (front ++ rest) ≡ (Some value, rest)
+  maybe_complete front rest None l stop = rw (l, BeginsOutside-starts s.first rest (BeginsOutside-left s.first s.more rest stop)) refl
+  maybe_complete front rest (Some a) l stop = rw (starts_front s front rest full (reads.begins front a l), reads.complete front rest a l (BeginsOutside-right s.first s.more rest stop)) refl
 
   maybe_begins : (text : List Lexeme) (value : Option A) → maybe L text value → BeginsIn (maybe_shape s) text
   maybe_begins [] value l = refl

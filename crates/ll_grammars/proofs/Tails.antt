@@ -4,11 +4,11 @@ use Rattle.std.proofs.lemmas.List.{append-nil, append_cancel_right, length-appen
 use Rattle.ll_grammars.specs.declared.lexeme.Lexeme.{Lexeme}
 use Rattle.ll_grammars.specs.declared.terminal.Terminal.{Terminal}
 use Rattle.ll_grammars.specs.Terminals.{among, apart}
-use Rattle.ll_grammars.specs.Language.{Language, one, ◌▸◌, made, maybe, many}
+use Rattle.ll_grammars.specs.Language.{Language, one, ◌▸◌, mapped, maybe, many}
 use Rattle.ll_grammars.specs.Rules.{second}
 use Rattle.ll_grammars.specs.Reading.{Parser, Answer, next, ◌>>=◌, starts, give, read_others, read_tails, read_tails_up_to}
-use Rattle.ll_grammars.specs.Reads.{FirstAndFollow, BeginsIn, Stops, SameHead, Splits, Reads}
-use Rattle.ll_grammars.proofs.Sets.{Stops-left, Stops-right, Stops-next, Stops-starts, starts_same, SameHead-append, self_append, starts_front}
+use Rattle.ll_grammars.specs.Reads.{FirstAndFollow, BeginsIn, BeginsOutside, SameHead, Splits, Reads}
+use Rattle.ll_grammars.proofs.Sets.{BeginsOutside-left, BeginsOutside-right, BeginsOutside-next, BeginsOutside-starts, starts_same, SameHead-append, self_append, starts_front}
 use Rattle.ll_grammars.proofs.Steps.{next_give_rest}
 
 -- `tails` has the texts of `repeated`, by recursion on the items
@@ -17,7 +17,7 @@ tails separators L text [] = (text ≡ []) ⊎ ((t : Lexeme) × (text ≡ t ∷ 
 tails separators L text (value ∷ values) = (t : Lexeme) × (front : List Lexeme) × (rest : List Lexeme) × (text ≡ t ∷ (front ++ rest)) × (among separators t.terminal ≡ true) × L front value × tails separators L rest values
 
 abbrev pub repeated : {A : Type 0} → List Terminal → Language A → Language (List A × Option Lexeme)
-repeated separators L = many (made second (one separators ▸ L)) ▸ maybe (one separators)
+repeated separators L = many (mapped second (one separators ▸ L)) ▸ maybe (one separators)
 
 pub tails_are : {A : Type 0} (separators : List Terminal) (L : Language A) (values : List A) (end : Option Lexeme) (text : List Lexeme) → repeated separators L text (values, end) → tails separators L text values
 tails_are separators L [] None text l = inl (l.whole ∙ ap (λ x. x ++ l.rest) l.first ∙ l.second)
@@ -36,7 +36,7 @@ are_tails separators L [] text (inr l) = (Some l.0, record { front = []; rest = 
 are_tails separators L (v ∷ values) text l =
     let others = are_tails separators L values l.2 l.6 in
     let o = others.1 in
-    let item : made second (one separators ▸ L) (l.0 ∷ l.1) v = ((l.0, v), refl, record { front = l.0 ∷ []; rest = l.1; whole = refl; first = (refl, l.4); second = l.5 }) in (
+    let item : mapped second (one separators ▸ L) (l.0 ∷ l.1) v = ((l.0, v), refl, record { front = l.0 ∷ []; rest = l.1; whole = refl; first = (refl, l.4); second = l.5 }) in (
       others.0,
       record {
         front = (l.0 ∷ l.1) ++ o.front;
@@ -108,16 +108,16 @@ module _ {A : Type 0} (separators : List Terminal) (L : Language A) (s : FirstAn
   tails_splits (suc n) [] = record { front = []; whole = refl; spelled = inl refl }
   tails_splits (suc n) (t ∷ rest) = split_if n (tails_splits n) t rest (among separators t.terminal) refl
 
-  tails_complete : apart s.more separators ≡ true → (n : ℕ) (values : List A) (front rest : List Lexeme) → length (front ++ rest) ≤ n → tails separators L front values → Stops ((separators ++ s.first) ++ s.more) rest
+  tails_complete : apart s.more separators ≡ true → (n : ℕ) (values : List A) (front rest : List Lexeme) → length (front ++ rest) ≤ n → tails separators L front values → BeginsOutside ((separators ++ s.first) ++ s.more) rest
       → tail n (front ++ rest) ≡ (Some values, rest)
-  tails_complete apart_ n [] front rest le (inl e) stop = rw e (tail_stops n rest (Stops-starts separators rest (Stops-left separators s.first rest (Stops-left (separators ++ s.first) s.more rest stop))))
+  tails_complete apart_ n [] front rest le (inl e) stop = rw e (tail_stops n rest (BeginsOutside-starts separators rest (BeginsOutside-left separators s.first rest (BeginsOutside-left (separators ++ s.first) s.more rest stop))))
   tails_complete apart_ zero [] front rest le (inr l) stop = absurd (omega (arith, ap length l.1, length-append front rest))
-  tails_complete apart_ (suc n) [] front rest le (inr l) stop = rw (l.1, l.2, Stops-starts s.first rest (Stops-right separators s.first rest (Stops-left (separators ++ s.first) s.more rest stop))) refl
+  tails_complete apart_ (suc n) [] front rest le (inr l) stop = rw (l.1, l.2, BeginsOutside-starts s.first rest (BeginsOutside-right separators s.first rest (BeginsOutside-left (separators ++ s.first) s.more rest stop))) refl
   tails_complete apart_ zero (v ∷ values) front rest le l stop = absurd (omega (arith, ap length l.3, length-append front rest))
   tails_complete apart_ (suc n) (v ∷ values) front rest le l stop =
       let begins = reads.begins l.1 v l.5 in
       let small : length (l.2 ++ rest) ≤ n = omega (arith, length-append front rest, ap length l.3, length-append l.1 l.2, length-append l.2 rest) in
-      let stop1 : Stops s.more (l.2 ++ rest) = Stops-next s.more (tails_shape separators s) l.2 rest apart_ (tails_begins l.2 values l.6) (Stops-right (separators ++ s.first) s.more rest stop) in
+      let stop1 : BeginsOutside s.more (l.2 ++ rest) = BeginsOutside-next s.more (tails_shape separators s) l.2 rest apart_ (tails_begins l.2 values l.6) (BeginsOutside-right (separators ++ s.first) s.more rest stop) in
       let e1 = reads.complete l.1 (l.2 ++ rest) v l.5 stop1 in
       let e2 = tails_complete apart_ n values l.2 rest small l.6 stop in
       let regroup : front ++ rest ≡ l.0 ∷ (l.1 ++ (l.2 ++ rest)) = ap (λ x. x ++ rest) l.3 ∙ ap (λ x. l.0 ∷ x) (append_assoc l.1 l.2 rest) in

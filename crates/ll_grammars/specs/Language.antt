@@ -25,8 +25,8 @@ abbrev pub ◌▸◌ : {A B : Type 0} → Language A → Language B → Language
 L ▸ M = Then L M
 
 -- a text of L; its value here is `f` of its value in L
-abbrev pub made : {A B : Type 0} → (A → B) → Language A → Language B
-made {A} f L text value = (a : A) × (f a ≡ value) × L text a
+abbrev pub mapped : {A B : Type 0} → (A → B) → Language A → Language B
+mapped {A} f L text value = (a : A) × (f a ≡ value) × L text a
 
 -- a text of L or of M
 infixr 15 ◌∪◌

@@ -42,8 +42,8 @@ read_second q a rest = q rest >>= λ b. give (a, b)
 abbrev pub read_then : {A B : Type 0} → Parser A → Parser B → Parser (A × B)
 read_then p q text = p text >>= read_second q
 
-abbrev pub read_made : {A B : Type 0} → (A → B) → Parser A → Parser B
-read_made f p text = p text >>= λ a. give (f a)
+abbrev pub read_mapped : {A B : Type 0} → (A → B) → Parser A → Parser B
+read_mapped f p text = p text >>= λ a. give (f a)
 
 -- the first token decides: p reads if the token is in `first`, the terminals with which texts for p begin; otherwise q reads
 abbrev pub read_either : {A : Type 0} → List Terminal → Parser A → Parser A → Parser A

@@ -19,9 +19,9 @@ BeginsIn s [] = s.nullable ≡ true
 BeginsIn s (token ∷ rest) = among s.first token.terminal ≡ true
 
 -- the list doesn't begin with any of these terminals
-abbrev pub Stops : List Terminal → List Lexeme → Type 0
-Stops more [] = ⊤
-Stops more (token ∷ rest) = among more token.terminal ≡ false
+abbrev pub BeginsOutside : List Terminal → List Lexeme → Type 0
+BeginsOutside more [] = ⊤
+BeginsOutside more (token ∷ rest) = among more token.terminal ≡ false
 
 -- both lists are empty, or both have the same first token
 pub data SameHead : List Lexeme → List Lexeme → Type 0 where
@@ -48,7 +48,7 @@ pub record Reads {A : Type 0} (L : Language A) (s : FirstAndFollow) (p : Parser 
   -- what is read spells the value, or is a viable prefix if there is no value
   pub splits : (text : List Lexeme) → Splits L text (p text).0 (p text).1
   -- each text is read to its end, if the token after it isn't one with which the parser goes on
-  pub complete : (front rest : List Lexeme) (value : A) → L front value → Stops s.more rest → p (front ++ rest) ≡ (Some value, rest)
+  pub complete : (front rest : List Lexeme) (value : A) → L front value → BeginsOutside s.more rest → p (front ++ rest) ≡ (Some value, rest)
   -- the parser looks at no token after the one at which it stops
   pub looks : (front rest other : List Lexeme) → SameHead rest other → (p (front ++ rest)).1 ≡ rest
       → p (front ++ other) ≡ ((p (front ++ rest)).0, other)

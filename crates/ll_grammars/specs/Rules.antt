@@ -5,14 +5,14 @@ use Rattle.ll_grammars.specs.declared.terminal.Terminal.{Terminal}
 use Rattle.ll_grammars.specs.declared.terminal.Terminal.TheVariants as terminal
 use Rattle.ll_grammars.specs.declared.stop.Stop.{Stop}
 use Rattle.ll_grammars.specs.declared.stop.Stop.TheVariants as stop
-use Rattle.ll_grammars.specs.Language.{Language, one, ◌▸◌, made, many}
-use Rattle.ll_grammars.specs.Reading.{Parser, Answer, read_one, read_then, read_made}
+use Rattle.ll_grammars.specs.Language.{Language, one, ◌▸◌, mapped, many}
+use Rattle.ll_grammars.specs.Reading.{Parser, Answer, read_one, read_then, read_mapped}
 
 -- ---- values of rules, from the values of their parts
 
 -- the list of a first item and the other items
-abbrev pub all : {A : Type 0} → A × List A → List A
-all parts = parts.0 ∷ parts.1
+abbrev pub first_and_others : {A : Type 0} → A × List A → List A
+first_and_others parts = parts.0 ∷ parts.1
 
 abbrev pub second : {A B : Type 0} → A × B → B
 second parts = parts.1
@@ -28,11 +28,11 @@ word t = one (t ∷ [])
 
 -- L { separator L }
 abbrev pub listed : {A : Type 0} → Terminal → Language A → Language (List A)
-listed separator L = made all (L ▸ many (made second (word separator ▸ L)))
+listed separator L = mapped first_and_others (L ▸ many (mapped second (word separator ▸ L)))
 
 -- "(" L ")"
 abbrev pub in_parentheses : {A : Type 0} → Language A → Language A
-in_parentheses L = made middle (word terminal.Open ▸ L ▸ word terminal.Close)
+in_parentheses L = mapped middle (word terminal.Open ▸ L ▸ word terminal.Close)
 
 -- ---- parsers of these rules
 
@@ -40,7 +40,7 @@ abbrev pub read_word : Terminal → Parser Lexeme
 read_word t = read_one (t ∷ [])
 
 abbrev pub read_in_parentheses : {A : Type 0} → Parser A → Parser A
-read_in_parentheses p = read_made middle (read_then (read_word terminal.Open) (read_then p (read_word terminal.Close)))
+read_in_parentheses p = read_mapped middle (read_then (read_word terminal.Open) (read_then p (read_word terminal.Close)))
 
 -- the result of a function and the tokens that it left are the parser's answer, unless memory ran out
 abbrev pub IsReadAs : {A : Type 0} → Result A Stop → List Lexeme → Answer A → Type 0

@@ -3,7 +3,7 @@
 //!
 //! A language relates lists of tokens to the values that they spell. It is built from single terminals (`one`) by sequence (`▸`), choice (`∪`),
 //! option (`maybe`) and repetition (`many`). A viable prefix is a beginning of a list that spells a value. A list that spells no value goes wrong at
-//! the first token for which the tokens up to it, itself included, are no viable prefix (`IsSyntaxPlace`). Which token this is depends on the
+//! the first token for which the tokens up to it, itself included, are no viable prefix (`IsSyntaxErrorAt`). Which token this is depends on the
 //! language alone, not on a parser.
 //!
 //! A grammar's crate writes each rule four times:

@@ -68,7 +68,7 @@ impl<'a> Reader<'a> {
     }
 
     /// Reads the next token if it is one of these terminals, and returns whether it is.
-    pub fn takes(&mut self, terminals: &[Terminal]) -> bool
+    pub fn reads_if_one_of(&mut self, terminals: &[Terminal]) -> bool
         ensures taken { result ≡ starts terminals.now self.old }
         ensures left { self.new ≡ (read_one terminals.now self.old).1 }
     {

@@ -1,6 +1,6 @@
 //! Reserves the buffers of two small plans, an order and a join tree, while tools/memory-bytes counts the requests for memory.
 //!
-//! With the word `take-order` the program reserves for the order, and with `take-trees` for the tree. With `tell-plans`, a word of the same length,
+//! With the word `take-order` the program reserves for the order, and with `take-trees` for the tree. With `print_plan-plans`, a word of the same length,
 //! it reserves for neither plan. So what one of the first two runs requests beyond the third is the reservation. Each run prints how many bytes each
 //! plan takes by its formula.
 #![tactic(auto)]
@@ -65,7 +65,7 @@ fn is_asked(rt: &HostRuntime, word: &str) -> io::Result<bool> {
 }
 
 // Prints the bytes of both plans, and reserves for the plan that is asked for.
-fn tell(rt: &HostRuntime, plan: &BushyPlan) -> io::Result<()>
+fn print_plan(rt: &HostRuntime, plan: &BushyPlan) -> io::Result<()>
     requires plan { IsTreePlan (length plan.now.scans) plan.now }
     requires small { BoundsAreWithin most_rows plan.now }
 {
@@ -90,7 +90,7 @@ fn tell(rt: &HostRuntime, plan: &BushyPlan) -> io::Result<()>
 
 fn main(rt: HostRuntime) -> io::Result<()> {
     match tree_of_two(rt.alloc()) {
-        Ok(plan) => tell(&rt, &plan),
+        Ok(plan) => print_plan(&rt, &plan),
         Err(error) => Err(out_of_memory(error)),
     }
 }

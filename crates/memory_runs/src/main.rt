@@ -15,7 +15,7 @@ use std::alloc::Global;
 use std::process::ExitCode;
 use std::{env, io};
 
-const WANTING: u8 = 11;
+const MEMORY_RAN_OUT: u8 = 11;
 
 const NOT_MADE: u8 = 12;
 
@@ -32,7 +32,7 @@ impl Outcome {
     fn status(self) -> u8 {
         match self {
             Outcome::Done | Outcome::Other => 0,
-            Outcome::WantsMemory => WANTING,
+            Outcome::WantsMemory => MEMORY_RAN_OUT,
             Outcome::NotMade => NOT_MADE,
         }
     }
@@ -71,7 +71,7 @@ fn code_of(
 fn judged(run: &Run, code: u8, notes: &[u8], out: &[u8]) -> Outcome {
     if code == 0 && notes == run.notes && is_text(out, run.out) {
         Outcome::Done
-    } else if code == WANTING && notes == b"error memory\n".as_slice() && out.is_empty() {
+    } else if code == MEMORY_RAN_OUT && notes == b"error memory\n".as_slice() && out.is_empty() {
         Outcome::WantsMemory
     } else {
         Outcome::Other
@@ -86,7 +86,7 @@ fn attempt(alloc: Global, run: &Run) -> Result<Outcome, NoMemory> {
     Ok(judged(run, code, notes.written(), out.written()))
 }
 
-fn tell(rt: &HostRuntime, name: &str, outcome: Outcome) -> io::Result<()> {
+fn print_outcome(rt: &HostRuntime, name: &str, outcome: Outcome) -> io::Result<()> {
     let told = match outcome {
         Outcome::Done => "done",
         Outcome::Other => "another answer",
@@ -97,12 +97,12 @@ fn tell(rt: &HostRuntime, name: &str, outcome: Outcome) -> io::Result<()> {
 
 fn status_of(rt: &HostRuntime, run: &Run) -> io::Result<u8> {
     let outcome = attempt(rt.alloc(), run).unwrap_or(Outcome::NotMade);
-    tell(rt, run.name, outcome)?;
+    print_outcome(rt, run.name, outcome)?;
     Ok(outcome.status())
 }
 
 // The first argument.
-fn asked(rt: &HostRuntime) -> io::Result<Option<String>> {
+fn first_argument(rt: &HostRuntime) -> io::Result<Option<String>> {
     for (i, word) in env::args(rt)?.enumerate() {
         if i == 1 {
             return Ok(Some(word));
@@ -132,7 +132,7 @@ fn status_of_all(rt: &HostRuntime, runs: &[Run], word: &Option<String>) -> io::R
 }
 
 fn main(rt: HostRuntime) -> ExitCode {
-    let Ok(word) = asked(&rt) else {
+    let Ok(word) = first_argument(&rt) else {
         return ExitCode::from(NOT_MADE);
     };
     ExitCode::from(status_of_all(&rt, &RUNS, &word).unwrap_or(1))

@@ -19,7 +19,7 @@ pub struct Run<'a> {
     pub out: Text<'a>,
 }
 
-const TWO: Text<'static> = Text::Whole(
+const TWO_TABLES: Text<'static> = Text::Whole(
     b"CREATE TABLE R (X INTEGER NOT NULL); CREATE TABLE S (X INTEGER NOT NULL);",
 );
 
@@ -39,7 +39,7 @@ const TWOS: Text<'static> = Text::Column {
 
 const HUNDREDS: &[u8] = b"scan R 100\nscan S 100\nlevel 1 R 100\nlevel 2 S 10000\n";
 
-const THREE: Text<'static> = Text::Whole(b"CREATE TABLE K (X INTEGER NOT NULL)");
+const TABLE_K: Text<'static> = Text::Whole(b"CREATE TABLE K (X INTEGER NOT NULL)");
 
 const ONE_OF_THREE: Text<'static> = Text::Whole(b"SELECT X FROM K WHERE X = 2");
 
@@ -71,7 +71,7 @@ pub const RUNS: [Run<'static>; 12] = [
         name: "join",
         words: PLAIN,
         files: &[
-            ("schema.sql", TWO),
+            ("schema.sql", TWO_TABLES),
             ("query.sql", JOIN),
             ("r.csv", SIX),
             ("s.csv", FIVE),
@@ -83,7 +83,7 @@ pub const RUNS: [Run<'static>; 12] = [
         name: "reduced",
         words: &["run", "schema.sql", "query.sql", "--reduce"],
         files: &[
-            ("schema.sql", TWO),
+            ("schema.sql", TWO_TABLES),
             ("query.sql", JOIN),
             ("r.csv", SIX),
             ("s.csv", FIVE),
@@ -95,7 +95,7 @@ pub const RUNS: [Run<'static>; 12] = [
         name: "tree",
         words: &["run", "schema.sql", "query.sql", "--bushy"],
         files: &[
-            ("schema.sql", TWO),
+            ("schema.sql", TWO_TABLES),
             ("query.sql", JOIN),
             ("r.csv", SIX),
             ("s.csv", FIVE),
@@ -107,7 +107,7 @@ pub const RUNS: [Run<'static>; 12] = [
         name: "reduced-tree",
         words: &["run", "schema.sql", "query.sql", "--reduce", "--bushy"],
         files: &[
-            ("schema.sql", TWO),
+            ("schema.sql", TWO_TABLES),
             ("query.sql", JOIN),
             ("r.csv", SIX),
             ("s.csv", FIVE),
@@ -185,7 +185,7 @@ pub const RUNS: [Run<'static>; 12] = [
         name: "meeting",
         words: PLAIN,
         files: &[
-            ("schema.sql", TWO),
+            ("schema.sql", TWO_TABLES),
             ("query.sql", JOIN),
             ("r.csv", ONES),
             ("s.csv", ONES),
@@ -200,7 +200,7 @@ pub const RUNS: [Run<'static>; 12] = [
         name: "apart",
         words: PLAIN,
         files: &[
-            ("schema.sql", TWO),
+            ("schema.sql", TWO_TABLES),
             ("query.sql", JOIN),
             ("r.csv", ONES),
             ("s.csv", TWOS),
@@ -215,7 +215,7 @@ pub const RUNS: [Run<'static>; 12] = [
         name: "stats",
         words: &["stats", "schema.sql", "query.sql"],
         files: &[
-            ("schema.sql", THREE),
+            ("schema.sql", TABLE_K),
             ("query.sql", ONE_OF_THREE),
             ("k.csv", Text::Whole(b"X\r\n1\r\n2\r\n3\r\n")),
         ],
@@ -226,7 +226,7 @@ pub const RUNS: [Run<'static>; 12] = [
         name: "filed",
         words: &["plan", "schema.sql", "query.sql", "--stats", "k.stats"],
         files: &[
-            ("schema.sql", THREE),
+            ("schema.sql", TABLE_K),
             ("query.sql", ONE_OF_THREE),
             ("k.stats", FILE_OF_THREE),
         ],
@@ -237,7 +237,7 @@ pub const RUNS: [Run<'static>; 12] = [
         name: "append",
         words: &["append", "schema.sql", "k.stats", "K", "new.csv"],
         files: &[
-            ("schema.sql", THREE),
+            ("schema.sql", TABLE_K),
             ("k.stats", FILE_OF_THREE),
             ("new.csv", Text::Whole(b"X\r\n99\r\n")),
         ],

@@ -2,10 +2,10 @@
 use Rattle.std.proofs.Common.{◌≡◌, ℕ, ◌-◌, ◌^◌, ◌<◌, ◌≤◌, List, length, get_or, sym, ◌∙◌, subst, arith, inl, inr}
 use Rattle.std.proofs.lemmas.Nat.{pow_pos}
 use Rattle.std.proofs.lemmas.Bool.{cases_lt}
-use Rattle.order_search.specs.declared.weight.Weight.TheVariants as weight
+use Rattle.order_search.specs.declared.weight.Weighing.TheVariants as weight
 use Rattle.order_search.specs.Orders.{IsBest, IsLeastCost, cost, total}
 use Rattle.plans.specs.LeftDeep.{IsOrder}
-use Rattle.order_search.specs.Ways.{IsLeastWeight, IsTable, IsFirstLightest, IsWay, weight_of}
+use Rattle.order_search.specs.Ways.{IsLeastWeight, HasLeastWeights, IsFirstLightest, IsWay, weight_of}
 use Rattle.order_search.proofs.WholeWays.{order_from_way, way_from_order}
 use Rattle.order_search.proofs.Prefixes.{total-small}
 use Rattle.order_search.proofs.Weights.{weighs_cost, weighs_most, weighs_total}
@@ -13,12 +13,12 @@ use Rattle.order_search.proofs.Weights.{weighs_cost, weighs_most, weighs_total}
 last_place : (bounds : List ℕ) (n : ℕ) → length bounds ≡ 2 ^ n → length bounds - 1 ≡ 2 ^ n - 1
 last_place bounds n size = omega arith
 
-whole_entry : (bounds table : List ℕ) (n : ℕ) → length bounds ≡ 2 ^ n → IsTable weight.Greatest bounds (length bounds - 1) table (2 ^ n)
+whole_entry : (bounds table : List ℕ) (n : ℕ) → length bounds ≡ 2 ^ n → HasLeastWeights weight.Greatest bounds (length bounds - 1) table (2 ^ n)
     → IsLeastWeight weight.Greatest bounds (2 ^ n - 1) (2 ^ n - 1) (get_or table (length bounds - 1) 0)
 whole_entry bounds table n size is_table =
     subst (λ k. IsLeastWeight weight.Greatest bounds k k (get_or table (length bounds - 1) 0)) (last_place bounds n size) (is_table (length bounds - 1) (omega (arith, pow_pos n)))
 
-pub least_cost_from : (bounds table : List ℕ) (n least : ℕ) → length bounds ≡ 2 ^ n → IsTable weight.Greatest bounds (length bounds - 1) table (2 ^ n)
+pub least_cost_from : (bounds table : List ℕ) (n least : ℕ) → length bounds ≡ 2 ^ n → HasLeastWeights weight.Greatest bounds (length bounds - 1) table (2 ^ n)
     → least ≡ get_or table (length bounds - 1) 0 → IsLeastCost bounds n least
 least_cost_from bounds table n least size is_table is =
     let lightest : IsLeastWeight weight.Greatest bounds (2 ^ n - 1) (2 ^ n - 1) (get_or table (length bounds - 1) 0) = whole_entry bounds table n size is_table in
@@ -32,7 +32,7 @@ least_cost_from bounds table n least size is_table is =
 -- ---- orders of least cost
 
 abbrev sum_weight : ℕ → List ℕ → ℕ → List ℕ → ℕ
-sum_weight least bounds n order = weight_of (weight.SumWithin least) bounds (2 ^ n - 1) (2 ^ n - 1) order
+sum_weight least bounds n order = weight_of (weight.SumOfBoundsUpTo least) bounds (2 ^ n - 1) (2 ^ n - 1) order
 
 -- the sum of the order's bounds is below 2 ^ 63, so it isn't the greatest weight
 weighs_sum : (bounds : List ℕ) (n least : ℕ) (order : List ℕ) → n ≤ 12 → least ≤ 2 ^ 59 → IsOrder n order → cost bounds order ≤ least
@@ -42,17 +42,17 @@ weighs_sum bounds n least order few small is_order low =
     (omega (arith, weighs_total least bounds (2 ^ n - 1) order (way_from_order n order is_order) low, sum_small), sum_small)
 
 pub sum_is_light : (bounds table : List ℕ) (n least : ℕ) → n ≤ 12 → least ≤ 2 ^ 59 → IsLeastCost bounds n least → length bounds ≡ 2 ^ n
-    → IsTable (weight.SumWithin least) bounds (length bounds - 1) table (2 ^ n) → get_or table (length bounds - 1) 0 < 2 ^ 128 - 1
+    → HasLeastWeights (weight.SumOfBoundsUpTo least) bounds (length bounds - 1) table (2 ^ n) → get_or table (length bounds - 1) 0 < 2 ^ 128 - 1
 sum_is_light bounds table n least few small found size is_table =
     let value : ℕ = get_or table (length bounds - 1) 0 in
-    let lightest : IsLeastWeight (weight.SumWithin least) bounds (2 ^ n - 1) (2 ^ n - 1) (get_or table (length bounds - 1) 0) =
-    subst (λ k. IsLeastWeight (weight.SumWithin least) bounds k k (get_or table (length bounds - 1) 0)) (last_place bounds n size) (is_table (length bounds - 1) (omega (arith, pow_pos n))) in
+    let lightest : IsLeastWeight (weight.SumOfBoundsUpTo least) bounds (2 ^ n - 1) (2 ^ n - 1) (get_or table (length bounds - 1) 0) =
+    subst (λ k. IsLeastWeight (weight.SumOfBoundsUpTo least) bounds k k (get_or table (length bounds - 1) 0)) (last_place bounds n size) (is_table (length bounds - 1) (omega (arith, pow_pos n))) in
     let weighs : (sum_weight least bounds n found.order ≡ total bounds found.order) × (total bounds found.order < 2 ^ 63) =
     weighs_sum bounds n least found.order few small found.is_order (omega (arith, found.costs)) in
     omega (arith, lightest.none_lighter found.order (way_from_order n found.order found.is_order), weighs.0, weighs.1)
 
 best_of_whole : (bounds : List ℕ) (n least : ℕ) (order : List ℕ) → n ≤ 12 → least ≤ 2 ^ 59 → IsLeastCost bounds n least
-    → IsFirstLightest (weight.SumWithin least) bounds (2 ^ n - 1) (2 ^ n - 1) order → IsBest bounds n order × (cost bounds order ≡ least)
+    → IsFirstLightest (weight.SumOfBoundsUpTo least) bounds (2 ^ n - 1) (2 ^ n - 1) order → IsBest bounds n order × (cost bounds order ≡ least)
 best_of_whole bounds n least order few small found first = (best, costs)
   where
     is_order : IsOrder n order
@@ -81,6 +81,6 @@ best_of_whole bounds n least order few small found first = (best, costs)
     }
 
 pub best_found : (bounds order : List ℕ) (n least : ℕ) → n ≤ 12 → least ≤ 2 ^ 59 → IsLeastCost bounds n least → length bounds ≡ 2 ^ n
-    → IsFirstLightest (weight.SumWithin least) bounds (length bounds - 1) (length bounds - 1) order → IsBest bounds n order × (cost bounds order ≡ least)
+    → IsFirstLightest (weight.SumOfBoundsUpTo least) bounds (length bounds - 1) (length bounds - 1) order → IsBest bounds n order × (cost bounds order ≡ least)
 best_found bounds order n least few small found size first =
-    best_of_whole bounds n least order few small found (subst (λ k. IsFirstLightest (weight.SumWithin least) bounds k k order) (last_place bounds n size) first)
+    best_of_whole bounds n least order few small found (subst (λ k. IsFirstLightest (weight.SumOfBoundsUpTo least) bounds k k order) (last_place bounds n size) first)

@@ -6,7 +6,7 @@ pub mod SetNumbers
 pub mod Prefixes
 pub mod Weights
 pub mod BestFound
-pub mod LevelsTold
+pub mod LevelsSoFar
 pub mod OneBest
 pub mod NoWorse
 pub mod SomeBest

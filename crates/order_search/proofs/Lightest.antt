@@ -4,31 +4,31 @@ use Rattle.std.proofs.Common.{◌≡◌, ℕ, ◌+◌, ◌-◌, ◌^◌, ◌<◌
 use Rattle.std.specs.Prelude.{◌⊎◌}
 use Rattle.std.specs.Int.{bit_at}
 use Rattle.std.proofs.lemmas.Bool.{cases_lt, cases_eq, le-leb, lt-leb}
-use Rattle.order_search.specs.declared.weight.Weight.{Weight}
-use Rattle.order_search.specs.declared.weight.Weight.TheVariants as weight
-use Rattle.order_search.specs.Ways.{IsWay, IsLeastWeight, IsTable, bound_with, combined, weight_of, weight_through}
+use Rattle.order_search.specs.declared.weight.Weighing.{Weighing}
+use Rattle.order_search.specs.declared.weight.Weighing.TheVariants as weight
+use Rattle.order_search.specs.Ways.{IsWay, IsLeastWeight, HasLeastWeights, bound_with, combined, weight_of, weight_through}
 use Rattle.order_search.proofs.Bits.{set_has_entry}
 use Rattle.entry_sets.proofs.Bits.{entry_below, less_without}
 
-pub joined-within : (most bound behind : ℕ) → bound ≤ most → combined (weight.SumWithin most) bound behind ≡ min (bound + behind) (2 ^ 128 - 1)
-joined-within most bound behind h = rw (le-leb bound most h) refl
+pub combined-within : (most bound behind : ℕ) → bound ≤ most → combined (weight.SumOfBoundsUpTo most) bound behind ≡ min (bound + behind) (2 ^ 128 - 1)
+combined-within most bound behind h = rw (le-leb bound most h) refl
 
-pub joined-beyond : (most bound behind : ℕ) → most < bound → combined (weight.SumWithin most) bound behind ≡ 2 ^ 128 - 1
-joined-beyond most bound behind h = rw (lt-leb bound most h) refl
+pub combined-beyond : (most bound behind : ℕ) → most < bound → combined (weight.SumOfBoundsUpTo most) bound behind ≡ 2 ^ 128 - 1
+combined-beyond most bound behind h = rw (lt-leb bound most h) refl
 
-pub joined-mono : (w : Weight) (bound a b : ℕ) → a ≤ b → combined w bound a ≤ combined w bound b
-joined-mono weight.Greatest bound a b h = omega arith
-joined-mono (weight.SumWithin most) bound a b h = elim (cases_lt most bound) [
-  | inl beyond ↦ omega (arith, joined-beyond most bound a beyond, joined-beyond most bound b beyond)
-  | inr within ↦ omega (arith, joined-within most bound a within, joined-within most bound b within)
+pub combined-mono : (w : Weighing) (bound a b : ℕ) → a ≤ b → combined w bound a ≤ combined w bound b
+combined-mono weight.Greatest bound a b h = omega arith
+combined-mono (weight.SumOfBoundsUpTo most) bound a b h = elim (cases_lt most bound) [
+  | inl beyond ↦ omega (arith, combined-beyond most bound a beyond, combined-beyond most bound b beyond)
+  | inr within ↦ omega (arith, combined-within most bound a within, combined-within most bound b within)
 ]
 
 -- this is the state of the loop over the first entries of ways: the entries below `end` were tried
-pub record Tried (w : Weight) (bounds table : List ℕ) (all left end least : ℕ) : Type 0 where
+pub record Tried (w : Weighing) (bounds table : List ℕ) (all left end least : ℕ) : Type 0 where
   pub below : (entry : ℕ) → entry < end → bit_at left entry ≡ 1 → (least ≤ weight_through w bounds table all left entry) × (weight_through w bounds table all left entry < 2 ^ 128)
   pub found : (least ≡ 2 ^ 128 - 1) ⊎ ((entry : ℕ) × (bit_at left entry ≡ 1) × (weight_through w bounds table all left entry ≡ least))
 
-pub tried_other : (w : Weight) (bounds table : List ℕ) (all left end least : ℕ) → Tried w bounds table all left end least → (bit_at left end ≡ 1 → ⊥) → Tried w bounds table all left (end + 1) least
+pub tried_other : (w : Weighing) (bounds table : List ℕ) (all left end least : ℕ) → Tried w bounds table all left end least → (bit_at left end ≡ 1 → ⊥) → Tried w bounds table all left (end + 1) least
 tried_other w bounds table all left end least tried out = record {
   below = λ entry h has. elim (cases_eq entry end) [
     | inl same ↦ absurd (out (ap (bit_at left) (sym same) ∙ has))
@@ -37,7 +37,7 @@ tried_other w bounds table all left end least tried out = record {
   found = tried.found;
 }
 
-pub tried_more : (w : Weight) (bounds table : List ℕ) (all left end least through : ℕ) → Tried w bounds table all left end least → bit_at left end ≡ 1
+pub tried_more : (w : Weighing) (bounds table : List ℕ) (all left end least through : ℕ) → Tried w bounds table all left end least → bit_at left end ≡ 1
     → through ≡ weight_through w bounds table all left end → through < 2 ^ 128 → Tried w bounds table all left (end + 1) (min least through)
 tried_more w bounds table all left end least through tried has is fits = record {
   below = λ entry h there. elim (cases_eq entry end) [
@@ -54,12 +54,12 @@ tried_more w bounds table all left end least through tried has is fits = record 
 }
 
 -- the way begins with the entry and goes on with a lightest way through the other entries
-pub record Through (w : Weight) (bounds table : List ℕ) (all left entry : ℕ) : Type 0 where
+pub record Through (w : Weighing) (bounds table : List ℕ) (all left entry : ℕ) : Type 0 where
   pub way : List ℕ
   pub is_way : IsWay left way
   pub weighs : weight_of w bounds all left way ≡ weight_through w bounds table all left entry
 
-pub way_through : (w : Weight) (bounds table : List ℕ) (all left entry : ℕ) → bit_at left entry ≡ 1 → IsLeastWeight w bounds all (left - 2 ^ entry) (get_or table (left - 2 ^ entry) 0)
+pub way_through : (w : Weighing) (bounds table : List ℕ) (all left entry : ℕ) → bit_at left entry ≡ 1 → IsLeastWeight w bounds all (left - 2 ^ entry) (get_or table (left - 2 ^ entry) 0)
     → Through w bounds table all left entry
 way_through w bounds table all left entry has behind = record {
   way = entry ∷ behind.way;
@@ -67,13 +67,13 @@ way_through w bounds table all left entry has behind = record {
   weighs = ap (combined w (bound_with bounds all left entry)) behind.weighs;
 }
 
-pub through_is_least : (w : Weight) (bounds table : List ℕ) (all left end entry : ℕ) (entries : List ℕ) → left ≤ end → IsTable w bounds all table end → IsWay left (entry ∷ entries)
+pub through_is_least : (w : Weighing) (bounds table : List ℕ) (all left end entry : ℕ) (entries : List ℕ) → left ≤ end → HasLeastWeights w bounds all table end → IsWay left (entry ∷ entries)
     → weight_through w bounds table all left entry ≤ weight_of w bounds all left (entry ∷ entries)
 through_is_least w bounds table all left end entry entries h is_table way =
-    joined-mono w (bound_with bounds all left entry) (get_or table (left - 2 ^ entry) 0) (weight_of w bounds all (left - 2 ^ entry) entries)
+    combined-mono w (bound_with bounds all left entry) (get_or table (left - 2 ^ entry) 0) (weight_of w bounds all (left - 2 ^ entry) entries)
     ((is_table (left - 2 ^ entry) (omega (arith, less_without left entry way.0))).none_lighter entries way.1)
 
-pub least_of_tried : (w : Weight) (bounds table : List ℕ) (n all left least : ℕ) → 0 < left → left < 2 ^ n → IsTable w bounds all table left → Tried w bounds table all left n least
+pub least_of_tried : (w : Weighing) (bounds table : List ℕ) (n all left least : ℕ) → 0 < left → left < 2 ^ n → HasLeastWeights w bounds all table left → Tried w bounds table all left n least
     → IsLeastWeight w bounds all left least
 least_of_tried w bounds table n all left least some fits is_table tried = elim tried.found [
   | inl heaviest ↦ (let any : (entry : ℕ) × (bit_at left entry ≡ 1) = set_has_entry n left some fits in

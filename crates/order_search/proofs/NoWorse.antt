@@ -33,11 +33,11 @@ first_both f Then a b c both p q = elim p [
   ]
 ]
 
-pub place_either : (a b : List ℕ) → IsNotAfter a b ⊎ IsNotAfter b a
-place_either [] b = inl tt
-place_either (x ∷ a) [] = inr tt
-place_either (x ∷ a) (y ∷ b) = elim (cases_order x y) [
-  | inl same ↦ elim (place_either a b) [
+pub lexical_total : (a b : List ℕ) → IsNotAfter a b ⊎ IsNotAfter b a
+lexical_total [] b = inl tt
+lexical_total (x ∷ a) [] = inr tt
+lexical_total (x ∷ a) (y ∷ b) = elim (cases_order x y) [
+  | inl same ↦ elim (lexical_total a b) [
     | inl p ↦ inl (inr (same, p))
     | inr q ↦ inr (inr (sym same, q))
   ]
@@ -47,32 +47,32 @@ place_either (x ∷ a) (y ∷ b) = elim (cases_order x y) [
   ]
 ]
 
-pub place_both : (a b c : List ℕ) → IsNotAfter a b → IsNotAfter b c → IsNotAfter a c
-place_both [] b c p q = tt
-place_both (x ∷ a) [] c p q = absurd p
-place_both (x ∷ a) (y ∷ b) [] p q = absurd q
-place_both (x ∷ a) (y ∷ b) (z ∷ c) p q = elim p [
+pub lexical_transitive : (a b c : List ℕ) → IsNotAfter a b → IsNotAfter b c → IsNotAfter a c
+lexical_transitive [] b c p q = tt
+lexical_transitive (x ∷ a) [] c p q = absurd p
+lexical_transitive (x ∷ a) (y ∷ b) [] p q = absurd q
+lexical_transitive (x ∷ a) (y ∷ b) (z ∷ c) p q = elim p [
   | inl below ↦ elim q [
     | inl further ↦ inl (omega arith)
     | inr same ↦ inl (omega (arith, same.0))
   ]
   | inr here ↦ elim q [
     | inl further ↦ inl (omega (arith, here.0))
-    | inr same ↦ inr (here.0 ∙ same.0, place_both a b c here.1 same.1)
+    | inr same ↦ inr (here.0 ∙ same.0, lexical_transitive a b c here.1 same.1)
   ]
 ]
 
 abbrev pub NoWorse : List ℕ → List ℕ → List ℕ → Type 0
 NoWorse bounds = First (cost bounds) (First (total bounds) IsNotAfter)
 
-pub either : (bounds a b : List ℕ) → NoWorse bounds a b ⊎ NoWorse bounds b a
-either bounds a b = first_either (cost bounds) (First (total bounds) IsNotAfter) a b (first_either (total bounds) IsNotAfter a b (place_either a b))
+pub is_total : (bounds a b : List ℕ) → NoWorse bounds a b ⊎ NoWorse bounds b a
+is_total bounds a b = first_either (cost bounds) (First (total bounds) IsNotAfter) a b (first_either (total bounds) IsNotAfter a b (lexical_total a b))
 
-pub both : (bounds a b c : List ℕ) → NoWorse bounds a b → NoWorse bounds b c → NoWorse bounds a c
-both bounds a b c p q = first_both (cost bounds) (First (total bounds) IsNotAfter) a b c (first_both (total bounds) IsNotAfter a b c (place_both a b c)) p q
+pub is_transitive : (bounds a b c : List ℕ) → NoWorse bounds a b → NoWorse bounds b c → NoWorse bounds a c
+is_transitive bounds a b c p q = first_both (cost bounds) (First (total bounds) IsNotAfter) a b c (first_both (total bounds) IsNotAfter a b c (lexical_transitive a b c)) p q
 
-pub itself : (bounds a : List ℕ) → NoWorse bounds a a
-itself bounds a = elim (either bounds a a) [
+pub is_reflexive : (bounds a : List ℕ) → NoWorse bounds a a
+is_reflexive bounds a = elim (is_total bounds a a) [
   | inl p ↦ p
   | inr q ↦ q
 ]

@@ -9,7 +9,7 @@ use Rattle.order_search.specs.Orders.{IsBest}
 use Rattle.order_search.specs.Ways.{IsWay}
 use Rattle.order_search.proofs.Bits.{set_is_empty, size_below, size-none, size-whole, size-without, some_entry}
 use Rattle.entry_sets.proofs.Bits.{entry_below, less_without}
-use Rattle.order_search.proofs.NoWorse.{NoWorse, best_of, both, either, itself}
+use Rattle.order_search.proofs.NoWorse.{NoWorse, best_of, is_transitive, is_total, is_reflexive}
 use Rattle.order_search.proofs.WholeWays.{order_from_way, way_from_order}
 
 -- ---- the best way to continue an order that begins with the entries `front`
@@ -42,13 +42,13 @@ below_more bounds front left end has best so_far = elim so_far [
   | inl none ↦ record {
     way = new.0;
     is_way = new.1;
-    none_better = λ entry entries h way. at entry entries h way (λ below. absurd (none entry below way.0)) (itself bounds (front ++ new.0));
+    none_better = λ entry entries h way. at entry entries h way (λ below. absurd (none entry below way.0)) (is_reflexive bounds (front ++ new.0));
   }
-  | inr old ↦ elim (either bounds (front ++ new.0) (front ++ old.way)) [
+  | inr old ↦ elim (is_total bounds (front ++ new.0) (front ++ old.way)) [
     | inl better ↦ record {
       way = new.0;
       is_way = new.1;
-      none_better = λ entry entries h way. at entry entries h way (λ below. both bounds (front ++ new.0) (front ++ old.way) (front ++ (entry ∷ entries)) better (old.none_better entry entries below way)) (itself bounds (front ++ new.0));
+      none_better = λ entry entries h way. at entry entries h way (λ below. is_transitive bounds (front ++ new.0) (front ++ old.way) (front ++ (entry ∷ entries)) better (old.none_better entry entries below way)) (is_reflexive bounds (front ++ new.0));
     }
     | inr worse ↦ record {
       way = old.way;
@@ -75,7 +75,7 @@ below_more bounds front left end has best so_far = elim so_far [
     from_old : (old : BestBelow bounds front left end) → NoWorse bounds (front ++ old.way) (front ++ new.0) → (entry : ℕ) (entries : List ℕ) → entry < end + 1 → IsWay left (entry ∷ entries)
         → NoWorse bounds (front ++ old.way) (front ++ (entry ∷ entries))
     from_old old worse entry entries h way = elim (cases_eq entry end) [
-      | inl equal ↦ both bounds (front ++ old.way) (front ++ new.0) (front ++ (entry ∷ entries)) worse (here entry entries equal way)
+      | inl equal ↦ is_transitive bounds (front ++ old.way) (front ++ new.0) (front ++ (entry ∷ entries)) worse (here entry entries equal way)
       | inr apart ↦ old.none_better entry entries (omega arith) way
     ]
 
@@ -134,7 +134,7 @@ best_behind bounds zero n left front fits none = record {
 }
   where
     only : (other : List ℕ) → IsWay left other → NoWorse bounds (front ++ []) (front ++ other)
-    only [] way = itself bounds (front ++ [])
+    only [] way = is_reflexive bounds (front ++ [])
     only (entry ∷ entries) way = absurd (omega (arith, less_without left entry way.0, set_is_empty n left fits none))
 best_behind bounds (suc size) n left front fits some =
     from_all bounds n left front fits (omega arith)

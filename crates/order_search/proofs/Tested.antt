@@ -54,8 +54,8 @@ at_way (suc size) n test left front (entry ∷ entries) fits some h is_way =
 abbrev pub first_test : ℕ → ℕ → Bool → Bool
 first_test m n behind = cond (leb n m) (cond (leb m n) behind false) true
 
-pub first_told : (m n : ℕ) (behind : Bool) → first_test m n behind ≡ true → (m < n) ⊎ ((m ≡ n) × (behind ≡ true))
-first_told m n behind h = elim (cases_lt m n) [
+pub first_from_test : (m n : ℕ) (behind : Bool) → first_test m n behind ≡ true → (m < n) ⊎ ((m ≡ n) × (behind ≡ true))
+first_from_test m n behind h = elim (cases_lt m n) [
   | inl below ↦ inl below
   | inr not_below ↦ (let inner : cond (leb m n) behind false ≡ true = rw (le-leb n m not_below) at h in
       let parts : (leb m n ≡ true) × (behind ≡ true) = both_true (leb m n) behind inner in
@@ -70,28 +70,28 @@ not_after [] b = true
 not_after (x ∷ a) [] = false
 not_after (x ∷ a) (y ∷ b) = first_test x y (not_after a b)
 
-not_after_told : (a b : List ℕ) → not_after a b ≡ true → IsNotAfter a b
-not_after_told [] b h = tt
-not_after_told (x ∷ a) [] h = absurd (false≢true h)
-not_after_told (x ∷ a) (y ∷ b) h = elim (first_told x y (not_after a b) h) [
+not_after_from_test : (a b : List ℕ) → not_after a b ≡ true → IsNotAfter a b
+not_after_from_test [] b h = tt
+not_after_from_test (x ∷ a) [] h = absurd (false≢true h)
+not_after_from_test (x ∷ a) (y ∷ b) h = elim (first_from_test x y (not_after a b) h) [
   | inl below ↦ inl below
-  | inr same ↦ inr (same.0, not_after_told a b same.1)
+  | inr same ↦ inr (same.0, not_after_from_test a b same.1)
 ]
 
 abbrev pub no_worse : List ℕ → List ℕ → List ℕ → Bool
 no_worse bounds a b = first_test (cost bounds a) (cost bounds b) (first_test (total bounds a) (total bounds b) (not_after a b))
 
-no_worse_told : (bounds a b : List ℕ) → no_worse bounds a b ≡ true → NoWorse bounds a b
-no_worse_told bounds a b h = elim (first_told (cost bounds a) (cost bounds b) (first_test (total bounds a) (total bounds b) (not_after a b)) h) [
+no_worse_from_test : (bounds a b : List ℕ) → no_worse bounds a b ≡ true → NoWorse bounds a b
+no_worse_from_test bounds a b h = elim (first_from_test (cost bounds a) (cost bounds b) (first_test (total bounds a) (total bounds b) (not_after a b)) h) [
   | inl below ↦ inl below
-  | inr same ↦ elim (first_told (total bounds a) (total bounds b) (not_after a b) same.1) [
+  | inr same ↦ elim (first_from_test (total bounds a) (total bounds b) (not_after a b) same.1) [
     | inl below ↦ inr (same.0, inl below)
-    | inr equal ↦ inr (same.0, inr (equal.0, not_after_told a b equal.1))
+    | inr equal ↦ inr (same.0, inr (equal.0, not_after_from_test a b equal.1))
   ]
 ]
 
 pub best_by_test : (bounds : List ℕ) (n : ℕ) (best : List ℕ) → IsWay (2 ^ n - 1) best → each_way n n (λ other. no_worse bounds best other) (2 ^ n - 1) [] ≡ true → IsBest bounds n best
 best_by_test bounds n best way tested =
     best_of bounds n best (order_from_way n best way)
-    (λ other is_order. no_worse_told bounds best other
+    (λ other is_order. no_worse_from_test bounds best other
     (at_way n n (λ (s : List ℕ). no_worse bounds best s) (2 ^ n - 1) [] other (omega (arith, pow_pos n)) (size-whole n) tested (way_from_order n other is_order)))

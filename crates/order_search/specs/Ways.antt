@@ -3,8 +3,8 @@ use Rattle.std.specs.Prelude.{◌≡◌, ℕ, ◌+◌, ◌-◌, ◌^◌, ◌<◌
 use Rattle.std.specs.Int.{bit_at}
 use Rattle.limits.specs.Profile.{top_bound}
 use Rattle.order_search.specs.Orders.{IsNotAfter}
-use Rattle.order_search.specs.declared.weight.Weight.{Weight}
-use Rattle.order_search.specs.declared.weight.Weight.TheVariants as weight
+use Rattle.order_search.specs.declared.weight.Weighing.{Weighing}
+use Rattle.order_search.specs.declared.weight.Weighing.TheVariants as weight
 
 -- the way has each entry of the set once, and no other entry
 abbrev pub IsWay : ℕ → List ℕ → Type 0
@@ -12,42 +12,42 @@ IsWay left [] = left ≡ 0
 IsWay left (entry ∷ entries) = (bit_at left entry ≡ 1) × IsWay (left - 2 ^ entry) entries
 
 -- a bound combined with the weight of the rest of the way. In a sum, a bound above `most` makes the weight `top_bound`, the greatest weight
-abbrev pub combined : Weight → ℕ → ℕ → ℕ
-combined weight.Greatest bound behind = max bound behind
-combined (weight.SumWithin most) bound behind = if nat_le bound most then (min (bound + behind) top_bound) else top_bound
+abbrev pub combined : Weighing → ℕ → ℕ → ℕ
+combined weight.Greatest bound weight_of_rest = max bound weight_of_rest
+combined (weight.SumOfBoundsUpTo most) bound weight_of_rest = if nat_le bound most then (min (bound + weight_of_rest) top_bound) else top_bound
 
 -- the bound of the set of joined entries after `entry` is joined next. The set has all entries except those that are still left then
 abbrev pub bound_with : List ℕ → ℕ → ℕ → ℕ → ℕ
 bound_with bounds all left entry = slice_index bounds (all - (left - 2 ^ entry))
 
 -- the weight of a way: the bounds along the way, combined
-abbrev pub weight_of : Weight → List ℕ → ℕ → ℕ → List ℕ → ℕ
+abbrev pub weight_of : Weighing → List ℕ → ℕ → ℕ → List ℕ → ℕ
 weight_of w bounds all left [] = 0
 weight_of w bounds all left (entry ∷ entries) = combined w (bound_with bounds all left entry)
     (weight_of w bounds all (left - 2 ^ entry) entries)
 
 -- a way has this weight, and no way is lighter
-pub record IsLeastWeight (w : Weight) (bounds : List ℕ) (all left least : ℕ) : Type 0 where
+pub record IsLeastWeight (w : Weighing) (bounds : List ℕ) (all left least : ℕ) : Type 0 where
   pub way : List ℕ
   pub is_way : IsWay left way
   pub weighs : weight_of w bounds all left way ≡ least
   pub none_lighter : (other : List ℕ) → IsWay left other → least ≤ weight_of w bounds all left other
 
 -- the table has the least weight for each set whose number is below `end`
-abbrev pub IsTable : Weight → List ℕ → ℕ → List ℕ → ℕ → Type 0
-IsTable w bounds all table end = (left : ℕ) → left < end → IsLeastWeight w bounds all left (slice_index table left)
+abbrev pub HasLeastWeights : Weighing → List ℕ → ℕ → List ℕ → ℕ → Type 0
+HasLeastWeights w bounds all table end = (left : ℕ) → left < end → IsLeastWeight w bounds all left (slice_index table left)
 
 -- the weight of the lightest way that begins with the entry, by the table
-abbrev pub weight_through : Weight → List ℕ → List ℕ → ℕ → ℕ → ℕ → ℕ
+abbrev pub weight_through : Weighing → List ℕ → List ℕ → ℕ → ℕ → ℕ → ℕ
 weight_through w bounds table all left entry = combined w (bound_with bounds all left entry) (slice_index table (left - 2 ^ entry))
 
 -- the entry begins a lightest way
-pub record BeginsLightest (w : Weight) (bounds table : List ℕ) (all left entry : ℕ) : Type 0 where
+pub record BeginsLightest (w : Weighing) (bounds table : List ℕ) (all left entry : ℕ) : Type 0 where
   pub is_left : bit_at left entry ≡ 1
   pub is_least : weight_through w bounds table all left entry ≡ slice_index table left
 
 -- no way is lighter, and of the lightest ways this one comes first
-pub record IsFirstLightest (w : Weight) (bounds : List ℕ) (all left : ℕ) (way : List ℕ) : Type 0 where
+pub record IsFirstLightest (w : Weighing) (bounds : List ℕ) (all left : ℕ) (way : List ℕ) : Type 0 where
   pub is_way : IsWay left way
   pub none_lighter : (other : List ℕ) → IsWay left other → weight_of w bounds all left way ≤ weight_of w bounds all left other
   pub none_earlier : (other : List ℕ) → IsWay left other → weight_of w bounds all left other ≡ weight_of w bounds all left way

@@ -8,7 +8,7 @@ ghost use Rattle.plans.specs.LeftDeep.{IsOrder, IsPlan};
 use crate::PlanError;
 use crate::table::least_weights;
 use crate::way::first_lightest;
-use crate::weight::Weight;
+use crate::weight::Weighing;
 use base_io::{NoMemory, Seq};
 use entry_sets::EntrySet;
 use limits::TOP_BOUND;
@@ -67,7 +67,7 @@ fn least_cost(alloc: Global, count: u8, bounds: &[u128]) -> Result<u128, NoMemor
     requires bounds { length bounds.now ≡ 2 ^ count }
     ensures { IfOk result (λ least. IsLeastCost bounds.now count least) }
 {
-    let costs = least_weights(alloc, Weight::Greatest, count, bounds)?;
+    let costs = least_weights(alloc, Weighing::Greatest, count, bounds)?;
     Ok(costs[bounds.len() - 1])
 }
 
@@ -80,12 +80,12 @@ fn best_order(alloc: Global, count: u8, bounds: &[u128], least: u128) -> Result<
     ensures best { IfOk result (λ order. IsBest bounds.now count order.items) }
     ensures cost { IfOk result (λ order. cost bounds.now order.items ≡ least) }
 {
-    let sums = least_weights(alloc, Weight::SumWithin(least), count, bounds)?;
+    let sums = least_weights(alloc, Weighing::SumOfBoundsUpTo(least), count, bounds)?;
     first_lightest(alloc, least, count, bounds, sums.as_slice())
 }
 
 // The bounds of the order's levels: of its first entry, of its first two entries, and so on.
-#[tactic(auto, using(crate::proofs::LevelsTold::next_within, crate::proofs::LevelsTold::next_bound, crate::proofs::LevelsTold::next_entry))]
+#[tactic(auto, using(crate::proofs::LevelsSoFar::next_within, crate::proofs::LevelsSoFar::next_bound, crate::proofs::LevelsSoFar::next_entry))]
 fn levels_along(
     alloc: Global,
     count: u8,

@@ -3,9 +3,9 @@
 ghost use Rattle.std.specs.Prelude.{◌≡◌, ◌-◌, ◌^◌, ◌<◌, ◌≤◌, length, IfOk};
 ghost use Rattle.std.specs.Int.{bit_at};
 ghost use Rattle.limits.specs.Profile.{most_entries};
-ghost use Rattle.order_search.specs.Ways.{IsLeastWeight, IsTable, weight_through as weight_through_of};
+ghost use Rattle.order_search.specs.Ways.{IsLeastWeight, HasLeastWeights, weight_through as weight_through_of};
 
-use crate::weight::Weight;
+use crate::weight::Weighing;
 use base_io::NoMemory;
 use entry_sets::EntrySet;
 use std::alloc::Global;
@@ -13,7 +13,7 @@ use std::alloc::Global;
 // The weight of the lightest way through the set `left` that begins with this entry.
 #[tactic(auto, using(entry_sets::proofs::Bits::less_without))]
 pub(crate) fn weight_through(
-    weight: Weight,
+    weight: Weighing,
     bounds: &[u128],
     table: &[u128],
     left: EntrySet,
@@ -25,17 +25,23 @@ pub(crate) fn weight_through(
     requires table { left ≤ length table.now }
     ensures { result ≡ weight_through_of weight bounds.now table.now (length bounds.now - 1) left entry }
 {
-    let behind = left.without(entry).bits() as usize;
-    weight.joined(bounds[bounds.len() - 1 - behind], table[behind])
+    let rest = left.without(entry).bits() as usize;
+    weight.combined(bounds[bounds.len() - 1 - rest], table[rest])
 }
 
 // The least weight of a way through the set `left`, by the table of the sets with smaller numbers.
-fn least_weight(weight: Weight, count: u8, bounds: &[u128], table: &[u128], left: EntrySet) -> u128
+fn least_weight(
+    weight: Weighing,
+    count: u8,
+    bounds: &[u128],
+    table: &[u128],
+    left: EntrySet,
+) -> u128
     requires count { count ≤ most_entries }
     requires bounds { length bounds.now ≡ 2 ^ count }
     requires left { left < length bounds.now }
     requires filled { length table.now ≡ left }
-    requires table { IsTable weight bounds.now (length bounds.now - 1) table.now left }
+    requires table { HasLeastWeights weight bounds.now (length bounds.now - 1) table.now left }
     ensures { IsLeastWeight weight bounds.now (length bounds.now - 1) left result }
 {
     if left.bits() == 0 {
@@ -53,14 +59,14 @@ fn least_weight(weight: Weight, count: u8, bounds: &[u128], table: &[u128], left
 // The table of the least weights for all sets.
 pub(crate) fn least_weights(
     alloc: Global,
-    weight: Weight,
+    weight: Weighing,
     count: u8,
     bounds: &[u128],
 ) -> Result<Vec<u128>, NoMemory>
     requires count { count ≤ most_entries }
     requires bounds { length bounds.now ≡ 2 ^ count }
     ensures filled { IfOk result (λ table. length table.items ≡ 2 ^ count) }
-    ensures table { IfOk result (λ table. IsTable weight bounds.now (length bounds.now - 1) table.items (2 ^ count)) }
+    ensures table { IfOk result (λ table. HasLeastWeights weight bounds.now (length bounds.now - 1) table.items (2 ^ count)) }
 {
     let mut table = Vec::with_capacity(alloc, bounds.len())?;
     for bits in 0..bounds.len() {

@@ -1,16 +1,16 @@
 //! Reads the first of the lightest ways off the table, entry by entry. A way is an order of the entries that are still to be joined.
 ghost use Rattle.std.specs.Prelude.{◌≡◌, ◌-◌, ◌^◌, ◌<◌, ◌≤◌, ◌↔◌, ℕ, length, slice_index, IfOk, IsTrue};
 ghost use Rattle.limits.specs.Profile.{most_entries, top_bound};
-ghost use Rattle.order_search.specs.Ways.{BeginsLightest, IsFirstLightest, IsTable};
+ghost use Rattle.order_search.specs.Ways.{BeginsLightest, IsFirstLightest, HasLeastWeights};
 
 use crate::table::weight_through;
-use crate::weight::Weight;
+use crate::weight::Weighing;
 use base_io::NoMemory;
 use entry_sets::EntrySet;
 use std::alloc::Global;
 
 fn begins_lightest(
-    weight: Weight,
+    weight: Weighing,
     bounds: &[u128],
     table: &[u128],
     left: EntrySet,
@@ -26,13 +26,13 @@ fn begins_lightest(
 }
 
 // The first entry that begins a lightest way through the set `left`.
-fn next_entry(weight: Weight, count: u8, bounds: &[u128], table: &[u128], left: EntrySet) -> u8
+fn next_entry(weight: Weighing, count: u8, bounds: &[u128], table: &[u128], left: EntrySet) -> u8
     requires count { count ≤ most_entries }
     requires bounds { length bounds.now ≡ 2 ^ count }
     requires some { 0 < left }
     requires left { left < length bounds.now }
     requires filled { length table.now ≡ length bounds.now }
-    requires table { IsTable weight bounds.now (length bounds.now - 1) table.now (length bounds.now) }
+    requires table { HasLeastWeights weight bounds.now (length bounds.now - 1) table.now (length bounds.now) }
     ensures within { result < count }
     ensures begins { BeginsLightest weight bounds.now table.now (length bounds.now - 1) left result }
     ensures first { (earlier : ℕ) → earlier < result → BeginsLightest weight bounds.now table.now (length bounds.now - 1) left earlier → ⊥ }
@@ -55,15 +55,15 @@ pub(crate) fn first_lightest(
     requires count { count ≤ most_entries }
     requires bounds { length bounds.now ≡ 2 ^ count }
     requires filled { length table.now ≡ length bounds.now }
-    requires table { IsTable (Weight.SumWithin most) bounds.now (length bounds.now - 1) table.now (length bounds.now) }
+    requires table { HasLeastWeights (Weighing.SumOfBoundsUpTo most) bounds.now (length bounds.now - 1) table.now (length bounds.now) }
     requires light { slice_index table.now (length bounds.now - 1) < top_bound }
     ensures { IfOk result
-        (λ order. IsFirstLightest (Weight.SumWithin most) bounds.now (length bounds.now - 1) (length bounds.now - 1) order.items) }
+        (λ order. IsFirstLightest (Weighing.SumOfBoundsUpTo most) bounds.now (length bounds.now - 1) (length bounds.now - 1) order.items) }
 {
     let mut order = Vec::new(alloc);
     let mut left = EntrySet::from_bits((bounds.len() - 1) as u16);
     while left.bits() > 0 {
-        let entry = next_entry(Weight::SumWithin(most), count, bounds, table, left);
+        let entry = next_entry(Weighing::SumOfBoundsUpTo(most), count, bounds, table, left);
         order.push(entry)?;
         left = left.without(entry);
     }

@@ -1,29 +1,29 @@
 //! Weights that the search minimizes. A way is an order of the entries that are still to be joined. Its weight is the greatest of the bounds along
 //! the way, or their sum.
 ghost use Rattle.std.specs.Prelude.{◌≡◌};
-ghost use Rattle.order_search.specs.Ways.{combined as joined_of};
+ghost use Rattle.order_search.specs.Ways.{combined};
 
 use limits::TOP_BOUND;
 
 // How the bounds along a way make its weight.
 #[derive(Clone, Copy)]
-pub(crate) enum Weight {
+pub(crate) enum Weighing {
     /// The greatest of the bounds.
     Greatest,
     /// The sum of the bounds, or TOP_BOUND if the sum is greater. If any bound is above this number, the weight is TOP_BOUND too.
-    SumWithin(u128),
+    SumOfBoundsUpTo(u128),
 }
 
-impl Weight {
+impl Weighing {
     // Combines the next bound with the weight of the rest of the way.
-    pub(crate) fn joined(self, bound: u128, behind: u128) -> u128
-        ensures { result ≡ joined_of self bound behind }
+    pub(crate) fn combined(self, bound: u128, weight_of_rest: u128) -> u128
+        ensures { result ≡ combined self bound weight_of_rest }
     {
         match self {
-            Weight::Greatest => bound.max(behind),
-            Weight::SumWithin(most) => {
+            Weighing::Greatest => bound.max(weight_of_rest),
+            Weighing::SumOfBoundsUpTo(most) => {
                 if bound <= most {
-                    bound.saturating_add(behind)
+                    bound.saturating_add(weight_of_rest)
                 } else {
                     TOP_BOUND
                 }

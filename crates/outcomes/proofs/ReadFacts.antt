@@ -4,9 +4,9 @@ use Rattle.base_io.specs.Causes.{Rose}
 use Rattle.base_io.specs.Files.{Files}
 use Rattle.base_io.specs.Devices.{Reading}
 use Rattle.base_io.proofs.CountFacts.{later_then_rose}
-use Rattle.outcomes.specs.Reads.{◌>>=◌, Ends, Gives, IsOfWhatIsThere, MissesNothing, Reads, StopsBy}
-use Rattle.outcomes.specs.declared.ending.Ending.{Ending}
-use Rattle.outcomes.specs.declared.ending.Ending.TheVariants as ending
+use Rattle.outcomes.specs.Reads.{◌>>=◌, Ends, Gives, IsNotMissing, MissesNothing, Reads, StopsBy}
+use Rattle.outcomes.specs.declared.failure.Failure.{Failure}
+use Rattle.outcomes.specs.declared.failure.Failure.TheVariants as failure
 use Rattle.outcomes.specs.declared.names.FileId.{FileId}
 use Rattle.outcomes.specs.declared.refusal.Refusal.{Refusal}
 use Rattle.outcomes.specs.declared.refusal.Refusal.TheVariants as refusal
@@ -14,8 +14,8 @@ use Rattle.outcomes.specs.declared.refusal.Refusal.TheVariants as refusal
 abbrev OfFiles : Type 0 → Type 0
 OfFiles A = Files → Result A Refusal
 
-abbrev Places : Type 1
-Places = Files → FileId → Type 0
+abbrev FilesRead : Type 1
+FilesRead = Files → FileId → Type 0
 
 abbrev pub joined : Reading → Reading → Reading
 joined first second = record {
@@ -48,7 +48,7 @@ module _ {A B : Type 0} (one : OfFiles A) (two : A → OfFiles B) where
   abbrev pub both : OfFiles B
   both files = one files >>= (λ x. two x files)
 
-  pub then_stops : (store : Reading) (C D : Places) (e : Ending) → ((files : Files) (file : FileId) → C files file → D files file)
+  pub then_stops : (store : Reading) (C D : FilesRead) (e : Failure) → ((files : Files) (file : FileId) → C files file → D files file)
       → Reads store one C (Err e) → Reads store both D (Err e)
   then_stops store C D e more h = record {
     gives = ends e h.gives;
@@ -57,12 +57,12 @@ module _ {A B : Type 0} (one : OfFiles A) (two : A → OfFiles B) where
     same = h.same;
   }
     where
-      ends : (e : Ending) → Ends store one C e → Ends store both D e
-      ends (ending.Refused r) k = ((λ files told. at_err (one files) (λ x. two x files) r (k.0 files told)), k.1, k.2)
-      ends (ending.Fault file) k = (k.0, λ files told. more files file (k.1 files told))
-      ends ending.NoMemory k = tt
+      ends : (e : Failure) → Ends store one C e → Ends store both D e
+      ends (failure.Refused r) k = ((λ files told. at_err (one files) (λ x. two x files) r (k.0 files told)), k.1, k.2)
+      ends (failure.Fault file) k = (k.0, λ files told. more files file (k.1 files told))
+      ends failure.NoMemory k = tt
 
-  pub then_reads : (first second : Reading) (C D E : Places) (x : A) (answer : Result B Ending) → Meets first second
+  pub then_reads : (first second : Reading) (C D E : FilesRead) (x : A) (answer : Result B Failure) → Meets first second
       → ((files : Files) (file : FileId) → one files ≡ Ok x → D files file → E files file)
       → Reads first one C (Ok x) → Reads second (two x) D answer → Reads (joined first second) both E answer
   then_reads first second C D E x answer meets more h k = record {
@@ -78,24 +78,24 @@ module _ {A B : Type 0} (one : OfFiles A) (two : A → OfFiles B) where
       told_again : (files : Files) → first.files ≡ Some files → second.files ≡ Some files
       told_again files told = sym meets.files ∙ h.same ∙ told
 
-      ends : (e : Ending) → Ends second (two x) D e → Ends (joined first second) both E e
-      ends (ending.Refused r) w = (
+      ends : (e : Failure) → Ends second (two x) D e → Ends (joined first second) both E e
+      ends (failure.Refused r) w = (
         (λ files told. at_ok (one files) (λ y. two y files) x (h.gives files told) ∙ w.0 files (told_again files told)),
         (λ none. w.1 (sym meets.files ∙ h.same ∙ none)),
         w.2,
       )
-      ends (ending.Fault file) w = (
+      ends (failure.Fault file) w = (
         later_then_rose first.faults_before second.faults_before second.faults_after (omega (arith, h.later, meets.faults)) w.0,
         λ files told. more files file (h.gives files told) (w.1 files (told_again files told)),
       )
-      ends ending.NoMemory w = tt
+      ends failure.NoMemory w = tt
 
-      given : (answer : Result B Ending) → Gives second (two x) D answer → Gives (joined first second) both E answer
+      given : (answer : Result B Failure) → Gives second (two x) D answer → Gives (joined first second) both E answer
       given (Ok y) w = λ files told. at_ok (one files) (λ z. two z files) x (h.gives files told) ∙ w files (told_again files told)
       given (Err e) w = ends e w
 
 -- here the second step reads no file
-module _ {A B : Type 0} (store : Reading) (one : OfFiles A) (next : A → Result B Refusal) (C D : Places) (x : A) where
+module _ {A B : Type 0} (store : Reading) (one : OfFiles A) (next : A → Result B Refusal) (C D : FilesRead) (x : A) where
   abbrev after : OfFiles B
   after files = one files >>= next
 
@@ -107,7 +107,7 @@ module _ {A B : Type 0} (store : Reading) (one : OfFiles A) (next : A → Result
     same = h.same;
   }
 
-  pub then_tells : (e : Ending) → StopsBy (next x) e → Reads store one C (Ok x) → Reads store after D (Err e)
+  pub then_tells : (e : Failure) → StopsBy (next x) e → Reads store one C (Ok x) → Reads store after D (Err e)
   then_tells e tells h = record {
     gives = ends e tells;
     misses = λ files told missed. h.misses files told (misses_first (one files) next missed);
@@ -115,12 +115,12 @@ module _ {A B : Type 0} (store : Reading) (one : OfFiles A) (next : A → Result
     same = h.same;
   }
     where
-      ends : (e : Ending) → StopsBy (next x) e → Ends store after D e
-      ends (ending.Refused r) w = ((λ files told. at_ok (one files) next x (h.gives files told) ∙ w.0), (λ none. w.1), w.2)
-      ends (ending.Fault file) w = absurd w
-      ends ending.NoMemory w = tt
+      ends : (e : Failure) → StopsBy (next x) e → Ends store after D e
+      ends (failure.Refused r) w = ((λ files told. at_ok (one files) next x (h.gives files told) ∙ w.0), (λ none. w.1), w.2)
+      ends (failure.Fault file) w = absurd w
+      ends failure.NoMemory w = tt
 
-pub reads_as : {A : Type 0} (store : Reading) (one two : OfFiles A) (C D : Places) (answer : Result A Ending) → ((files : Files) → two files ≡ one files)
+pub reads_as : {A : Type 0} (store : Reading) (one two : OfFiles A) (C D : FilesRead) (answer : Result A Failure) → ((files : Files) → two files ≡ one files)
     → ((files : Files) (file : FileId) → C files file → D files file) → Reads store one C answer → Reads store two D answer
 reads_as {A} store one two C D answer same more h = record {
   gives = given answer h.gives;
@@ -129,11 +129,11 @@ reads_as {A} store one two C D answer same more h = record {
   same = h.same;
 }
   where
-    ends : (e : Ending) → Ends store one C e → Ends store two D e
-    ends (ending.Refused r) w = ((λ files told. same files ∙ w.0 files told), w.1, w.2)
-    ends (ending.Fault file) w = (w.0, λ files told. more files file (w.1 files told))
-    ends ending.NoMemory w = tt
+    ends : (e : Failure) → Ends store one C e → Ends store two D e
+    ends (failure.Refused r) w = ((λ files told. same files ∙ w.0 files told), w.1, w.2)
+    ends (failure.Fault file) w = (w.0, λ files told. more files file (w.1 files told))
+    ends failure.NoMemory w = tt
 
-    given : (answer : Result A Ending) → Gives store one C answer → Gives store two D answer
+    given : (answer : Result A Failure) → Gives store one C answer → Gives store two D answer
     given (Ok y) w = λ files told. same files ∙ w files told
     given (Err e) w = ends e w

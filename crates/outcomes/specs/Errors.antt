@@ -1,7 +1,7 @@
--- Each error of a reader or of the planner, as a refusal and as an ending.
+-- Each error of a reader or of the planner, as a refusal and as a failure.
 --
 -- An error may be `NoMemory`, which isn't a refusal. The functions to `Refusal` need some value for it, and give `Usage`. No definition gives
--- the error `NoMemory` (law `no_reader_wants_memory` of safebound_laws), so the verdict never has this `Usage`.
+-- the error `NoMemory` (law `definitions_never_give_no_memory` of safebound_laws), so the verdict never has this `Usage`.
 use Rattle.std.specs.Prelude.{ℕ}
 use Rattle.schema_types.specs.declared.errors.LimitKind.TheVariants as limit
 use Rattle.schema_types.specs.declared.errors.SchemaError.{SchemaError}
@@ -12,8 +12,8 @@ use Rattle.order_search.specs.declared.refusal.PlanError.{PlanError}
 use Rattle.order_search.specs.declared.refusal.PlanError.TheVariants as plan
 use Rattle.csv_tables.specs.declared.types.TableError.{TableError}
 use Rattle.csv_tables.specs.declared.types.TableError.TheVariants as table
-use Rattle.outcomes.specs.declared.ending.Ending.{Ending}
-use Rattle.outcomes.specs.declared.ending.Ending.TheVariants as ending
+use Rattle.outcomes.specs.declared.failure.Failure.{Failure}
+use Rattle.outcomes.specs.declared.failure.Failure.TheVariants as failure
 use Rattle.outcomes.specs.declared.names.FileId.TheVariants as file
 use Rattle.outcomes.specs.declared.refusal.QueryCause.TheVariants as query_cause
 use Rattle.outcomes.specs.declared.refusal.Refusal.{Refusal}
@@ -60,22 +60,22 @@ plan_refusal (plan.Budget least) = refusal.Budget least
 plan_refusal plan.PastBits = refusal.PastBits
 plan_refusal plan.NoMemory = refusal.Usage
 
-abbrev pub schema_ending : SchemaError → Ending
-schema_ending schema.NoMemory = ending.NoMemory
-schema_ending e = ending.Refused (schema_refusal e)
+abbrev pub schema_failure : SchemaError → Failure
+schema_failure schema.NoMemory = failure.NoMemory
+schema_failure e = failure.Refused (schema_refusal e)
 
-abbrev pub query_ending : QueryError → Ending
-query_ending query.NoMemory = ending.NoMemory
-query_ending e = ending.Refused (query_refusal e)
+abbrev pub query_failure : QueryError → Failure
+query_failure query.NoMemory = failure.NoMemory
+query_failure e = failure.Refused (query_refusal e)
 
-abbrev pub stats_ending : StatsError → Ending
-stats_ending stats.NoMemory = ending.NoMemory
-stats_ending e = ending.Refused (stats_refusal e)
+abbrev pub stats_failure : StatsError → Failure
+stats_failure stats.NoMemory = failure.NoMemory
+stats_failure e = failure.Refused (stats_refusal e)
 
-abbrev pub plan_ending : PlanError → Ending
-plan_ending plan.NoMemory = ending.NoMemory
-plan_ending e = ending.Refused (plan_refusal e)
+abbrev pub plan_failure : PlanError → Failure
+plan_failure plan.NoMemory = failure.NoMemory
+plan_failure e = failure.Refused (plan_refusal e)
 
-abbrev pub table_ending : ℕ → TableError → Ending
-table_ending number table.NoMemory = ending.NoMemory
-table_ending number e = ending.Refused (table_refusal number e)
+abbrev pub table_failure : ℕ → TableError → Failure
+table_failure number table.NoMemory = failure.NoMemory
+table_failure number e = failure.Refused (table_refusal number e)

@@ -3,8 +3,8 @@ use Rattle.std.specs.Prelude.{ℕ, ◌≡◌, ◌≢◌, ◌≤◌, Option, None
 use Rattle.base_io.specs.Causes.{Rose}
 use Rattle.base_io.specs.Files.{Files}
 use Rattle.base_io.specs.Devices.{Reading}
-use Rattle.outcomes.specs.declared.ending.Ending.{Ending}
-use Rattle.outcomes.specs.declared.ending.Ending.TheVariants as ending
+use Rattle.outcomes.specs.declared.failure.Failure.{Failure}
+use Rattle.outcomes.specs.declared.failure.Failure.TheVariants as failure
 use Rattle.outcomes.specs.declared.names.FileId.{FileId}
 use Rattle.outcomes.specs.declared.refusal.Refusal.{Refusal}
 use Rattle.outcomes.specs.declared.refusal.Refusal.TheVariants as refusal
@@ -16,28 +16,28 @@ abbrev pub ◌>>=◌ : {A B : Type 0} → Result A Refusal → (A → Result B R
 (Err r) >>= f = Err r
 
 -- an answer of a reader, with its error turned into a refusal
-abbrev pub told : {A E : Type 0} → (E → Refusal) → Result A E → Result A Refusal
-told refusal_of (Ok x) = Ok x
-told refusal_of (Err e) = Err (refusal_of e)
+abbrev pub with_refusal : {A E : Type 0} → (E → Refusal) → Result A E → Result A Refusal
+with_refusal refusal_of (Ok x) = Ok x
+with_refusal refusal_of (Err e) = Err (refusal_of e)
 
 -- an answer with its value changed by a function
-abbrev pub seen : {A B E : Type 0} → (A → B) → Result A E → Result B E
-seen view (Ok x) = Ok (view x)
-seen view (Err e) = Err e
+abbrev pub mapped : {A B E : Type 0} → (A → B) → Result A E → Result B E
+mapped view (Ok x) = Ok (view x)
+mapped view (Err e) = Err e
 
 -- the stage doesn't refuse because a file is absent
 abbrev pub MissesNothing : {A : Type 0} → Result A Refusal → Type 0
 MissesNothing stage = (file : FileId) → stage ≢ Err (refusal.Missing file)
 
 -- the refusal isn't about an absent file
-abbrev pub IsOfWhatIsThere : Refusal → Type 0
-IsOfWhatIsThere r = (file : FileId) → r ≢ refusal.Missing file
+abbrev pub IsNotMissing : Refusal → Type 0
+IsNotMissing r = (file : FileId) → r ≢ refusal.Missing file
 
 -- why a step that reads no file ended: the stage refuses, but not about the words or an absent file; or memory ran out
-abbrev pub StopsBy : {A : Type 0} → Result A Refusal → Ending → Type 0
-StopsBy stage (ending.Refused r) = (stage ≡ Err r) × IsOfWhatIsThere r × (r ≢ refusal.Usage)
-StopsBy stage (ending.Fault file) = ⊥
-StopsBy stage ending.NoMemory = ⊤
+abbrev pub StopsBy : {A : Type 0} → Result A Refusal → Failure → Type 0
+StopsBy stage (failure.Refused r) = (stage ≡ Err r) × IsNotMissing r × (r ≢ refusal.Usage)
+StopsBy stage (failure.Fault file) = ⊥
+StopsBy stage failure.NoMemory = ⊤
 
 -- a step that reads only `file`: `other` is this file
 abbrev pub AtFile : FileId → Files → FileId → Type 0
@@ -45,22 +45,22 @@ AtFile file files other = other ≡ file
 
 -- Why a reading ended. Refused: the stage refuses, but not about the words, and not about an absent file if the store tells no files. Fault: a read
 -- of a file that the stage reads has failed, and was counted. NoMemory: memory ran out.
-abbrev pub Ends : {A : Type 0} → Reading → (Files → Result A Refusal) → (Files → FileId → Type 0) → Ending → Type 0
-Ends store stage ComesTo (ending.Refused r) =
-    ((files : Files) → store.files ≡ Some files → stage files ≡ Err r) × (store.files ≡ None → IsOfWhatIsThere r) × (r ≢ refusal.Usage)
-Ends store stage ComesTo (ending.Fault file) =
-    Rose store.faults_before store.faults_after × ((files : Files) → store.files ≡ Some files → ComesTo files file)
-Ends store stage ComesTo ending.NoMemory = ⊤
+abbrev pub Ends : {A : Type 0} → Reading → (Files → Result A Refusal) → (Files → FileId → Type 0) → Failure → Type 0
+Ends store stage ReadsFile (failure.Refused r) =
+    ((files : Files) → store.files ≡ Some files → stage files ≡ Err r) × (store.files ≡ None → IsNotMissing r) × (r ≢ refusal.Usage)
+Ends store stage ReadsFile (failure.Fault file) =
+    Rose store.faults_before store.faults_after × ((files : Files) → store.files ≡ Some files → ReadsFile files file)
+Ends store stage ReadsFile failure.NoMemory = ⊤
 
 -- if the store tells its files, a value is the one that the stage gives over these files. If there is no value, `Ends` says why
-abbrev pub Gives : {A : Type 0} → Reading → (Files → Result A Refusal) → (Files → FileId → Type 0) → Result A Ending → Type 0
-Gives store stage ComesTo (Ok x) = (files : Files) → store.files ≡ Some files → stage files ≡ Ok x
-Gives store stage ComesTo (Err e) = Ends store stage ComesTo e
+abbrev pub Gives : {A : Type 0} → Reading → (Files → Result A Refusal) → (Files → FileId → Type 0) → Result A Failure → Type 0
+Gives store stage ReadsFile (Ok x) = (files : Files) → store.files ≡ Some files → stage files ≡ Ok x
+Gives store stage ReadsFile (Err e) = Ends store stage ReadsFile e
 
 -- All that a reading step promises: a true answer, no fewer faults, the same files, and no further absent file counted if the stage misses no file.
-pub record Reads {A : Type 0} (store : Reading) (stage : Files → Result A Refusal) (ComesTo : Files → FileId → Type 0)
-    (answer : Result A Ending) : Type 0 where
-  pub gives : Gives store stage ComesTo answer
+pub record Reads {A : Type 0} (store : Reading) (stage : Files → Result A Refusal) (ReadsFile : Files → FileId → Type 0)
+    (answer : Result A Failure) : Type 0 where
+  pub gives : Gives store stage ReadsFile answer
   pub misses : (files : Files) → store.files ≡ Some files → MissesNothing (stage files) → store.misses_after ≡ store.misses_before
   pub later : store.faults_before ≤ store.faults_after
   pub same : store.files_after ≡ store.files

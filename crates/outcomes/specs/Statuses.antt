@@ -1,17 +1,17 @@
--- The status of an ending, and the exit status of a process.
+-- The status of a failure, and the exit status of a process.
 use Rattle.std.specs.Prelude.{ℕ}
-use Rattle.outcomes.specs.declared.ending.Ending.{Ending}
-use Rattle.outcomes.specs.declared.ending.Ending.TheVariants as ending
+use Rattle.outcomes.specs.declared.failure.Failure.{Failure}
+use Rattle.outcomes.specs.declared.failure.Failure.TheVariants as failure
 use Rattle.outcomes.specs.declared.refusal.Refusal.{Refusal}
 use Rattle.outcomes.specs.declared.refusal.Refusal.TheVariants as refusal
 use Rattle.outcomes.specs.declared.status.Status.{Status}
 use Rattle.outcomes.specs.declared.status.Status.TheVariants as status
 
--- the status of an ending
-abbrev pub ended : Ending → Status
-ended (ending.Refused r) = status.Refused r
-ended (ending.Fault file) = status.ReadFault file
-ended ending.NoMemory = status.NoMemory
+-- the status of a failure
+abbrev pub status_of_failure : Failure → Status
+status_of_failure (failure.Refused r) = status.Refused r
+status_of_failure (failure.Fault file) = status.ReadFault file
+status_of_failure failure.NoMemory = status.NoMemory
 
 -- the exit status of a refusal. An absent file has the exit status of a failed read
 abbrev pub code_of_refusal : Refusal → ℕ

@@ -2,19 +2,19 @@
 //! a step that reads promises.
 //!
 //! A `Refusal` says what is wrong with the words or a file; it follows from these alone. A step that reads may stop
-//! with an `Ending`: a refusal, a failed read with its file, or too little memory. A `Status` is what a run answers.
+//! with a `Failure`: a refusal, a failed read with its file, or too little memory. A `Status` is what a run answers.
 //!
-//! Callers cite `ended` and `code_of` (in `specs/Statuses.antt`), and `Reads` (in `specs/Reads.antt`), the promise of a
+//! Callers cite `status_of_failure` and `code_of` (in `specs/Statuses.antt`), and `Reads` (in `specs/Reads.antt`), the promise of a
 //! step that reads from a store. The law `then_reads` chains two steps that read. For steps that write there are `Wrote`
-//! and `Put` of base_io.
+//! and `WroteBuffered` of base_io.
 #![tactic(auto)]
 
-mod ending;
+mod failure;
 mod names;
 mod refusal;
 mod status;
 
-pub use ending::{Ending, table_ending};
+pub use failure::{Failure, table_failure};
 pub use names::{FileId, SinkId};
 pub use refusal::{QueryCause, Refusal, SchemaCause, StatsCause, TableCause};
 pub use status::{NO_MEMORY, NO_WORDS, Status};

@@ -1,9 +1,9 @@
 //! What a run answers.
 ghost use Rattle.std.specs.Prelude.{◌≡◌};
-ghost use Rattle.outcomes.specs.Statuses.{code_of, ended};
+ghost use Rattle.outcomes.specs.Statuses.{code_of, status_of_failure};
 ghost use Rattle.outcomes.specs.declared.status.Status.TheVariants as status;
 
-use crate::{Ending, FileId, Refusal, SinkId};
+use crate::{Failure, FileId, Refusal, SinkId};
 
 /// The exit status if there was too little memory: before the first byte of the plan text, or for the words themselves.
 pub const NO_MEMORY: u8 = 11;
@@ -41,14 +41,14 @@ impl Status {
     }
 }
 
-impl From<Ending> for Status {
-    ghost from_gives = { λ e s. s ≡ ended e };
+impl From<Failure> for Status {
+    ghost from_gives = { λ e s. s ≡ status_of_failure e };
 
-    fn from(ending: Ending) -> Self {
-        match ending {
-            Ending::Refused(refusal) => Status::Refused(refusal),
-            Ending::Fault { file } => Status::ReadFault { file },
-            Ending::NoMemory => Status::NoMemory,
+    fn from(failure: Failure) -> Self {
+        match failure {
+            Failure::Refused(refusal) => Status::Refused(refusal),
+            Failure::Fault { file } => Status::ReadFault { file },
+            Failure::NoMemory => Status::NoMemory,
         }
     }
 }

@@ -5,7 +5,7 @@ use Rattle.std.specs.List.{All}
 use Rattle.std.proofs.lemmas.Bool.{cases_lt, cond_both, lt-ltb}
 use Rattle.std.proofs.lemmas.List.{append_assoc, length-replicate}
 use Rattle.degree_sequences.specs.Compression.{next_head, heads_from, heads, slope, compressed_from, compressed}
-use Rattle.degree_sequences.specs.Falling.{IsFalling}
+use Rattle.degree_sequences.specs.Descending.{IsDescending}
 use Rattle.degree_sequences.specs.Rank.{rank}
 use Rattle.degree_sequences.specs.RunningSums.{running_sum}
 use Rattle.degree_sequences.proofs.CompressedLists.{step_above}
@@ -91,7 +91,7 @@ growing_none k f = record {
 }
 
 -- the rows of the next element are covered already, so the result doesn't change
-pub growing_passed : (k : ℕ) (f : List ℕ) (i : ℕ) (pieces : List ℕ) (value count head rows covered head' rows' : ℕ) → IsFalling f → Growing k f i pieces value count head rows covered
+pub growing_passed : (k : ℕ) (f : List ℕ) (i : ℕ) (pieces : List ℕ) (value count head rows covered head' rows' : ℕ) → IsDescending f → Growing k f i pieces value count head rows covered
     → i < length f → head' ≡ next_head k head (get_or f i 0) → rows' ≡ rows + get_or f i 0 → rows' ≤ covered
     → Growing k f (suc i) pieces value count head' rows' covered
 growing_passed k f i pieces value count head rows covered head' rows' fall g here head_is rows_is enough =
@@ -125,7 +125,7 @@ replicate-last n x some = let e : n ≡ suc (n - 1) = omega arith in ap (λ m. r
 
 -- A row of the next element isn't covered, so the run gets one element more. If the value of the run isn't the new head, the run was moved to the
 -- pieces first, and a new run begins.
-pub growing_more : (k : ℕ) (f : List ℕ) (i : ℕ) (pieces : List ℕ) (value count head rows covered : ℕ) (pieces' : List ℕ) (count' head' rows' : ℕ) → IsFalling f
+pub growing_more : (k : ℕ) (f : List ℕ) (i : ℕ) (pieces : List ℕ) (value count head rows covered : ℕ) (pieces' : List ℕ) (count' head' rows' : ℕ) → IsDescending f
     → Growing k f i pieces value count head rows covered → i < length f → head' ≡ next_head k head (get_or f i 0) → rows' ≡ rows + get_or f i 0 → covered < rows'
     → 0 < count' → pieces' ++ replicate (count' - 1) head' ≡ pieces ++ replicate count value → All (λ x. head' ≤ x) pieces'
     → Growing k f (suc i) pieces' head' count' head' rows' (covered + head')

@@ -8,14 +8,14 @@ use Rattle.std.proofs.lemmas.Grind.{div_ceil_times}
 use Rattle.std.proofs.lemmas.List.{drop_all, length-drop}
 use Rattle.std.proofs.lemmas.List.Sums.{sum_by-cons}
 use Rattle.degree_sequences.specs.Compression.{next_head}
-use Rattle.degree_sequences.specs.Falling.{IsFalling}
+use Rattle.degree_sequences.specs.Descending.{IsDescending}
 use Rattle.degree_sequences.proofs.RunningSums.{running_sum-le-sum}
 use Rattle.degree_sequences.proofs.Spread.{get_or-front}
 use Rattle.piece_math.specs.declared.pieces.Piece.{Piece}
 use Rattle.piece_math.specs.Expanded.{expanded, AreRuns, ArePieces}
 use Rattle.piece_math.proofs.Building.{HasRun}
 use Rattle.piece_math.proofs.Cutting.{IsBefore, piece_passed, piece_run, value_positive}
-use Rattle.piece_math.proofs.Expansion.{IsFalling-expanded, positive-expanded}
+use Rattle.piece_math.proofs.Expansion.{IsDescending-expanded, positive-expanded}
 use Rattle.piece_math.proofs.RunningMinima.{running_sum-has_run}
 use Rattle.piece_compress.proofs.Growing.{Growing, growing_more, growing_none, growing_passed, next_head-between}
 
@@ -52,14 +52,14 @@ but_first (suc n) h count' pieces' value' is fits falls = (is, fits, refl, falls
 
 -- ---- the elements of a run
 
-module _ (k : ℕ) (f : List ℕ) (fall : IsFalling f) (v h i' rows' covered' : ℕ) (pieces' : List ℕ) (value' count' : ℕ) (enough : rows' ≤ covered') where
-  ended : (i head rows covered n : ℕ) (pieces : List ℕ) (value count : ℕ) → Growing k f i pieces value count head rows covered
+module _ (k : ℕ) (f : List ℕ) (fall : IsDescending f) (v h i' rows' covered' : ℕ) (pieces' : List ℕ) (value' count' : ℕ) (enough : rows' ≤ covered') where
+  run_ended : (i head rows covered n : ℕ) (pieces : List ℕ) (value count : ℕ) → Growing k f i pieces value count head rows covered
       → head ≡ h → i' ≡ i → rows' ≡ rows → covered' ≡ covered + n * h → (0 < n → covered' < rows' + h)
       → AreMore n h pieces value count pieces' value' count' → Growing k f i' pieces' value' count' h rows' covered'
-  ended i head rows covered zero pieces value count g head_is i_is rows_is covered_is close more =
+  run_ended i head rows covered zero pieces value count g head_is i_is rows_is covered_is close more =
       let covered_same : covered' ≡ covered = omega (arith, covered_is, zero-mul h) in
       rw (i_is, rows_is, covered_same, more.0, more.1, more.2, sym head_is) g
-  ended i head rows covered (suc n) pieces value count g head_is i_is rows_is covered_is close more =
+  run_ended i head rows covered (suc n) pieces value count g head_is i_is rows_is covered_is close more =
       absurd (omega (arith, rows_is, covered_is, suc-mul n h, close (omega arith), g.ahead, g.rows_are))
 
   pub grown : (c i head rows covered n : ℕ) (pieces : List ℕ) (value count : ℕ) → Growing k f i pieces value count head rows covered
@@ -67,7 +67,7 @@ module _ (k : ℕ) (f : List ℕ) (fall : IsFalling f) (v h i' rows' covered' : 
       → i' ≡ i + c → rows' ≡ rows + c * v → covered' ≡ covered + n * h → (0 < n → covered' < rows' + h)
       → AreMore n h pieces value count pieces' value' count' → Growing k f i' pieces' value' count' h rows' covered'
   grown zero i head rows covered n pieces value count g next none fits same i_is rows_is covered_is close more =
-      ended i head rows covered n pieces value count g (none refl) (omega (arith, i_is)) (omega (arith, rows_is, zero-mul v)) covered_is close more
+      run_ended i head rows covered n pieces value count g (none refl) (omega (arith, i_is)) (omega (arith, rows_is, zero-mul v)) covered_is close more
   grown (suc c) i head rows covered n pieces value count g next none fits same i_is rows_is covered_is close more =
       let element : get_or f i 0 ≡ v = same i (omega arith) (omega arith) in
       let head_is : h ≡ next_head k head (get_or f i 0) = sym (ap (next_head k head) element ∙ next) in
@@ -198,7 +198,7 @@ module _ (k : ℕ) (ps : List Piece) (j : ℕ) (pieces : List ℕ) (value count 
     run_passed n covered' pieces' value' count' covered_is enough close more = record {
       rank = g.rank + p.count;
       before = piece_passed ps j g.rank no_piece low g.before;
-      growing = grown k (expanded ps) (IsFalling-expanded ps are.falls) p.value h (g.rank + p.count) rows' covered' pieces' value' count' enough
+      growing = grown k (expanded ps) (IsDescending-expanded ps are.falls) p.value h (g.rank + p.count) rows' covered' pieces' value' count' enough
           p.count g.rank head rows covered n pieces value count g.growing (sym head_is) (λ none. absurd (omega (arith, some_keys, none))) keys_fit its_keys refl
           (omega (arith, rows_is)) covered_is close more;
     }

@@ -16,7 +16,7 @@ ghost use Rattle.limits.specs.Profile.{greatest_rows};
 ghost use Rattle.degree_sequences.specs.Compression.{compressed, next_head};
 ghost use Rattle.degree_sequences.specs.Degrees.{degree_list};
 ghost use Rattle.degree_sequences.specs.Domination.{DominatesKeys};
-ghost use Rattle.degree_sequences.specs.Falling.{IsFalling};
+ghost use Rattle.degree_sequences.specs.Descending.{IsDescending};
 ghost use Rattle.degree_sequences.specs.Runs.{runs};
 ghost use Rattle.piece_compress.specs.BinaryDigits.{most_pieces};
 
@@ -41,7 +41,7 @@ struct Run {
 
 /// A degree list compressed with an accuracy.
 pub fn compress(alloc: Global, falling: &[u64], accuracy: Accuracy) -> Result<Pieces, NoMemory>
-    requires falls { IsFalling falling.now }
+    requires falls { IsDescending falling.now }
     requires positive { All (λ degree. 0 < degree) falling.now }
     requires small { sum falling.now ≤ greatest_rows }
     ensures compressed { IfOk result (λ list. list ≡ compressed accuracy falling.now) }

@@ -7,26 +7,26 @@ use Rattle.degree_sequences.proofs.RunningSums.{running_sum-suc, running_sum-pas
 use Rattle.degree_sequences.specs.RunningSums.{running_sum}
 use Rattle.degree_sequences.specs.Saturation.{saturated}
 use Rattle.piece_math.specs.declared.pieces.Piece.{Piece}
-use Rattle.piece_math.specs.declared.walk.Place.{Place}
-use Rattle.piece_math.specs.Places.{rest_from, ahead_of, IsPlace}
-use Rattle.piece_math.proofs.Places.{drop-drop, equal_ahead}
+use Rattle.piece_math.specs.declared.walk.PiecePlace.{PiecePlace}
+use Rattle.piece_math.specs.PiecePlaces.{rest_from, ahead_of, IsPiecePlace}
+use Rattle.piece_math.proofs.PiecePlaces.{drop-drop, equal_ahead}
 
 running_sum-equal : (s : List ℕ) (c x : ℕ) → ((k : ℕ) → k < c → get_or s k 0 ≡ x) → running_sum s c ≡ c * x
 running_sum-equal s zero x same = omega arith
 running_sum-equal s (suc c) x same = omega (arith, running_sum-suc s c, same c (omega arith), running_sum-equal s c x (λ k h. same k (omega arith)))
 
 -- This is the state of the loop that sums a block of `rows` rows from `start` on. `left` rows aren't summed yet.
-pub record BlockSoFar (ps : List Piece) (start : Place) (rows : ℕ) (next : Place) (left total : ℕ) : Type 0 where
+pub record BlockSoFar (ps : List Piece) (start : PiecePlace) (rows : ℕ) (next : PiecePlace) (left total : ℕ) : Type 0 where
   pub taken : ℕ
   pub all : taken + left ≡ rows
   pub rest : rest_from ps next ≡ drop taken (rest_from ps start)
   pub sum : total ≡ saturated (running_sum (rest_from ps start) taken)
-  pub place : IsPlace ps next
+  pub place : IsPiecePlace ps next
   pub stays : start.at ≤ next.at
   pub fresh : taken ≡ 0 → next ≡ start
   pub onward : 0 < taken → (ahead_of ps start).count < rows → start.at < next.at
 
-pub block_start : (ps : List Piece) (start : Place) (rows : ℕ) → IsPlace ps start → BlockSoFar ps start rows start rows 0
+pub block_start : (ps : List Piece) (start : PiecePlace) (rows : ℕ) → IsPiecePlace ps start → BlockSoFar ps start rows start rows 0
 block_start ps start rows place = record {
   taken = 0;
   all = omega arith;
@@ -38,10 +38,10 @@ block_start ps start rows place = record {
   onward = λ some. absurd (omega arith);
 }
 
-module _ {ps : List Piece} {start next : Place} {rows left total : ℕ} (so_far : BlockSoFar ps start rows next left total) where
+module _ {ps : List Piece} {start next : PiecePlace} {rows left total : ℕ} (so_far : BlockSoFar ps start rows next left total) where
   -- the step sums the next run of rows, or as much of it as the block still needs
-  pub block_step : (inside : next.at < length ps) (after : Place) (count value total' : ℕ) → count ≡ min left (ahead_of ps next).count → value ≡ (ahead_of ps next).value
-      → total' ≡ saturated (total + saturated (value * count)) → rest_from ps after ≡ drop count (rest_from ps next) → IsPlace ps after → next.at ≤ after.at
+  pub block_step : (inside : next.at < length ps) (after : PiecePlace) (count value total' : ℕ) → count ≡ min left (ahead_of ps next).count → value ≡ (ahead_of ps next).value
+      → total' ≡ saturated (total + saturated (value * count)) → rest_from ps after ≡ drop count (rest_from ps next) → IsPiecePlace ps after → next.at ≤ after.at
       → (next.at < length ps → count ≡ (ahead_of ps next).count → after.at ≡ next.at + 1) → 0 < left
       → BlockSoFar ps start rows after (left - count) total'
   block_step inside after count value total' count_is value_is total_is rest place stays ends more = record {
@@ -60,7 +60,7 @@ module _ {ps : List Piece} {start next : Place} {rows left total : ℕ} (so_far 
       | inl later ↦ omega (arith, so_far.onward later short)
       | inr first ↦ (let at_start : next ≡ start = so_far.fresh (omega arith) in
           let same_count : (ahead_of ps next).count ≡ (ahead_of ps start).count = ap (λ p. (ahead_of ps p).count) at_start in
-          omega (arith, ends inside (omega (arith, so_far.all)), ap (λ (p : Place). p.at) at_start))
+          omega (arith, ends inside (omega (arith, so_far.all)), ap (λ (p : PiecePlace). p.at) at_start))
     ];
   }
 

@@ -4,7 +4,7 @@ use Rattle.std.specs.List.{AllByRecursion, All}
 use Rattle.std.proofs.Math.Nat.{suc-add}
 use Rattle.std.proofs.lemmas.Bool.{cases_lt}
 use Rattle.std.proofs.lemmas.List.{length-replicate, length-take, take_all}
-use Rattle.degree_sequences.specs.Falling.{IsFalling}
+use Rattle.degree_sequences.specs.Descending.{IsDescending}
 use Rattle.degree_sequences.specs.Saturation.{saturated}
 use Rattle.piece_math.specs.Expanded.{IsAppended}
 use Rattle.piece_math.proofs.Falling.{at_least_next}
@@ -35,7 +35,7 @@ ends_at_zero (x ∷ s) pos zero h = absurd (omega (arith, pos.0))
 ends_at_zero (x ∷ s) pos (suc n) h = omega (arith, ends_at_zero s pos.1 n h)
 
 module _ {goal list : List ℕ} {n c v : ℕ} (so_far : list ≡ take n goal) (run : HasRun goal n c v) where
-  pub run_falls : IsFalling goal → 0 < c → All (λ x. v ≤ x) list
+  pub run_falls : IsDescending goal → 0 < c → All (λ x. v ≤ x) list
   run_falls fall some =
       let e : get_or goal n 0 ≡ v = ap (λ i. get_or goal i 0) (sym (add-zero n)) ∙ run.same 0 some in
       subst (All (λ x. v ≤ x)) (sym so_far) (subst (λ (y : ℕ). All (λ x. y ≤ x) (take n goal)) e (at_least_next goal fall n))
@@ -69,8 +69,8 @@ get_or-saturated [] r = refl
 get_or-saturated (x ∷ s) zero = refl
 get_or-saturated (x ∷ s) (suc r) = get_or-saturated s r
 
-pub IsFalling-saturated : (s : List ℕ) → IsFalling s → IsFalling (map saturated s)
-IsFalling-saturated s fall r = omega (arith, fall r, get_or-saturated s r, get_or-saturated s (suc r))
+pub IsDescending-saturated : (s : List ℕ) → IsDescending s → IsDescending (map saturated s)
+IsDescending-saturated s fall r = omega (arith, fall r, get_or-saturated s r, get_or-saturated s (suc r))
 
 pub positive-saturated : (s : List ℕ) → AllByRecursion (λ x. 0 < x) s → AllByRecursion (λ x. 0 < x) (map saturated s)
 positive-saturated [] all = tt

@@ -3,21 +3,21 @@ use Rattle.std.proofs.Common.{◌≡◌, ℕ, ◌+◌, ◌^◌, ◌<◌, ◌≤�
 use Rattle.std.specs.List.{AllByRecursion, All}
 use Rattle.std.proofs.Math.Nat.{mul-pos}
 use Rattle.std.proofs.lemmas.List.{length-map, take_all}
-use Rattle.degree_sequences.proofs.ByRank.{get_or-rank_product, get_or-rank_maximum, IsFalling-rank_product, IsFalling-rank_sum, IsFalling-rank_maximum, get_or-rank_sum}
-use Rattle.degree_sequences.specs.Falling.{IsFalling}
+use Rattle.degree_sequences.proofs.ByRank.{get_or-rank_product, get_or-rank_maximum, IsDescending-rank_product, IsDescending-rank_sum, IsDescending-rank_maximum, get_or-rank_sum}
+use Rattle.degree_sequences.specs.Descending.{IsDescending}
 use Rattle.degree_sequences.specs.Saturation.{saturated}
 use Rattle.degree_sequences.specs.ByRank.{rank_product}
 use Rattle.degree_sequences.specs.Runs.{runs}
 use Rattle.piece_math.specs.declared.pieces.Piece.{Piece}
-use Rattle.piece_math.specs.declared.walk.Places.{Places}
-use Rattle.piece_math.specs.declared.walk.Turn.{Turn}
+use Rattle.piece_math.specs.declared.walk.PiecePlaces.{PiecePlaces}
+use Rattle.piece_math.specs.declared.walk.Stretch.{Stretch}
 use Rattle.piece_math.specs.declared.by_rank.Combination.{Combination}
 use Rattle.piece_math.specs.declared.by_rank.Combination.TheVariants.{Product, Sum, Maximum}
 use Rattle.piece_math.specs.Expanded.{expanded, ArePieces, IsAppended}
-use Rattle.piece_math.specs.Places.{IsTurn}
+use Rattle.piece_math.specs.PiecePlaces.{IsStretch}
 use Rattle.piece_math.specs.ByRank.{combined, combined_by_rank}
-use Rattle.piece_math.proofs.Expansion.{IsFalling-expanded, positive-expanded}
-use Rattle.piece_math.proofs.Building.{HasRun, run_falls, run_fits, run_built, get_or-saturated, IsFalling-saturated, positive-saturated}
+use Rattle.piece_math.proofs.Expansion.{IsDescending-expanded, positive-expanded}
+use Rattle.piece_math.proofs.Building.{HasRun, run_falls, run_fits, run_built, get_or-saturated, IsDescending-saturated, positive-saturated}
 use Rattle.piece_math.proofs.Walking.{Walked, at_left, at_right, walk_on, walk_start, rest_none}
 
 pub get_or-combined : (how : Combination) (s t : List ℕ) (r : ℕ) → get_or (combined_by_rank how s t) r 0 ≡ combined how (get_or s r 0) (get_or t r 0)
@@ -25,10 +25,10 @@ get_or-combined Product s t r = get_or-rank_product s t r
 get_or-combined Sum s t r = get_or-rank_sum s t r
 get_or-combined Maximum s t r = get_or-rank_maximum s t r
 
-IsFalling-combined : (how : Combination) (s t : List ℕ) → IsFalling s → IsFalling t → IsFalling (combined_by_rank how s t)
-IsFalling-combined Product s t fs ft = IsFalling-rank_product s t fs ft
-IsFalling-combined Sum s t fs ft = IsFalling-rank_sum s t fs ft
-IsFalling-combined Maximum s t fs ft = IsFalling-rank_maximum s t fs ft
+IsDescending-combined : (how : Combination) (s t : List ℕ) → IsDescending s → IsDescending t → IsDescending (combined_by_rank how s t)
+IsDescending-combined Product s t fs ft = IsDescending-rank_product s t fs ft
+IsDescending-combined Sum s t fs ft = IsDescending-rank_sum s t fs ft
+IsDescending-combined Maximum s t fs ft = IsDescending-rank_maximum s t fs ft
 
 pub positive-rank_product : (s t : List ℕ) → AllByRecursion (λ x. 0 < x) s → AllByRecursion (λ x. 0 < x) t → AllByRecursion (λ x. 0 < x) (rank_product s t)
 positive-rank_product [] t ps pt = tt
@@ -62,15 +62,15 @@ abbrev pub goal_of : Combination → List Piece → List Piece → List ℕ
 goal_of how a b = map saturated (combined_by_rank how (expanded a) (expanded b))
 
 -- this is the state of the walk: the list is built up to the rank of the positions
-pub record Combined (how : Combination) (a b : List Piece) (places : Places) (list : List ℕ) : Type 0 where
+pub record Combined (how : Combination) (a b : List Piece) (places : PiecePlaces) (list : List ℕ) : Type 0 where
   pub walked : Walked a b places
   pub built : list ≡ take walked.rank (goal_of how a b)
   pub few : runs list ≤ places.left.at + places.right.at
 
-pub goal_falls : (how : Combination) (a b : List Piece) → ArePieces a → ArePieces b → IsFalling (goal_of how a b)
+pub goal_falls : (how : Combination) (a b : List Piece) → ArePieces a → ArePieces b → IsDescending (goal_of how a b)
 goal_falls how a b are_a are_b =
-    IsFalling-saturated (combined_by_rank how (expanded a) (expanded b))
-    (IsFalling-combined how (expanded a) (expanded b) (IsFalling-expanded a are_a.falls) (IsFalling-expanded b are_b.falls))
+    IsDescending-saturated (combined_by_rank how (expanded a) (expanded b))
+    (IsDescending-combined how (expanded a) (expanded b) (IsDescending-expanded a are_a.falls) (IsDescending-expanded b are_b.falls))
 
 pub goal_positive : (how : Combination) (a b : List Piece) → ArePieces a → ArePieces b → AllByRecursion (λ x. 0 < x) (goal_of how a b)
 goal_positive how a b are_a are_b =
@@ -80,9 +80,9 @@ goal_positive how a b are_a are_b =
 pub goal_short : (how : Combination) (a b : List Piece) → length (goal_of how a b) ≤ max (length (expanded a)) (length (expanded b))
 goal_short how a b = omega (arith, length-map (combined_by_rank how (expanded a) (expanded b)) saturated, length-combined-le how (expanded a) (expanded b))
 
-pub goal_run : (how : Combination) (a b : List Piece) (places : Places) (turn : Turn) (v : ℕ) → (t : IsTurn a b places turn) (w : Walked a b places)
-    → v ≡ saturated (combined how turn.left turn.right) → HasRun (goal_of how a b) w.rank turn.count v
-goal_run how a b places turn v t w is = record {
+pub goal_run : (how : Combination) (a b : List Piece) (places : PiecePlaces) (stretch : Stretch) (v : ℕ) → (t : IsStretch a b places stretch) (w : Walked a b places)
+    → v ≡ saturated (combined how stretch.left stretch.right) → HasRun (goal_of how a b) w.rank stretch.count v
+goal_run how a b places stretch v t w is = record {
   same = λ k h. get_or-saturated (combined_by_rank how (expanded a) (expanded b)) (w.rank + k)
       ∙ ap saturated (get_or-combined how (expanded a) (expanded b) (w.rank + k) ∙ rw (at_left t w k h, at_right t w k h) refl)
       ∙ sym is;
@@ -92,22 +92,22 @@ pub combine_start : (how : Combination) (a b : List Piece) → ArePieces a → A
     → Combined how a b (record { left = record { at = 0; used = 0 }; right = record { at = 0; used = 0 } }) []
 combine_start how a b are_a are_b = record { walked = walk_start a b are_a are_b; built = refl; few = omega arith }
 
-module _ {how : Combination} {a b : List Piece} {places : Places} {turn : Turn} {list : List ℕ} {v : ℕ} (are_a : ArePieces a) (are_b : ArePieces b)
-    (so_far : Combined how a b places list) (t : IsTurn a b places turn) (value : v ≡ saturated (combined how turn.left turn.right)) where
-  pub combine_falls : 0 < turn.count → All (λ x. v ≤ x) list
-  combine_falls some = run_falls so_far.built (goal_run how a b places turn v t so_far.walked value) (goal_falls how a b are_a are_b) some
+module _ {how : Combination} {a b : List Piece} {places : PiecePlaces} {stretch : Stretch} {list : List ℕ} {v : ℕ} (are_a : ArePieces a) (are_b : ArePieces b)
+    (so_far : Combined how a b places list) (t : IsStretch a b places stretch) (value : v ≡ saturated (combined how stretch.left stretch.right)) where
+  pub combine_falls : 0 < stretch.count → All (λ x. v ≤ x) list
+  combine_falls some = run_falls so_far.built (goal_run how a b places stretch v t so_far.walked value) (goal_falls how a b are_a are_b) some
 
-  pub combine_fits : 0 < v → length list + turn.count < 2 ^ 64
-  combine_fits pos = omega (arith, run_fits so_far.built (goal_run how a b places turn v t so_far.walked value) pos, goal_short how a b, are_a.fits, are_b.fits)
+  pub combine_fits : 0 < v → length list + stretch.count < 2 ^ 64
+  combine_fits pos = omega (arith, run_fits so_far.built (goal_run how a b places stretch v t so_far.walked value) pos, goal_short how a b, are_a.fits, are_b.fits)
 
-  pub combine_step : {new : List ℕ} → IsAppended list new v turn.count → Combined how a b turn.next new
+  pub combine_step : {new : List ℕ} → IsAppended list new v stretch.count → Combined how a b stretch.next new
   combine_step put = record {
     walked = walk_on t so_far.walked;
-    built = run_built so_far.built (goal_run how a b places turn v t so_far.walked value) (goal_positive how a b are_a are_b) put;
+    built = run_built so_far.built (goal_run how a b places stretch v t so_far.walked value) (goal_positive how a b are_a are_b) put;
     few = omega (arith, put.few, so_far.few, t.onward);
   }
 
-pub combine_end : (how : Combination) (a b : List Piece) (places : Places) (list : List ℕ) → Combined how a b places list → length a ≤ places.left.at → length b ≤ places.right.at
+pub combine_end : (how : Combination) (a b : List Piece) (places : PiecePlaces) (list : List ℕ) → Combined how a b places list → length a ≤ places.left.at → length b ≤ places.right.at
     → list ≡ goal_of how a b
 combine_end how a b places list so_far over_a over_b =
     so_far.built

@@ -5,17 +5,17 @@ use Rattle.std.specs.List.{AllByRecursion, All}
 use Rattle.std.proofs.lemmas.Result.{IfOk-weaker}
 use Rattle.std.specs.Result.{IfOk}
 use Rattle.degree_sequences.proofs.FallingLists.{same_by_sums, trimmed_positive}
-use Rattle.degree_sequences.proofs.RowWeights.{IsFalling-ones}
+use Rattle.degree_sequences.proofs.RowWeights.{IsDescending-ones}
 use Rattle.degree_sequences.proofs.RunningSums.{running_sum-add, running_sum-trimmed, running_sum-block_sums, running_sum-le-sum, running_sum-ones}
 use Rattle.degree_sequences.proofs.SaturationLaws.{saturated-block_sums, saturated-trimmed}
 use Rattle.degree_sequences.specs.Composition.{ChildLists, block_sums, row_weights, composed}
-use Rattle.degree_sequences.specs.Falling.{IsFalling, trimmed}
+use Rattle.degree_sequences.specs.Descending.{IsDescending, trimmed}
 use Rattle.degree_sequences.specs.RunningSums.{running_sum}
 use Rattle.degree_sequences.specs.Runs.{runs}
 use Rattle.degree_sequences.specs.Saturation.{saturated}
 use Rattle.piece_math.specs.declared.weights.Child.{Child}
 use Rattle.piece_math.specs.Children.{lists_of, class_runs}
-use Rattle.piece_math.proofs.Grouping.{IsFalling-block_sums}
+use Rattle.piece_math.proofs.Grouping.{IsDescending-block_sums}
 use Rattle.piece_math.proofs.Weighing.{row_weights-none, runs-saturated}
 
 block_sums-same : (g u v : List ℕ) → ((r : ℕ) → running_sum u r ≡ running_sum v r) → block_sums g u ≡ block_sums g v
@@ -34,11 +34,11 @@ pub All-recursion : (s : List ℕ) → All (λ x. 0 < x) s → AllByRecursion (�
 All-recursion [] all = tt
 All-recursion (x ∷ s) all = (all 0 0 (omega arith), All-recursion s (λ i d h. all (suc i) d (omega arith)))
 
-pub composed-none : (g : List ℕ) → IsFalling g → AllByRecursion (λ x. 0 < x) g → composed g [] ≡ g
+pub composed-none : (g : List ℕ) → IsDescending g → AllByRecursion (λ x. 0 < x) g → composed g [] ≡ g
 composed-none g fall pos =
     ap (λ u. trimmed (block_sums g u)) (row_weights-none (sum g))
     ∙ same_by_sums (trimmed (block_sums g (replicate (sum g) 1))) g
-    (trimmed_positive (block_sums g (replicate (sum g) 1)) (IsFalling-block_sums g (replicate (sum g) 1) fall (IsFalling-ones (sum g)))) pos
+    (trimmed_positive (block_sums g (replicate (sum g) 1)) (IsDescending-block_sums g (replicate (sum g) 1) fall (IsDescending-ones (sum g)))) pos
     (λ r. omega (
       arith,
       running_sum-trimmed (block_sums g (replicate (sum g) 1)) r,
@@ -53,7 +53,7 @@ composed_value r g weights cs is grouped =
     IfOk-weaker r (λ list. list ≡ map saturated (trimmed (block_sums g weights))) (λ list. list ≡ map saturated (composed g cs))
     (λ list e. e ∙ ap (λ u. map saturated (trimmed (block_sums g u))) is ∙ saturated-composed g (row_weights cs (sum g))) grouped
 
-pub composed_few : {E : Type 0} (r : Result (List ℕ) E) (g weights : List ℕ) (cs : List Child) → IsFalling g → All (λ x. 0 < x) g
+pub composed_few : {E : Type 0} (r : Result (List ℕ) E) (g weights : List ℕ) (cs : List Child) → IsDescending g → All (λ x. 0 < x) g
     → (0 < length cs → runs weights ≤ class_runs cs) → IfOk r (λ list. list ≡ map saturated (composed g (map lists_of cs)))
     → IfOk r (λ list. runs list ≤ runs g + 2 * runs weights) → IfOk r (λ list. runs list ≤ runs g + 2 * class_runs cs)
 composed_few r g weights [] fall pos few_weights value few =

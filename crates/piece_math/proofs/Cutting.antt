@@ -5,17 +5,17 @@ use Rattle.std.specs.List.{AllByRecursion}
 use Rattle.std.proofs.Math.Nat.{mul-le-mul_right, div-mul-le_self}
 use Rattle.std.proofs.lemmas.List.{get_or-drop, take_all, drop_more, drop_all, length-drop}
 use Rattle.degree_sequences.proofs.Blocks.{drop-run}
-use Rattle.degree_sequences.proofs.Minima.{running_sum-cut_at, IsFalling-cut_at}
+use Rattle.degree_sequences.proofs.Minima.{running_sum-cut_at, IsDescending-cut_at}
 use Rattle.degree_sequences.proofs.RunningSums.{running_sum-mono, running_sum-past}
 use Rattle.degree_sequences.proofs.Spread.{get_or-front}
-use Rattle.degree_sequences.specs.Falling.{IsFalling}
+use Rattle.degree_sequences.specs.Descending.{IsDescending}
 use Rattle.degree_sequences.specs.RunningSums.{running_sum, with_running_sums, cut_at}
 use Rattle.degree_sequences.specs.Runs.{runs}
 use Rattle.piece_math.specs.declared.pieces.Piece.{Piece}
 use Rattle.piece_math.specs.Expanded.{expanded, AreRuns, ArePieces, IsAppended}
 use Rattle.piece_math.proofs.Building.{HasRun, run_built, ends_at_zero}
-use Rattle.piece_math.proofs.Expansion.{IsFalling-expanded}
-use Rattle.piece_math.proofs.Places.{drop-drop}
+use Rattle.piece_math.proofs.Expansion.{IsDescending-expanded}
+use Rattle.piece_math.proofs.PiecePlaces.{drop-drop}
 use Rattle.piece_math.proofs.RunningMinima.{element_from_sums, running_sum-has_run, positive-falling_trimmed}
 
 -- ---- the rank at which piece i begins
@@ -42,10 +42,10 @@ piece_passed ps i rank d h before = record {
 
 -- ---- the cut list
 
-pub positive-cut_at : (s : List ℕ) (n : ℕ) → IsFalling s → AllByRecursion (λ y. 0 < y) (cut_at s n)
-positive-cut_at s n fall = positive-falling_trimmed (with_running_sums (λ r. min (running_sum s r) n) (length s)) (IsFalling-cut_at s n fall)
+pub positive-cut_at : (s : List ℕ) (n : ℕ) → IsDescending s → AllByRecursion (λ y. 0 < y) (cut_at s n)
+positive-cut_at s n fall = positive-falling_trimmed (with_running_sums (λ r. min (running_sum s r) n) (length s)) (IsDescending-cut_at s n fall)
 
-pub cut_no_longer : (s : List ℕ) (n r : ℕ) → IsFalling s → length s ≤ r → length (cut_at s n) ≤ r
+pub cut_no_longer : (s : List ℕ) (n r : ℕ) → IsDescending s → length s ≤ r → length (cut_at s n) ≤ r
 cut_no_longer s n r fall over =
     ends_at_zero (cut_at s n) (positive-cut_at s n fall) r
     (element_from_sums (cut_at s n) r 0
@@ -60,21 +60,21 @@ pub record CutSoFar (ps : List Piece) (n i left : ℕ) (list : List ℕ) : Type 
   pub few : runs list ≤ i
 
 module _ {ps : List Piece} (are : ArePieces ps) {n i left : ℕ} {list : List ℕ} (so_far : CutSoFar ps n i left list) where
-  pub cut_falls : IsFalling (cut_at (expanded ps) n)
-  cut_falls = IsFalling-cut_at (expanded ps) n (IsFalling-expanded ps are.falls)
+  pub cut_falls : IsDescending (cut_at (expanded ps) n)
+  cut_falls = IsDescending-cut_at (expanded ps) n (IsDescending-expanded ps are.falls)
 
   pub cut_positive : AllByRecursion (λ y. 0 < y) (cut_at (expanded ps) n)
-  cut_positive = positive-cut_at (expanded ps) n (IsFalling-expanded ps are.falls)
+  cut_positive = positive-cut_at (expanded ps) n (IsDescending-expanded ps are.falls)
 
   pub cut_fits : length (cut_at (expanded ps) n) < 2 ^ 64
-  cut_fits = omega (arith, are.fits, cut_no_longer (expanded ps) n (length (expanded ps)) (IsFalling-expanded ps are.falls) (omega arith))
+  cut_fits = omega (arith, are.fits, cut_no_longer (expanded ps) n (length (expanded ps)) (IsDescending-expanded ps are.falls) (omega arith))
 
   pub cut_end : length ps ≤ i → list ≡ cut_at (expanded ps) n
   cut_end over =
       let nothing : drop so_far.rank (expanded ps) ≡ [] = so_far.before.rest ∙ ap expanded (drop_all i ps over) in
       so_far.built
       ∙ take_all so_far.rank (cut_at (expanded ps) n)
-      (cut_no_longer (expanded ps) n so_far.rank (IsFalling-expanded ps are.falls) (omega (arith, ap length nothing, length-drop so_far.rank (expanded ps))))
+      (cut_no_longer (expanded ps) n so_far.rank (IsDescending-expanded ps are.falls) (omega (arith, ap length nothing, length-drop so_far.rank (expanded ps))))
 
   module _ (d : Piece) (within : i < length ps) where
     cut_sums : (k : ℕ) → k ≤ (get_or ps i d).count → running_sum (cut_at (expanded ps) n) (so_far.rank + k) ≡ min (running_sum (expanded ps) so_far.rank + k * (get_or ps i d).value) n

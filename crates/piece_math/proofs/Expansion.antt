@@ -6,8 +6,8 @@ use Rattle.std.proofs.lemmas.Bool.{cond_both, eq-eqb, ne_eqb}
 use Rattle.std.proofs.lemmas.List.{replicate-append-replicate, append_assoc, append-nil, length-replicate, take_all, take_more}
 use Rattle.std.proofs.lemmas.List.Folds.{sum_by-replicate}
 use Rattle.std.proofs.lemmas.List.Sums.{sum_by-append}
-use Rattle.degree_sequences.proofs.Spread.{IsFalling-front}
-use Rattle.degree_sequences.specs.Falling.{IsFalling}
+use Rattle.degree_sequences.proofs.Spread.{IsDescending-front}
+use Rattle.degree_sequences.specs.Descending.{IsDescending}
 use Rattle.degree_sequences.specs.Runs.{runs, runs_after}
 use Rattle.piece_math.specs.declared.pieces.Piece.{Piece}
 use Rattle.piece_math.specs.Expanded.{expanded, first_value, AreRuns, ArePieces}
@@ -151,9 +151,9 @@ first-expanded : (ps : List Piece) → AreRuns ps → get_or (expanded ps) 0 0 �
 first-expanded [] fall = omega arith
 first-expanded (p ∷ ps) fall = first-run p.count p.value (expanded ps) (omega (arith, first-expanded ps fall.2, fall.0))
 
-pub IsFalling-expanded : (ps : List Piece) → AreRuns ps → IsFalling (expanded ps)
-IsFalling-expanded [] fall = λ r. omega arith
-IsFalling-expanded (p ∷ ps) fall = IsFalling-front p.count p.value (expanded ps) (omega (arith, first-expanded ps fall.2, fall.0)) (IsFalling-expanded ps fall.2)
+pub IsDescending-expanded : (ps : List Piece) → AreRuns ps → IsDescending (expanded ps)
+IsDescending-expanded [] fall = λ r. omega arith
+IsDescending-expanded (p ∷ ps) fall = IsDescending-front p.count p.value (expanded ps) (omega (arith, first-expanded ps fall.2, fall.0)) (IsDescending-expanded ps fall.2)
 
 positive-front : (n x : ℕ) (s : List ℕ) → 0 < x → AllByRecursion (λ x. 0 < x) s → AllByRecursion (λ x. 0 < x) (replicate n x ++ s)
 positive-front zero x s h all = all

@@ -4,9 +4,9 @@ use Rattle.std.specs.List.{All}
 use Rattle.std.proofs.lemmas.Grind.{get_or_default_zero}
 use Rattle.std.proofs.lemmas.List.{get_or-take, length-take}
 use Rattle.degree_sequences.proofs.FallingLists.{falls_to}
-use Rattle.degree_sequences.specs.Falling.{IsFalling}
+use Rattle.degree_sequences.specs.Descending.{IsDescending}
 
-pub at_least_next : (s : List ℕ) → IsFalling s → (i : ℕ) → All (λ x. get_or s i 0 ≤ x) (take i s)
+pub at_least_next : (s : List ℕ) → IsDescending s → (i : ℕ) → All (λ x. get_or s i 0 ≤ x) (take i s)
 at_least_next s fall i k d h =
     let short : length (take i s) ≤ i = omega (arith, length-take i s) in
     let within : length (take i s) ≤ length s = omega (arith, length-take i s) in

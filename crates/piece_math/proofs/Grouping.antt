@@ -4,22 +4,22 @@ use Rattle.std.specs.List.{AllByRecursion}
 use Rattle.std.proofs.Math.Nat.{mul-le-mul_left}
 use Rattle.std.proofs.lemmas.Bool.{cases_lt}
 use Rattle.std.proofs.lemmas.List.{take_all, length-map, length-replicate}
-use Rattle.degree_sequences.proofs.FallingLists.{IsFalling-from_sums, window, trimmed_positive}
+use Rattle.degree_sequences.proofs.FallingLists.{IsDescending-from_sums, window, trimmed_positive}
 use Rattle.degree_sequences.proofs.RunningSums.{running_sum-suc, running_sum-past, running_sum-add, running_sum-mono, running_sum-block_sums}
 use Rattle.degree_sequences.specs.Composition.{block_sums}
-use Rattle.degree_sequences.specs.Falling.{IsFalling, trimmed}
+use Rattle.degree_sequences.specs.Descending.{IsDescending, trimmed}
 use Rattle.degree_sequences.specs.RunningSums.{running_sum}
 use Rattle.degree_sequences.specs.Runs.{runs}
 use Rattle.degree_sequences.specs.Saturation.{saturated}
 use Rattle.piece_math.specs.declared.pieces.Piece.{Piece}
-use Rattle.piece_math.specs.declared.walk.Place.{Place}
+use Rattle.piece_math.specs.declared.walk.PiecePlace.{PiecePlace}
 use Rattle.piece_math.specs.Expanded.{expanded, AreRuns, ArePieces, IsAppended}
-use Rattle.piece_math.specs.Places.{rest_from, first_left, ahead_of, IsPlace}
-use Rattle.piece_math.proofs.Building.{HasRun, run_built, ends_at_zero, get_or-saturated, IsFalling-saturated, positive-saturated}
-use Rattle.piece_math.proofs.Expansion.{IsFalling-expanded}
-use Rattle.piece_math.proofs.Places.{equal_ahead, IsPlace-start}
+use Rattle.piece_math.specs.PiecePlaces.{rest_from, first_remaining, ahead_of, IsPiecePlace}
+use Rattle.piece_math.proofs.Building.{HasRun, run_built, ends_at_zero, get_or-saturated, IsDescending-saturated, positive-saturated}
+use Rattle.piece_math.proofs.Expansion.{IsDescending-expanded}
+use Rattle.piece_math.proofs.PiecePlaces.{equal_ahead, IsPiecePlace-start}
 use Rattle.piece_math.proofs.RunningMinima.{element_from_sums, running_sum-has_run}
-use Rattle.piece_math.proofs.Spreading.{IsFalling-trimmed, length-trimmed-le, get_or-trimmed}
+use Rattle.piece_math.proofs.Spreading.{IsDescending-trimmed, length-trimmed-le, get_or-trimmed}
 use Rattle.piece_math.proofs.Walking.{element_ahead, rest_after, rest_none}
 
 -- ---- sums of blocks
@@ -28,8 +28,8 @@ length-block_sums : (g u : List ℕ) → length (block_sums g u) ≡ length g
 length-block_sums [] u = refl
 length-block_sums (x ∷ g) u = ap suc (length-block_sums g (drop x u))
 
-pub IsFalling-block_sums : (g u : List ℕ) → IsFalling g → IsFalling u → IsFalling (block_sums g u)
-IsFalling-block_sums g u fg fu = IsFalling-from_sums (block_sums g u) (λ r.
+pub IsDescending-block_sums : (g u : List ℕ) → IsDescending g → IsDescending u → IsDescending (block_sums g u)
+IsDescending-block_sums g u fg fu = IsDescending-from_sums (block_sums g u) (λ r.
     let one : running_sum g r + get_or g r 0 ≡ running_sum g (suc r) = sym (running_sum-suc g r) in
     let two : running_sum g (suc r) + get_or g (suc r) 0 ≡ running_sum g (suc (suc r)) = sym (running_sum-suc g (suc r)) in
     omega (
@@ -57,13 +57,13 @@ get_or-grouped g u r v h =
 
 -- ---- positions within a piece
 
-first_left-more : (ps : List Piece) (i used n : ℕ) → i < length ps
-    → ((first_left (drop i ps) (used + n)).value ≡ (first_left (drop i ps) used).value) × ((first_left (drop i ps) (used + n)).count ≡ (first_left (drop i ps) used).count - n)
-first_left-more [] i used n h = absurd (omega arith)
-first_left-more (p ∷ ps) zero used n h = (refl, omega arith)
-first_left-more (p ∷ ps) (suc i) used n h = first_left-more ps i used n (omega arith)
+first_remaining-more : (ps : List Piece) (i used n : ℕ) → i < length ps
+    → ((first_remaining (drop i ps) (used + n)).value ≡ (first_remaining (drop i ps) used).value) × ((first_remaining (drop i ps) (used + n)).count ≡ (first_remaining (drop i ps) used).count - n)
+first_remaining-more [] i used n h = absurd (omega arith)
+first_remaining-more (p ∷ ps) zero used n h = (refl, omega arith)
+first_remaining-more (p ∷ ps) (suc i) used n h = first_remaining-more ps i used n (omega arith)
 
-rest_longer : (ps : List Piece) (i used : ℕ) → i < length ps → (first_left (drop i ps) used).count ≤ length (drop used (expanded (drop i ps)))
+rest_longer : (ps : List Piece) (i used : ℕ) → i < length ps → (first_remaining (drop i ps) used).count ≤ length (drop used (expanded (drop i ps)))
 rest_longer [] i used h = absurd (omega arith)
 rest_longer (p ∷ ps) zero used h =
     omega (arith, length-drop used (replicate p.count p.value ++ expanded ps), length-append (replicate p.count p.value) (expanded ps), length-replicate p.count p.value)
@@ -72,16 +72,16 @@ rest_longer (p ∷ ps) (suc i) used h = rest_longer ps i used (omega arith)
 -- ---- the walk
 
 -- the next block has more rows than are left in the piece of its first row
-abbrev pub IsMixed : List Piece → List Piece → Place → Place → Type 0
+abbrev pub IsMixed : List Piece → List Piece → PiecePlace → PiecePlace → Type 0
 IsMixed g u at row = (ahead_of u row).count < (ahead_of g at).value
 
 -- this is the state of the walk: the list is built up to the positions, and it has few runs
-pub record GroupedSoFar (g u : List Piece) (at row : Place) (list : List ℕ) : Type 0 where
+pub record GroupedSoFar (g u : List Piece) (at row : PiecePlace) (list : List ℕ) : Type 0 where
   pub rank : ℕ
   pub blocks : rest_from g at ≡ drop rank (expanded g)
   pub rows : rest_from u row ≡ drop (running_sum (expanded g) rank) (expanded u)
-  pub block_place : IsPlace g at
-  pub row_place : IsPlace u row
+  pub block_place : IsPiecePlace g at
+  pub row_place : IsPiecePlace u row
   pub built : list ≡ take rank (grouped_list g u)
   pub few : (runs list ≤ at.at + 2 * row.at) ⊎ ((runs list ≤ at.at + 2 * row.at + 1) × IsMixed g u at row)
 
@@ -90,18 +90,18 @@ grouped_start g u are_g are_u = record {
   rank = 0;
   blocks = refl;
   rows = refl;
-  block_place = IsPlace-start g are_g;
-  row_place = IsPlace-start u are_u;
+  block_place = IsPiecePlace-start g are_g;
+  row_place = IsPiecePlace-start u are_u;
   built = refl;
   few = inl (omega arith);
 }
 
 module _ {g u : List Piece} (are_g : ArePieces g) (are_u : ArePieces u) where
-  falls_blocks : IsFalling (block_sums (expanded g) (expanded u))
-  falls_blocks = IsFalling-block_sums (expanded g) (expanded u) (IsFalling-expanded g are_g.falls) (IsFalling-expanded u are_u.falls)
+  falls_blocks : IsDescending (block_sums (expanded g) (expanded u))
+  falls_blocks = IsDescending-block_sums (expanded g) (expanded u) (IsDescending-expanded g are_g.falls) (IsDescending-expanded u are_u.falls)
 
-  pub grouped_falls : IsFalling (grouped_list g u)
-  grouped_falls = IsFalling-saturated (trimmed (block_sums (expanded g) (expanded u))) (IsFalling-trimmed (block_sums (expanded g) (expanded u)) falls_blocks)
+  pub grouped_falls : IsDescending (grouped_list g u)
+  grouped_falls = IsDescending-saturated (trimmed (block_sums (expanded g) (expanded u))) (IsDescending-trimmed (block_sums (expanded g) (expanded u)) falls_blocks)
 
   pub grouped_positive : AllByRecursion (λ x. 0 < x) (grouped_list g u)
   grouped_positive = positive-saturated (trimmed (block_sums (expanded g) (expanded u))) (trimmed_positive (block_sums (expanded g) (expanded u)) falls_blocks)
@@ -118,7 +118,7 @@ module _ {g u : List Piece} (are_g : ArePieces g) (are_u : ArePieces u) where
   pub grouped_fits : length (grouped_list g u) < 2 ^ 64
   grouped_fits = omega (arith, grouped_short, are_g.fits)
 
-  module _ {at row : Place} {list : List ℕ} (so_far : GroupedSoFar g u at row list) where
+  module _ {at row : PiecePlace} {list : List ℕ} (so_far : GroupedSoFar g u at row list) where
     pub grouped_end : (length g ≤ at.at) ⊎ (length u ≤ row.at) → list ≡ grouped_list g u
     grouped_end over = so_far.built ∙ take_all so_far.rank (grouped_list g u) (elim over [
       | inl no_block ↦ omega (arith, grouped_short, rest_none g at so_far.rank so_far.blocks no_block)
@@ -142,7 +142,7 @@ module _ {g u : List Piece} (are_g : ArePieces g) (are_u : ArePieces u) where
     block_rows : (k : ℕ) → k ≤ (ahead_of g at).count → running_sum (expanded g) (so_far.rank + k) ≡ running_sum (expanded g) so_far.rank + k * (ahead_of g at).value
     block_rows k h = running_sum-has_run (expanded g) so_far.rank (ahead_of g at).count (ahead_of g at).value blocks_run k h
 
-    pub grouped_smaller : (inside : at.at < length g) (next : Place) (n : ℕ) → rest_from g next ≡ drop n (rest_from g at) → 0 < n → length (rest_from g next) < length (rest_from g at)
+    pub grouped_smaller : (inside : at.at < length g) (next : PiecePlace) (n : ℕ) → rest_from g next ≡ drop n (rest_from g at) → 0 < n → length (rest_from g next) < length (rest_from g at)
     grouped_smaller inside next n rest some =
         omega (arith, ap length rest, length-drop n (rest_from g at), rest_longer g at.at at.used inside, so_far.block_place.inside)
 
@@ -166,8 +166,8 @@ module _ {g u : List Piece} (are_g : ArePieces g) (are_u : ArePieces u) where
             (ap (running_sum U) rows_next ∙ there ∙ omega arith ∙ ap (λ n. n + x * w) (sym here ∙ ap (running_sum U) (sym (block_rows k (omega arith)))));
       }
 
-      pub whole_step : {new : List ℕ} {at' row' : Place} → IsAppended list new (saturated ((ahead_of g at).value * (ahead_of u row).value)) count
-          → rest_from g at' ≡ drop count (rest_from g at) → rest_from u row' ≡ drop ((ahead_of g at).value * count) (rest_from u row) → IsPlace g at' → IsPlace u row'
+      pub whole_step : {new : List ℕ} {at' row' : PiecePlace} → IsAppended list new (saturated ((ahead_of g at).value * (ahead_of u row).value)) count
+          → rest_from g at' ≡ drop count (rest_from g at) → rest_from u row' ≡ drop ((ahead_of g at).value * count) (rest_from u row) → IsPiecePlace g at' → IsPiecePlace u row'
           → (runs new ≤ at'.at + 2 * row'.at) ⊎ ((runs new ≤ at'.at + 2 * row'.at + 1) × IsMixed g u at' row') → GroupedSoFar g u at' row' new
       whole_step {new} {at'} {row'} put rest_g rest_u place_g place_u few = record {
         rank = so_far.rank + count;
@@ -180,7 +180,7 @@ module _ {g u : List Piece} (are_g : ArePieces g) (are_u : ArePieces u) where
         few = few;
       }
 
-    pub whole_few : (new : List ℕ) (at' row' : Place) (count : ℕ) → at.at < length g → row.at < length u → 0 < (ahead_of g at).value → (ahead_of g at).value ≤ (ahead_of u row).count
+    pub whole_few : (new : List ℕ) (at' row' : PiecePlace) (count : ℕ) → at.at < length g → row.at < length u → 0 < (ahead_of g at).value → (ahead_of g at).value ≤ (ahead_of u row).count
         → count ≡ min ((ahead_of u row).count / (ahead_of g at).value) (ahead_of g at).count → runs new ≤ runs list + 1 → at.at ≤ at'.at → row.at ≤ row'.at
         → (at.at < length g → count ≡ (ahead_of g at).count → at'.at ≡ at.at + 1)
         → (at.at < length g → count < (ahead_of g at).count → at' ≡ record { at = at.at; used = at.used + count })
@@ -205,8 +205,8 @@ module _ {g u : List Piece} (are_g : ArePieces g) (are_u : ArePieces u) where
                     all,
                     ap (λ p. (ahead_of g p).value) e_at,
                     ap (λ p. (ahead_of u p).count) e_row,
-                    (first_left-more g at.at at.used count in_g).0,
-                    (first_left-more u row.at row.used ((ahead_of g at).value * count) in_u).1,
+                    (first_remaining-more g at.at at.used count in_g).0,
+                    (first_remaining-more u row.at row.used ((ahead_of g at).value * count) in_u).1,
                   ),
                 ))
           ]
@@ -227,8 +227,8 @@ module _ {g u : List Piece} (are_g : ArePieces g) (are_u : ArePieces u) where
           ∙ ap (λ s. running_sum (expanded u) M + running_sum s x) (sym so_far.rows));
     }
 
-    pub mixed_step : {new : List ℕ} {at' row' : Place} → at.at < length g → IsAppended list new (saturated (running_sum (rest_from u row) (ahead_of g at).value)) 1
-        → rest_from g at' ≡ drop 1 (rest_from g at) → rest_from u row' ≡ drop (ahead_of g at).value (rest_from u row) → IsPlace g at' → IsPlace u row'
+    pub mixed_step : {new : List ℕ} {at' row' : PiecePlace} → at.at < length g → IsAppended list new (saturated (running_sum (rest_from u row) (ahead_of g at).value)) 1
+        → rest_from g at' ≡ drop 1 (rest_from g at) → rest_from u row' ≡ drop (ahead_of g at).value (rest_from u row) → IsPiecePlace g at' → IsPiecePlace u row'
         → at.at ≤ at'.at → row.at < row'.at → GroupedSoFar g u at' row' new
     mixed_step {new} {at'} {row'} in_g put rest_g rest_u place_g place_u stays_g onward_u = record {
       rank = so_far.rank + 1;
@@ -241,7 +241,7 @@ module _ {g u : List Piece} (are_g : ArePieces g) (are_u : ArePieces u) where
       few = inl (elim so_far.few [ inl few ↦ omega (arith, put.few) | inr mixed ↦ omega (arith, put.few, mixed.0) ]);
     }
 
-pub block_positive : (ps : List Piece) (i used : ℕ) → AreRuns ps → i < length ps → 0 < (first_left (drop i ps) used).value
+pub block_positive : (ps : List Piece) (i used : ℕ) → AreRuns ps → i < length ps → 0 < (first_remaining (drop i ps) used).value
 block_positive [] i used fall h = absurd (omega arith)
 block_positive (p ∷ ps) zero used fall h = omega (arith, fall.0)
 block_positive (p ∷ ps) (suc i) used fall h = block_positive ps i used fall.2 (omega arith)

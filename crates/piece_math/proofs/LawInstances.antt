@@ -5,12 +5,12 @@ use Rattle.degree_sequences.specs.ByRank.{rank_product, rank_product_of}
 use Rattle.degree_sequences.specs.Composition.{ChildLists, composed, root_total}
 use Rattle.degree_sequences.specs.Degrees.{degree, degree_list}
 use Rattle.degree_sequences.specs.Domination.{DominatesWeights}
-use Rattle.degree_sequences.specs.Falling.{IsFalling}
-use Rattle.degree_sequences.specs.Families.{ChildIsAbove, IsChildOf, IsNear, SumsAreWithin, MatchedChild}
+use Rattle.degree_sequences.specs.Descending.{IsDescending}
+use Rattle.degree_sequences.specs.ComparedChildren.{ChildIsAbove, IsChildOf, IsNear, SumsAreWithin, MatchedChild}
 use Rattle.degree_sequences.specs.KeyedRows.{ChildKeys, DominatesChild, weight_of_row, weight_of_key}
-use Rattle.degree_sequences.specs.RunningSums.{IsAbove, running_sum}
-use Rattle.degree_sequences.proofs.DegreeLists.{degree_list_dominates, degrees_dominated, IsFalling-degree_list}
-use Rattle.degree_sequences.proofs.FallingLists.{IsFalling-cons}
+use Rattle.degree_sequences.specs.RunningSums.{HasHigherSums, running_sum}
+use Rattle.degree_sequences.proofs.DegreeLists.{degree_list_dominates, degrees_dominated, IsDescending-degree_list}
+use Rattle.degree_sequences.proofs.FallingLists.{IsDescending-cons}
 use Rattle.degree_sequences.proofs.ByRank.{rank_product_of-above}
 use Rattle.degree_sequences.proofs.CompositionDominates.{composed_dominates, root_at_least}
 use Rattle.degree_sequences.proofs.ProductDominates.{rank_product_dominates}
@@ -23,7 +23,7 @@ dominated keys = degrees_dominated (degree_list keys) keys (degree_list_dominate
 pub product : DominatesWeights (rank_product (2 ∷ 1 ∷ []) (3 ∷ 1 ∷ 1 ∷ [])) (λ a. degree (7 ∷ 7 ∷ 8 ∷ []) a * degree (7 ∷ 7 ∷ 7 ∷ 8 ∷ 9 ∷ []) a)
 product =
     rank_product_dominates (2 ∷ 1 ∷ []) (3 ∷ 1 ∷ 1 ∷ []) (degree (7 ∷ 7 ∷ 8 ∷ [])) (degree (7 ∷ 7 ∷ 7 ∷ 8 ∷ 9 ∷ []))
-    (IsFalling-degree_list (7 ∷ 7 ∷ 7 ∷ 8 ∷ 9 ∷ [])) (dominated (7 ∷ 7 ∷ 8 ∷ [])) (dominated (7 ∷ 7 ∷ 7 ∷ 8 ∷ 9 ∷ []))
+    (IsDescending-degree_list (7 ∷ 7 ∷ 7 ∷ 8 ∷ 9 ∷ [])) (dominated (7 ∷ 7 ∷ 8 ∷ [])) (dominated (7 ∷ 7 ∷ 7 ∷ 8 ∷ 9 ∷ []))
 
 abbrev child_lists : ChildLists
 child_lists = record { column = 2 ∷ 2 ∷ 2 ∷ []; class = 4 ∷ 1 ∷ [] }
@@ -35,7 +35,7 @@ pub child_dominates : DominatesChild 6 child_lists child_keys
 child_dominates = record {
   column = degree_list_dominates (5 ∷ 5 ∷ 6 ∷ 6 ∷ 7 ∷ 7 ∷ []);
   class = dominated (5 ∷ 5 ∷ 5 ∷ 5 ∷ 6 ∷ []);
-  class_falls = IsFalling-degree_list (5 ∷ 5 ∷ 5 ∷ 5 ∷ 6 ∷ []);
+  class_falls = IsDescending-degree_list (5 ∷ 5 ∷ 5 ∷ 5 ∷ 6 ∷ []);
   key_per_row = refl;
 }
 
@@ -47,26 +47,26 @@ keys =
 pub rows : sum_by (weight_of_row (child_keys ∷ [])) (range_with_len 0 6) ≤ root_total (child_lists ∷ []) 6
 rows = root_at_least 6 6 (omega arith) (child_lists ∷ []) (child_keys ∷ []) (child_dominates, tt)
 
-pub falls_two : (x y : ℕ) → y ≤ x → IsFalling (x ∷ y ∷ [])
-falls_two x y h = IsFalling-cons x (y ∷ []) h (IsFalling-cons y [] (omega arith) (λ r. omega arith))
+pub falls_two : (x y : ℕ) → y ≤ x → IsDescending (x ∷ y ∷ [])
+falls_two x y h = IsDescending-cons x (y ∷ []) h (IsDescending-cons y [] (omega arith) (λ r. omega arith))
 
-pub falls_three : (x y z : ℕ) → y ≤ x → z ≤ y → IsFalling (x ∷ y ∷ z ∷ [])
-falls_three x y z h k = IsFalling-cons x (y ∷ z ∷ []) h (falls_two y z k)
+pub falls_three : (x y z : ℕ) → y ≤ x → z ≤ y → IsDescending (x ∷ y ∷ z ∷ [])
+falls_three x y z h k = IsDescending-cons x (y ∷ z ∷ []) h (falls_two y z k)
 
-above_two : (x y a b : ℕ) → a ≤ x → a + b ≤ x + y → IsAbove (x ∷ y ∷ []) (a ∷ b ∷ [])
+above_two : (x y a b : ℕ) → a ≤ x → a + b ≤ x + y → HasHigherSums (x ∷ y ∷ []) (a ∷ b ∷ [])
 above_two x y a b h k zero = omega arith
 above_two x y a b h k (suc zero) = omega arith
 above_two x y a b h k (suc (suc zero)) = omega arith
 above_two x y a b h k (suc (suc (suc r))) = omega arith
 
-pub above_three : (x y a b c : ℕ) → a ≤ x → a + b ≤ x + y → a + b + c ≤ x + y → IsAbove (x ∷ y ∷ []) (a ∷ b ∷ c ∷ [])
+pub above_three : (x y a b c : ℕ) → a ≤ x → a + b ≤ x + y → a + b + c ≤ x + y → HasHigherSums (x ∷ y ∷ []) (a ∷ b ∷ c ∷ [])
 above_three x y a b c h k l zero = omega arith
 above_three x y a b c h k l (suc zero) = omega arith
 above_three x y a b c h k l (suc (suc zero)) = omega arith
 above_three x y a b c h k l (suc (suc (suc zero))) = omega arith
 above_three x y a b c h k l (suc (suc (suc (suc r)))) = omega arith
 
-pub larger_product : IsAbove (rank_product_of ((3 ∷ 3 ∷ []) ∷ (5 ∷ 4 ∷ []) ∷ [])) (rank_product_of ((3 ∷ 2 ∷ 1 ∷ []) ∷ (5 ∷ 3 ∷ 1 ∷ []) ∷ []))
+pub larger_product : HasHigherSums (rank_product_of ((3 ∷ 3 ∷ []) ∷ (5 ∷ 4 ∷ []) ∷ [])) (rank_product_of ((3 ∷ 2 ∷ 1 ∷ []) ∷ (5 ∷ 3 ∷ 1 ∷ []) ∷ []))
 larger_product =
     rank_product_of-above ((3 ∷ 3 ∷ []) ∷ (5 ∷ 4 ∷ []) ∷ []) ((3 ∷ 2 ∷ 1 ∷ []) ∷ (5 ∷ 3 ∷ 1 ∷ []) ∷ [])
     (falls_two 3 3 (omega arith), (falls_two 5 4 (omega arith), tt))
@@ -88,7 +88,7 @@ smaller_is_child = record { class_falls = falls_two 3 2 (omega arith); column_su
 pub larger_is_above : ChildIsAbove larger_child smaller_child
 larger_is_above = record { column = above_three 3 3 3 2 1 (omega arith) (omega arith) (omega arith); class = above_two 4 1 3 2 (omega arith) (omega arith) }
 
-pub larger_composition : IsAbove (composed (3 ∷ 3 ∷ []) (larger_child ∷ [])) (composed (3 ∷ 2 ∷ 1 ∷ []) (smaller_child ∷ []))
+pub larger_composition : HasHigherSums (composed (3 ∷ 3 ∷ []) (larger_child ∷ [])) (composed (3 ∷ 2 ∷ 1 ∷ []) (smaller_child ∷ []))
 larger_composition =
     composed-above (3 ∷ 3 ∷ []) (3 ∷ 2 ∷ 1 ∷ []) (larger_child ∷ []) (smaller_child ∷ []) (larger_is_child, tt) (smaller_is_child, tt)
     (falls_three 3 2 1 (omega arith) (omega arith), tt) (above_three 3 3 3 2 1 (omega arith) (omega arith) (omega arith)) (larger_is_above, tt)

@@ -1,6 +1,6 @@
 pub mod Expansion
 pub mod Falling
-pub mod Places
+pub mod PiecePlaces
 pub mod Building
 pub mod Walking
 pub mod Combining

@@ -10,20 +10,20 @@ use Rattle.degree_sequences.proofs.FallingLists.{trimmed_positive}
 use Rattle.degree_sequences.proofs.FewRuns.{runs-any}
 use Rattle.degree_sequences.proofs.RowWeights.{get_or-row_weights}
 use Rattle.degree_sequences.proofs.RunningSums.{running_sum-suc, running_sum-trimmed, running_sum-le-sum, running_sum-past}
-use Rattle.degree_sequences.proofs.SaturationLaws.{onto-pos}
-use Rattle.degree_sequences.proofs.Spread.{spread, tail_of, get_or-tail_of, get_or-front, get_or-past, get_or-spread, length-spread, IsFalling-spread}
+use Rattle.degree_sequences.proofs.SaturationLaws.{cons_unless_zero_at_end-pos}
+use Rattle.degree_sequences.proofs.Spread.{spread, tail_of, get_or-tail_of, get_or-front, get_or-past, get_or-spread, length-spread, IsDescending-spread}
 use Rattle.degree_sequences.specs.Composition.{ChildLists, row_weights, weight_by_rank}
-use Rattle.degree_sequences.specs.Falling.{IsFalling, trimmed, onto}
+use Rattle.degree_sequences.specs.Descending.{IsDescending, trimmed, cons_unless_zero_at_end}
 use Rattle.degree_sequences.specs.Rank.{rank}
 use Rattle.degree_sequences.specs.RunningSums.{running_sum}
 use Rattle.degree_sequences.specs.Runs.{runs_after}
 use Rattle.piece_math.specs.declared.pieces.Piece.{Piece}
-use Rattle.piece_math.specs.declared.walk.Places.{Places}
-use Rattle.piece_math.specs.declared.walk.Turn.{Turn}
+use Rattle.piece_math.specs.declared.walk.PiecePlaces.{PiecePlaces}
+use Rattle.piece_math.specs.declared.walk.Stretch.{Stretch}
 use Rattle.piece_math.specs.Expanded.{expanded, ArePieces, IsAppended}
-use Rattle.piece_math.specs.Places.{IsTurn}
+use Rattle.piece_math.specs.PiecePlaces.{IsStretch}
 use Rattle.piece_math.proofs.Building.{HasRun, run_built}
-use Rattle.piece_math.proofs.Expansion.{IsFalling-expanded}
+use Rattle.piece_math.proofs.Expansion.{IsDescending-expanded}
 use Rattle.piece_math.proofs.RunningMinima.{running_sum-has_run}
 use Rattle.piece_math.proofs.Walking.{Walked, at_left, at_right, walk_on, walk_start, rest_none}
 
@@ -36,7 +36,7 @@ pub length-trimmed-le : (s : List ℕ) → length (trimmed s) ≤ length s
 length-trimmed-le [] = omega arith
 length-trimmed-le (x ∷ s) = omega (arith, onto_longer x (trimmed s), length-trimmed-le s)
   where
-    onto_longer : (x : ℕ) (s : List ℕ) → length (onto x s) ≤ suc (length s)
+    onto_longer : (x : ℕ) (s : List ℕ) → length (cons_unless_zero_at_end x s) ≤ suc (length s)
     onto_longer zero [] = omega arith
     onto_longer zero (y ∷ s) = omega arith
     onto_longer (suc x) s = omega arith
@@ -72,8 +72,8 @@ first_rows (suc c) x y (z ∷ g) v same_g same_v k h =
           (k - z) (omega (arith, suc-mul c x))
     ]
 
-pub IsFalling-trimmed : (s : List ℕ) → IsFalling s → IsFalling (trimmed s)
-IsFalling-trimmed s fall r = omega (arith, fall r, get_or-trimmed s r, get_or-trimmed s (suc r))
+pub IsDescending-trimmed : (s : List ℕ) → IsDescending s → IsDescending (trimmed s)
+IsDescending-trimmed s fall r = omega (arith, fall r, get_or-trimmed s r, get_or-trimmed s (suc r))
 
 -- ---- the row weights of one child
 
@@ -105,7 +105,7 @@ trimmed-spread_nil (x ∷ g) = trimmed-zeros x (spread g []) (trimmed-spread_nil
 
 pub trimmed-front : (n h : ℕ) (s : List ℕ) → 0 < h → trimmed (replicate n h ++ s) ≡ replicate n h ++ trimmed s
 trimmed-front zero h s pos = refl
-trimmed-front (suc n) h s pos = ap (onto h) (trimmed-front n h s pos) ∙ onto-pos h (replicate n h ++ trimmed s) pos
+trimmed-front (suc n) h s pos = ap (cons_unless_zero_at_end h) (trimmed-front n h s pos) ∙ cons_unless_zero_at_end-pos h (replicate n h ++ trimmed s) pos
 
 runs_after-front-le : (b n h : ℕ) (s : List ℕ) → runs_after b (replicate (suc n) h ++ s) ≡ cond (eqb h b) 0 1 + runs_after h s
 runs_after-front-le b zero h s = refl
@@ -127,19 +127,19 @@ runs_after-spread b (suc x ∷ g) (h ∷ v) pos =
 -- ---- the walk
 
 -- this is the state of the walk: the weights of the rows before the positions are built
-pub record SpreadSoFar (a b : List Piece) (places : Places) (list : List ℕ) : Type 0 where
+pub record SpreadSoFar (a b : List Piece) (places : PiecePlaces) (list : List ℕ) : Type 0 where
   pub walked : Walked a b places
   pub built : list ≡ take (running_sum (expanded a) walked.rank) (trimmed (spread (expanded a) (expanded b)))
 
 pub spread_start : (a b : List Piece) → ArePieces a → ArePieces b → SpreadSoFar a b (record { left = record { at = 0; used = 0 }; right = record { at = 0; used = 0 } }) []
 spread_start a b are_a are_b = record { walked = walk_start a b are_a are_b; built = refl }
 
-module _ {a b : List Piece} (are_a : ArePieces a) (are_b : ArePieces b) {places : Places} {list : List ℕ} (so_far : SpreadSoFar a b places list) where
-  pub spread_falls : IsFalling (trimmed (spread (expanded a) (expanded b)))
-  spread_falls = IsFalling-trimmed (spread (expanded a) (expanded b)) (IsFalling-spread (expanded a) (expanded b) (IsFalling-expanded b are_b.falls))
+module _ {a b : List Piece} (are_a : ArePieces a) (are_b : ArePieces b) {places : PiecePlaces} {list : List ℕ} (so_far : SpreadSoFar a b places list) where
+  pub spread_falls : IsDescending (trimmed (spread (expanded a) (expanded b)))
+  spread_falls = IsDescending-trimmed (spread (expanded a) (expanded b)) (IsDescending-spread (expanded a) (expanded b) (IsDescending-expanded b are_b.falls))
 
   pub spread_positive : AllByRecursion (λ x. 0 < x) (trimmed (spread (expanded a) (expanded b)))
-  spread_positive = trimmed_positive (spread (expanded a) (expanded b)) (IsFalling-spread (expanded a) (expanded b) (IsFalling-expanded b are_b.falls))
+  spread_positive = trimmed_positive (spread (expanded a) (expanded b)) (IsDescending-spread (expanded a) (expanded b) (IsDescending-expanded b are_b.falls))
 
   pub spread_short : length (trimmed (spread (expanded a) (expanded b))) ≤ sum (expanded a)
   spread_short = omega (arith, length-trimmed-le (spread (expanded a) (expanded b)), length-spread (expanded a) (expanded b))
@@ -150,26 +150,26 @@ module _ {a b : List Piece} (are_a : ArePieces a) (are_b : ArePieces b) {places 
       ∙ take_all (running_sum (expanded a) so_far.walked.rank) (trimmed (spread (expanded a) (expanded b)))
       (omega (arith, spread_short, running_sum-past (expanded a) so_far.walked.rank (rest_none a places.left so_far.walked.rank so_far.walked.left over)))
 
-  module _ {turn : Turn} (t : IsTurn a b places turn) where
-    rises : running_sum (expanded a) (so_far.walked.rank + turn.count) ≡ running_sum (expanded a) so_far.walked.rank + turn.count * turn.left
-    rises = running_sum-has_run (expanded a) so_far.walked.rank turn.count turn.left (record { same = at_left t so_far.walked }) turn.count (omega arith)
+  module _ {stretch : Stretch} (t : IsStretch a b places stretch) where
+    rises : running_sum (expanded a) (so_far.walked.rank + stretch.count) ≡ running_sum (expanded a) so_far.walked.rank + stretch.count * stretch.left
+    rises = running_sum-has_run (expanded a) so_far.walked.rank stretch.count stretch.left (record { same = at_left t so_far.walked }) stretch.count (omega arith)
 
-    pub rows_fit : turn.left * turn.count ≤ sum (expanded a)
-    rows_fit = omega (arith, rises, running_sum-le-sum (expanded a) (so_far.walked.rank + turn.count))
+    pub rows_fit : stretch.left * stretch.count ≤ sum (expanded a)
+    rows_fit = omega (arith, rises, running_sum-le-sum (expanded a) (so_far.walked.rank + stretch.count))
 
-    pub spread_run : HasRun (trimmed (spread (expanded a) (expanded b))) (running_sum (expanded a) so_far.walked.rank) (turn.left * turn.count) turn.right
+    pub spread_run : HasRun (trimmed (spread (expanded a) (expanded b))) (running_sum (expanded a) so_far.walked.rank) (stretch.left * stretch.count) stretch.right
     spread_run = record {
       same = λ k h.
           get_or-trimmed (spread (expanded a) (expanded b)) (running_sum (expanded a) so_far.walked.rank + k)
           ∙ sym (get_or-drop (running_sum (expanded a) so_far.walked.rank) (spread (expanded a) (expanded b)) k 0)
           ∙ ap (λ (s : List ℕ). get_or s k 0) (drop-spread so_far.walked.rank (expanded a) (expanded b))
-          ∙ first_rows turn.count turn.left turn.right (drop so_far.walked.rank (expanded a)) (drop so_far.walked.rank (expanded b))
+          ∙ first_rows stretch.count stretch.left stretch.right (drop so_far.walked.rank (expanded a)) (drop so_far.walked.rank (expanded b))
           (λ i j. get_or-drop so_far.walked.rank (expanded a) i 0 ∙ at_left t so_far.walked i j)
           (λ i j. get_or-drop so_far.walked.rank (expanded b) i 0 ∙ at_right t so_far.walked i j)
           k (omega arith);
     }
 
-    pub spread_step : {new : List ℕ} → IsAppended list new turn.right (turn.left * turn.count) → SpreadSoFar a b turn.next new
+    pub spread_step : {new : List ℕ} → IsAppended list new stretch.right (stretch.left * stretch.count) → SpreadSoFar a b stretch.next new
     spread_step put = record {
       walked = walk_on t so_far.walked;
       built = run_built so_far.built spread_run spread_positive put

@@ -7,13 +7,13 @@ use Rattle.std.proofs.lemmas.List.{append-nil, length-map, get_or_past, get_or-r
 use Rattle.std.proofs.lemmas.List.Sums.{sum_by_more}
 use Rattle.degree_sequences.proofs.ByRank.{get_or-rank_product}
 use Rattle.degree_sequences.proofs.FallingLists.{trimmed_positive}
-use Rattle.degree_sequences.proofs.RowWeights.{IsFalling-spreads, get_or-row_weights, get_or-weights}
+use Rattle.degree_sequences.proofs.RowWeights.{IsDescending-spreads, get_or-row_weights, get_or-weights}
 use Rattle.degree_sequences.proofs.RunningSums.{running_sum-past, running_sum-trimmed}
 use Rattle.degree_sequences.proofs.SaturationLaws.{min-mul-min_left, saturated-running_sum}
 use Rattle.degree_sequences.specs.ByRank.{rank_product}
 use Rattle.degree_sequences.specs.Composition.{ChildLists, row_weights, weight_by_rank}
-use Rattle.degree_sequences.specs.Falling.{IsFalling, trimmed}
-use Rattle.degree_sequences.specs.Families.{IsChildOf}
+use Rattle.degree_sequences.specs.Descending.{IsDescending, trimmed}
+use Rattle.degree_sequences.specs.ComparedChildren.{IsChildOf}
 use Rattle.degree_sequences.specs.Rank.{rank}
 use Rattle.degree_sequences.specs.Runs.{runs, runs_after}
 use Rattle.degree_sequences.specs.Saturation.{saturated}
@@ -49,15 +49,15 @@ weight_by_rank-push (d ∷ cs) c t =
 get_or-row_weights_past : (cs : List ChildLists) (n r : ℕ) → n ≤ r → get_or (row_weights cs n) r 0 ≡ 0
 get_or-row_weights_past cs n r h = get_or_past (row_weights cs n) r 0 (omega (arith, length-row_weights cs n))
 
-IsFalling-row_weights : (n : ℕ) (cs : List ChildLists) → AllByRecursion (IsChildOf n) cs → IsFalling (row_weights cs n)
-IsFalling-row_weights n cs all r = elim (cases_lt (suc r) n) [
+IsDescending-row_weights : (n : ℕ) (cs : List ChildLists) → AllByRecursion (IsChildOf n) cs → IsDescending (row_weights cs n)
+IsDescending-row_weights n cs all r = elim (cases_lt (suc r) n) [
   | inl inside ↦ omega (
     arith,
     get_or-row_weights cs n r (omega arith),
     get_or-row_weights cs n (suc r) inside,
     get_or-weights n cs all r (omega arith),
     get_or-weights n cs all (suc r) inside,
-    IsFalling-spreads n n cs all r,
+    IsDescending-spreads n n cs all r,
   )
   | inr past ↦ omega (arith, get_or-row_weights_past cs n (suc r) past)
 ]
@@ -71,9 +71,9 @@ rank_product-row_weights : (n : ℕ) (cs : List ChildLists) (c : ChildLists) →
 rank_product-row_weights n cs c all one =
     same_by_elements (rank_product (trimmed (row_weights cs n)) (trimmed (row_weights (c ∷ []) n))) (trimmed (row_weights (cs ++ c ∷ []) n))
     (positive-rank_product (trimmed (row_weights cs n)) (trimmed (row_weights (c ∷ []) n))
-    (trimmed_positive (row_weights cs n) (IsFalling-row_weights n cs all))
-    (trimmed_positive (row_weights (c ∷ []) n) (IsFalling-row_weights n (c ∷ []) (one, tt))))
-    (trimmed_positive (row_weights (cs ++ c ∷ []) n) (IsFalling-row_weights n (cs ++ c ∷ []) (AllByRecursion-push (IsChildOf n) cs c all one)))
+    (trimmed_positive (row_weights cs n) (IsDescending-row_weights n cs all))
+    (trimmed_positive (row_weights (c ∷ []) n) (IsDescending-row_weights n (c ∷ []) (one, tt))))
+    (trimmed_positive (row_weights (cs ++ c ∷ []) n) (IsDescending-row_weights n (cs ++ c ∷ []) (AllByRecursion-push (IsChildOf n) cs c all one)))
     (λ r. get_or-rank_product (trimmed (row_weights cs n)) (trimmed (row_weights (c ∷ []) n)) r
     ∙ rw (get_or-trimmed (row_weights cs n) r, get_or-trimmed (row_weights (c ∷ []) n) r, get_or-trimmed (row_weights (cs ++ c ∷ []) n) r) (at r))
   where

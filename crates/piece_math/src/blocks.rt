@@ -2,16 +2,16 @@
 ghost use Rattle.std.specs.Prelude.{◌≡◌, ◌+◌, ◌*◌, ◌^◌, ◌<◌, ◌≤◌, drop, length, map, IfOk};
 ghost use Rattle.std.specs.List.{All, sum};
 ghost use Rattle.degree_sequences.specs.Composition.{block_sums, composed};
-ghost use Rattle.degree_sequences.specs.Falling.{IsFalling, trimmed};
+ghost use Rattle.degree_sequences.specs.Descending.{IsDescending, trimmed};
 ghost use Rattle.degree_sequences.specs.RunningSums.{running_sum};
 ghost use Rattle.degree_sequences.specs.Runs.{runs};
 ghost use Rattle.degree_sequences.specs.Saturation.{saturated};
 ghost use Rattle.piece_math.specs.Children.{lists_of, class_runs};
 ghost use Rattle.piece_math.specs.Expanded.{ArePieces};
-ghost use Rattle.piece_math.specs.Places.{rest_from, ahead_of, IsPlace};
+ghost use Rattle.piece_math.specs.PiecePlaces.{rest_from, ahead_of, IsPiecePlace};
 
 use crate::pieces::{Piece, Pieces};
-use crate::walk::{Place, START, ahead, passed};
+use crate::walk::{PiecePlace, START, ahead, place_after};
 use crate::weights::{Child, row_weights};
 use base_io::NoMemory;
 use std::alloc::Global;
@@ -20,16 +20,16 @@ use std::alloc::Global;
 #[derive(Clone, Copy)]
 struct Block {
     sum: u128,
-    next: Place,
+    next: PiecePlace,
 }
 
 // Sums one block of `rows` rows, over as many pieces as it takes.
-fn block_from(weights: &[Piece], start: Place, rows: u128) -> Block
+fn block_from(weights: &[Piece], start: PiecePlace, rows: u128) -> Block
     requires weights { ArePieces weights.now }
-    requires start { IsPlace weights.now start }
+    requires start { IsPiecePlace weights.now start }
     ensures sum { result.sum ≡ saturated (running_sum (rest_from weights.now start) rows) }
     ensures rest { rest_from weights.now result.next ≡ drop rows (rest_from weights.now start) }
-    ensures next { IsPlace weights.now result.next }
+    ensures next { IsPiecePlace weights.now result.next }
     ensures onward { start.at < length weights.now → (ahead_of weights.now start).count < rows → start.at < result.next.at }
     ensures stays { start.at ≤ result.next.at }
 {
@@ -40,7 +40,7 @@ fn block_from(weights: &[Piece], start: Place, rows: u128) -> Block
         let run = ahead(weights, next);
         let count = left.min(u128::from(run.count)) as u64;
         sum = sum.saturating_add(run.value.saturating_mul(u128::from(count)));
-        next = passed(weights, next, count);
+        next = place_after(weights, next, count);
         left -= u128::from(count);
     }
     Block { sum, next }
@@ -49,7 +49,7 @@ fn block_from(weights: &[Piece], start: Place, rows: u128) -> Block
 // Sums the weights by blocks. Whole blocks inside one piece of weights make one piece together. A block that crosses the
 // end of a piece makes a piece of its own.
 fn grouped(parent: &Pieces, weights: &Pieces) -> Result<Pieces, NoMemory>
-    ensures falls { IsFalling parent.now }
+    ensures falls { IsDescending parent.now }
     ensures positive { All (λ x. 0 < x) parent.now }
     ensures value { IfOk result (λ list. list ≡ map saturated (trimmed (block_sums parent.now weights.now))) }
     ensures few_pieces { IfOk result (λ list. runs list ≤ runs parent.now + 2 * runs weights.now) }
@@ -66,13 +66,13 @@ fn grouped(parent: &Pieces, weights: &Pieces) -> Result<Pieces, NoMemory>
         if whole == 0 {
             let mixed = block_from(rows, row, block.value);
             list.put(mixed.sum, 1)?;
-            at = passed(blocks, at, 1);
+            at = place_after(blocks, at, 1);
             row = mixed.next;
         } else {
             let count = (whole as u64).min(block.count);
             list.put(block.value.saturating_mul(run.value), count)?;
-            at = passed(blocks, at, count);
-            row = passed(rows, row, block.value as u64 * count);
+            at = place_after(blocks, at, count);
+            row = place_after(rows, row, block.value as u64 * count);
         }
     }
     Ok(list)

@@ -6,7 +6,7 @@ ghost use Rattle.degree_sequences.specs.Saturation.{saturated};
 ghost use Rattle.piece_math.specs.ByRank.{combined, combined_by_rank};
 
 use crate::pieces::Pieces;
-use crate::walk::{Places, START, next_turn};
+use crate::walk::{PiecePlaces, START, next_stretch};
 use base_io::NoMemory;
 
 // How the two numbers of a rank are combined.
@@ -29,7 +29,7 @@ impl Combination {
     }
 }
 
-// Walks along both lists together, with one turn for each stretch of ranks on which neither list changes.
+// Walks along both lists together, with one step for each stretch of ranks on which neither list changes.
 fn combine(how: Combination, left: &Pieces, right: &Pieces) -> Result<Pieces, NoMemory>
     ensures value { IfOk result (λ list. list ≡ map saturated (combined_by_rank how left.now right.now)) }
     ensures few_pieces { IfOk result (λ list. runs list ≤ runs left.now + runs right.now) }
@@ -37,14 +37,14 @@ fn combine(how: Combination, left: &Pieces, right: &Pieces) -> Result<Pieces, No
     let a = left.pieces();
     let b = right.pieces();
     let mut list = Pieces::empty(left.alloc());
-    let mut places = Places {
+    let mut places = PiecePlaces {
         left: START,
         right: START,
     };
     while places.left.at < a.len() || places.right.at < b.len() {
-        let turn = next_turn(a, b, places);
-        list.put(how.of(turn.left, turn.right), turn.count)?;
-        places = turn.next;
+        let stretch = next_stretch(a, b, places);
+        list.put(how.of(stretch.left, stretch.right), stretch.count)?;
+        places = stretch.next;
     }
     Ok(list)
 }

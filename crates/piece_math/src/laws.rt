@@ -1,6 +1,6 @@
 //! Why bounds are safe: five laws of lists in descending order.
 //!
-//! Lists have natural numbers of any size, and a list is 0 past its end. Each law says which lists have to be in descending order (`IsFalling`).
+//! Lists have natural numbers of any size, and a list is 0 past its end. Each law says which lists have to be in descending order (`IsDescending`).
 //! Domination is a statement about any different keys, in any order. No law computes anything: the bodies are empty, and the contract is the law.
 //! Products and compositions of dominating lists are from Degree Sequence Bound (ICDT 2023).
 ghost use Rattle.std.specs.Prelude.{◌≡◌, ℕ, ◌+◌, ◌*◌, ◌≤◌, List, [], ◌∷◌, length, map};
@@ -9,15 +9,15 @@ ghost use Rattle.degree_sequences.specs.ByRank.{rank_product, rank_product_of};
 ghost use Rattle.degree_sequences.specs.Composition.{ChildLists, composed, root_total};
 ghost use Rattle.degree_sequences.specs.Degrees.{degree};
 ghost use Rattle.degree_sequences.specs.Domination.{DominatesKeys, DominatesWeights};
-ghost use Rattle.degree_sequences.specs.Falling.{IsFalling};
-ghost use Rattle.degree_sequences.specs.Families.{IsChildOf, ColumnFalls, ChildIsAbove, SumsAreWithin, MatchedChild, IsNear, scales, factors};
+ghost use Rattle.degree_sequences.specs.Descending.{IsDescending};
+ghost use Rattle.degree_sequences.specs.ComparedChildren.{IsChildOf, ColumnIsDescending, ChildIsAbove, SumsAreWithin, MatchedChild, IsNear, scales, factors};
 ghost use Rattle.degree_sequences.specs.KeyedRows.{ChildKeys, DominatesChild, weight_of_row, weight_of_key};
-ghost use Rattle.degree_sequences.specs.RunningSums.{IsAbove};
+ghost use Rattle.degree_sequences.specs.RunningSums.{HasHigherSums};
 
 /// Product dominates: if two lists dominate two weights of the same keys, their product by rank dominates the
 /// weights multiplied key by key. One of the two lists has to be in descending order.
 pub fn product_dominates()
-    ensures { (s t : List ℕ) (v w : ℕ → ℕ) → IsFalling t
+    ensures { (s t : List ℕ) (v w : ℕ → ℕ) → IsDescending t
         → DominatesWeights s v → DominatesWeights t w → DominatesWeights (rank_product s t) (λ a. v a * w a) }
 {}
 
@@ -39,8 +39,8 @@ pub fn compose_dominates()
 /// is above that of the second. All lists have to be in descending order. A list is above another if its running sum at
 /// every rank is at least the other's.
 pub fn product_is_monotone()
-    ensures { (lists lower : List (List ℕ)) → AllByRecursion IsFalling lists → AllByRecursion IsFalling lower
-        → AllZip IsAbove lists lower → IsAbove (rank_product_of lists) (rank_product_of lower) }
+    ensures { (lists lower : List (List ℕ)) → AllByRecursion IsDescending lists → AllByRecursion IsDescending lower
+        → AllZip HasHigherSums lists lower → HasHigherSums (rank_product_of lists) (rank_product_of lower) }
 {}
 
 /// Composition is monotone in the same way. In each family the parent list and the columns have the same sum, and
@@ -48,8 +48,8 @@ pub fn product_is_monotone()
 pub fn compose_is_monotone()
     ensures { (parent lower_parent : List ℕ) (children lower : List ChildLists)
         → AllByRecursion (IsChildOf (sum parent)) children → AllByRecursion (IsChildOf (sum lower_parent)) lower
-        → AllByRecursion ColumnFalls lower → IsAbove parent lower_parent → AllZip ChildIsAbove children lower
-        → IsAbove (composed parent children) (composed lower_parent lower) }
+        → AllByRecursion ColumnIsDescending lower → HasHigherSums parent lower_parent → AllZip ChildIsAbove children lower
+        → HasHigherSums (composed parent children) (composed lower_parent lower) }
 {}
 
 /// Composition scales. Suppose that K times each running sum of the near parent list is at most K + 1 times the running sum of the exact one, and
@@ -61,7 +61,7 @@ pub fn compose_scales()
         → SumsAreWithin accuracy (accuracy + 1) parent exact_parent → AllByRecursion (IsNear accuracy) children
         → AllByRecursion (IsChildOf (sum parent)) (map (λ child. child.near) children)
         → AllByRecursion (IsChildOf (sum exact_parent)) (map (λ child. child.exact) children)
-        → AllByRecursion ColumnFalls (map (λ child. child.near) children)
+        → AllByRecursion ColumnIsDescending (map (λ child. child.near) children)
         → SumsAreWithin (accuracy * scales children) ((accuracy + 1) * factors children)
         (composed parent (map (λ child. child.near) children)) (composed exact_parent (map (λ child. child.exact) children)) }
 {}
@@ -71,7 +71,7 @@ pub fn instances()
     // the keys 7, 7, 8 joined with 7, 7, 7, 8, 9
     ensures product_dominates { let left : List ℕ = 7 ∷ 7 ∷ 8 ∷ [] in
         let right : List ℕ = 7 ∷ 7 ∷ 7 ∷ 8 ∷ 9 ∷ [] in
-        IsFalling (3 ∷ 1 ∷ 1 ∷ [])
+        IsDescending (3 ∷ 1 ∷ 1 ∷ [])
         × DominatesWeights (2 ∷ 1 ∷ []) (degree left)
         × DominatesWeights (3 ∷ 1 ∷ 1 ∷ []) (degree right)
         × DominatesWeights (rank_product (2 ∷ 1 ∷ []) (3 ∷ 1 ∷ 1 ∷ [])) (λ a. degree left a * degree right a) }
@@ -89,18 +89,18 @@ pub fn instances()
         × (sum_by (weight_of_row children) (range_with_len 0 6) ≤ root_total lists 6) }
     ensures product_is_monotone { let lists : List (List ℕ) = (3 ∷ 3 ∷ []) ∷ (5 ∷ 4 ∷ []) ∷ [] in
         let lower : List (List ℕ) = (3 ∷ 2 ∷ 1 ∷ []) ∷ (5 ∷ 3 ∷ 1 ∷ []) ∷ [] in
-        AllByRecursion IsFalling lists
-        × AllByRecursion IsFalling lower
-        × AllZip IsAbove lists lower
-        × IsAbove (rank_product_of lists) (rank_product_of lower) }
+        AllByRecursion IsDescending lists
+        × AllByRecursion IsDescending lower
+        × AllZip HasHigherSums lists lower
+        × HasHigherSums (rank_product_of lists) (rank_product_of lower) }
     ensures compose_is_monotone { let children : List ChildLists = record { column = 3 ∷ 3 ∷ []; class = 4 ∷ 1 ∷ [] } ∷ [] in
         let lower : List ChildLists = record { column = 3 ∷ 2 ∷ 1 ∷ []; class = 3 ∷ 2 ∷ [] } ∷ [] in
         AllByRecursion (IsChildOf (sum (3 ∷ 3 ∷ []))) children
         × AllByRecursion (IsChildOf (sum (3 ∷ 2 ∷ 1 ∷ []))) lower
-        × AllByRecursion ColumnFalls lower
-        × IsAbove (3 ∷ 3 ∷ []) (3 ∷ 2 ∷ 1 ∷ [])
+        × AllByRecursion ColumnIsDescending lower
+        × HasHigherSums (3 ∷ 3 ∷ []) (3 ∷ 2 ∷ 1 ∷ [])
         × AllZip ChildIsAbove children lower
-        × IsAbove (composed (3 ∷ 3 ∷ []) children) (composed (3 ∷ 2 ∷ 1 ∷ []) lower) }
+        × HasHigherSums (composed (3 ∷ 3 ∷ []) children) (composed (3 ∷ 2 ∷ 1 ∷ []) lower) }
     // accuracy 1; twice the running sums of the class list 6, 1 are at most three times those of 4, 1
     ensures compose_scales { let near : ChildLists = record { column = 3 ∷ 3 ∷ []; class = 6 ∷ 1 ∷ [] } in
         let exact : ChildLists = record { column = 3 ∷ 2 ∷ 1 ∷ []; class = 4 ∷ 1 ∷ [] } in
@@ -109,6 +109,6 @@ pub fn instances()
         × AllByRecursion (IsNear 1) (child ∷ [])
         × AllByRecursion (IsChildOf (sum (3 ∷ 3 ∷ []))) (near ∷ [])
         × AllByRecursion (IsChildOf (sum (3 ∷ 2 ∷ 1 ∷ []))) (exact ∷ [])
-        × AllByRecursion ColumnFalls (near ∷ [])
+        × AllByRecursion ColumnIsDescending (near ∷ [])
         × SumsAreWithin 2 6 (composed (3 ∷ 3 ∷ []) (near ∷ [])) (composed (3 ∷ 2 ∷ 1 ∷ []) (exact ∷ [])) }
 {}

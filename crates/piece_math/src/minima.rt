@@ -6,7 +6,7 @@ ghost use Rattle.degree_sequences.specs.Runs.{runs};
 ghost use Rattle.piece_math.specs.Lines.{IsBend};
 
 use crate::pieces::{Piece, Pieces};
-use crate::walk::{Places, START, next_turn};
+use crate::walk::{PiecePlaces, START, next_stretch};
 use base_io::NoMemory;
 
 // A line: the running sums of a list along equal elements. It begins at `sum` and rises by `step` at each rank.
@@ -86,29 +86,29 @@ impl Pieces {
         let a = self.pieces();
         let b = other.pieces();
         let mut list = Pieces::empty(self.alloc());
-        let mut places = Places {
+        let mut places = PiecePlaces {
             left: START,
             right: START,
         };
         let mut left_sum: u128 = 0;
         let mut right_sum: u128 = 0;
         while places.left.at < a.len() || places.right.at < b.len() {
-            let turn = next_turn(a, b, places);
+            let stretch = next_stretch(a, b, places);
             let left = Line {
                 sum: left_sum,
-                step: turn.left,
+                step: stretch.left,
             };
             let right = Line {
                 sum: right_sum,
-                step: turn.right,
+                step: stretch.right,
             };
-            let lower = lower_line(left, right, turn.count);
+            let lower = lower_line(left, right, stretch.count);
             list.put(lower.before.value, lower.before.count)?;
             list.put(lower.between.value, lower.between.count)?;
             list.put(lower.after.value, lower.after.count)?;
-            left_sum += turn.left * u128::from(turn.count);
-            right_sum += turn.right * u128::from(turn.count);
-            places = turn.next;
+            left_sum += stretch.left * u128::from(stretch.count);
+            right_sum += stretch.right * u128::from(stretch.count);
+            places = stretch.next;
         }
         Ok(list)
     }

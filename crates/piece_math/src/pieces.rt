@@ -1,7 +1,7 @@
 //! The type `Pieces`: how a list is made, filled and read.
 ghost use Rattle.std.specs.Prelude.{◌≡◌, ◌+◌, ◌^◌, ◌<◌, ◌≤◌, [], ◌++◌, replicate, length, IfOk, OnOk, OnErr};
 ghost use Rattle.std.specs.List.{All, sum};
-ghost use Rattle.degree_sequences.specs.Falling.{IsFalling};
+ghost use Rattle.degree_sequences.specs.Descending.{IsDescending};
 ghost use Rattle.degree_sequences.specs.Runs.{runs};
 ghost use Rattle.degree_sequences.specs.Saturation.{saturated};
 ghost use Rattle.piece_math.specs.Expanded.{expanded, ArePieces, IsAppended};
@@ -50,7 +50,7 @@ impl Pieces {
         ensures stands_for { self.now ≡ expanded result.now }
         ensures whole { ArePieces result.now }
         ensures one_per_run { length result.now ≡ runs self.now }
-        ensures list_falls { IsFalling self.now }
+        ensures list_falls { IsDescending self.now }
         ensures positive { All (λ x. 0 < x) self.now }
     {
         self.parts.as_slice()
@@ -98,7 +98,7 @@ impl Pieces {
 
     /// The given list, as pieces.
     pub fn from_list(alloc: Global, list: &[u64]) -> Result<Pieces, NoMemory>
-        requires falls { IsFalling list.now }
+        requires falls { IsDescending list.now }
         requires positive { All (λ x. 0 < x) list.now }
         ensures { IfOk result (λ pieces. pieces ≡ list.now) }
     {

@@ -2,14 +2,14 @@
 ghost use Rattle.std.specs.Prelude.{◌≡◌, ◌^◌, ◌<◌, ◌≤◌, [], ◌∷◌, length, map, IfOk};
 ghost use Rattle.std.specs.List.{All, sum};
 ghost use Rattle.degree_sequences.specs.Composition.{row_weights as weights_of, root_total as total_of};
-ghost use Rattle.degree_sequences.specs.Falling.{trimmed};
-ghost use Rattle.degree_sequences.specs.Families.{IsChildOf};
+ghost use Rattle.degree_sequences.specs.Descending.{trimmed};
+ghost use Rattle.degree_sequences.specs.ComparedChildren.{IsChildOf};
 ghost use Rattle.degree_sequences.specs.Runs.{runs};
 ghost use Rattle.degree_sequences.specs.Saturation.{saturated};
 ghost use Rattle.piece_math.specs.Children.{lists_of, class_runs};
 
 use crate::pieces::Pieces;
-use crate::walk::{Places, START, next_turn};
+use crate::walk::{PiecePlaces, START, next_stretch};
 use base_io::NoMemory;
 use std::alloc::Global;
 
@@ -30,15 +30,15 @@ fn spread(child: &Child) -> Result<Pieces, NoMemory>
     let column = child.column.pieces();
     let class = child.class.pieces();
     let mut list = Pieces::empty(child.class.alloc());
-    let mut places = Places {
+    let mut places = PiecePlaces {
         left: START,
         right: START,
     };
     while places.left.at < column.len() || places.right.at < class.len() {
-        let turn = next_turn(column, class, places);
-        let rows = turn.left * u128::from(turn.count);
-        list.put(turn.right, rows as u64)?;
-        places = turn.next;
+        let stretch = next_stretch(column, class, places);
+        let rows = stretch.left * u128::from(stretch.count);
+        list.put(stretch.right, rows as u64)?;
+        places = stretch.next;
     }
     Ok(list)
 }

@@ -1,3 +1,3 @@
 pub mod LineFacts
-pub mod PlaceFacts
+pub mod OffsetFacts
 pub mod RecordFacts

@@ -5,7 +5,7 @@ use Rattle.std.specs.Prelude.{◌==◌}
 use Rattle.csv.specs.Machine.{next_record}
 use Rattle.csv.specs.Reading.{default_config, records, records_from, records_next}
 use Rattle.csv.specs.declared.parser.State.TheVariants as st
-use Rattle.plain_records.specs.Plain.{behind, ends_line, fields_of_line, front, has_quote, is_comma, plain_records}
+use Rattle.plain_records.specs.Plain.{after_first, ends_line, fields_of_line, before_first, has_quote, is_comma, plain_records}
 use Rattle.plain_records.proofs.LineFacts.{first_line, front_more, front_none, shorter_behind, with_front}
 
 record NoQuote (c : ℕ) (rest : List ℕ) : Type 0 where
@@ -52,7 +52,7 @@ records_after_cr (suc n) bytes = ap (records_next (records_from default_config n
 abbrev Goes : ℕ → List (List ℕ) → List ℕ → List ℕ → Type 0
 Goes n fields field bytes =
     records_next (records_from default_config n) (next_record default_config st.InField fields field bytes)
-    ≡ (fields ++ with_front field (fields_of_line (front ends_line bytes))) ∷ records_from default_config n st.StartRecord (behind ends_line bytes)
+    ≡ (fields ++ with_front field (fields_of_line (before_first ends_line bytes))) ∷ records_from default_config n st.StartRecord (after_first ends_line bytes)
 
 goes_end : (n : ℕ) (fields : List (List ℕ)) (field : List ℕ) → Goes n fields field []
 unfolding next_record
@@ -66,7 +66,7 @@ goes_comma : (n : ℕ) (fields : List (List ℕ)) (field rest : List ℕ) → ha
 unfolding next_record
 goes_comma n fields field rest h next =
     ap (records_next (records_from default_config n)) (begun_field (fields ++ field ∷ []) [] rest h) ∙ next
-    ∙ ap (λ record'. record' ∷ records_from default_config n st.StartRecord (behind ends_line rest)) (joined fields field (front ends_line rest))
+    ∙ ap (λ record'. record' ∷ records_from default_config n st.StartRecord (after_first ends_line rest)) (joined fields field (before_first ends_line rest))
 
 goes_cr : (n : ℕ) (fields : List (List ℕ)) (field rest : List ℕ) → Goes n fields field (13 ∷ rest)
 unfolding next_record
@@ -81,8 +81,8 @@ goes_byte : (n : ℕ) (fields : List (List ℕ)) (field rest : List ℕ) (c : �
     → Goes n fields (field ++ c ∷ []) rest → Goes n fields field (c ∷ rest)
 unfolding next_record
 goes_byte n fields field rest c comma cr lf next =
-    rw (comma, cr, lf, comma) (next ∙ ap (λ parts. (fields ++ parts) ∷ records_from default_config n st.StartRecord (behind ends_line rest))
-    (sym (front_more is_comma field (front ends_line rest) c)))
+    rw (comma, cr, lf, comma) (next ∙ ap (λ parts. (fields ++ parts) ∷ records_from default_config n st.StartRecord (after_first ends_line rest))
+    (sym (front_more is_comma field (before_first ends_line rest) c)))
 
 goes_by : (n : ℕ) (fields : List (List ℕ)) (field rest : List ℕ) (c : ℕ) (x y z : Bool) → (c == 44) ≡ x → (c == 13) ≡ y → (c == 10) ≡ z → has_quote rest ≡ false
     → ((fs : List (List ℕ)) (f : List ℕ) → Goes n fs f rest) → Goes n fields field (c ∷ rest)
@@ -99,12 +99,12 @@ goes n (c ∷ rest) fields field h =
     goes_by n fields field rest c (c == 44) (c == 13) (c == 10) refl refl refl parts.others (λ fs f. goes n rest fs f parts.others)
 
 -- what comes after a line has no quotation mark
-quotes_by : (c : ℕ) (rest : List ℕ) (b : Bool) → has_quote rest ≡ false → has_quote (behind ends_line rest) ≡ false
-    → has_quote (if b then rest else behind ends_line rest) ≡ false
+quotes_by : (c : ℕ) (rest : List ℕ) (b : Bool) → has_quote rest ≡ false → has_quote (after_first ends_line rest) ≡ false
+    → has_quote (if b then rest else after_first ends_line rest) ≡ false
 quotes_by c rest true h next = h
 quotes_by c rest false h next = next
 
-quotes_behind : (bytes : List ℕ) → has_quote bytes ≡ false → has_quote (behind ends_line bytes) ≡ false
+quotes_behind : (bytes : List ℕ) → has_quote bytes ≡ false → has_quote (after_first ends_line bytes) ≡ false
 quotes_behind [] h = refl
 quotes_behind (c ∷ rest) h = let parts = no_quote c rest h in quotes_by c rest (ends_line c) parts.others (quotes_behind rest parts.others)
 
@@ -121,23 +121,23 @@ unfolding next_record records_from
 lines_lf n rest next = next
 
 lines_byte : (n : ℕ) (rest : List ℕ) (c : ℕ) → (c == 34) ≡ false → (c == 13) ≡ false → (c == 10) ≡ false → has_quote (c ∷ rest) ≡ false
-    → AreLines n (behind ends_line (c ∷ rest)) → AreLines (suc n) (c ∷ rest)
+    → AreLines n (after_first ends_line (c ∷ rest)) → AreLines (suc n) (c ∷ rest)
 unfolding records_from
 lines_byte n rest c q cr lf h next =
-    let line : front ends_line (c ∷ rest) ≡ c ∷ front ends_line rest = rw (cr, lf) refl in
+    let line : before_first ends_line (c ∷ rest) ≡ c ∷ before_first ends_line rest = rw (cr, lf) refl in
     ap (records_next (records_from default_config (suc n))) (begun_record c rest q cr lf)
     ∙ goes (suc n) (c ∷ rest) [] [] h
-    ∙ ap (λ record'. record' ∷ records_from default_config (suc n) st.StartRecord (behind ends_line (c ∷ rest))) (front_none is_comma (front ends_line (c ∷ rest)))
-    ∙ ap (λ rest'. fields_of_line (front ends_line (c ∷ rest)) ∷ rest') next
-    ∙ ap (λ l. fields_of_line l ∷ plain_records (behind ends_line (c ∷ rest))) line
-    ∙ sym (ap (map fields_of_line) (first_line (c ∷ rest) (front ends_line rest) c line))
+    ∙ ap (λ record'. record' ∷ records_from default_config (suc n) st.StartRecord (after_first ends_line (c ∷ rest))) (front_none is_comma (before_first ends_line (c ∷ rest)))
+    ∙ ap (λ rest'. fields_of_line (before_first ends_line (c ∷ rest)) ∷ rest') next
+    ∙ ap (λ l. fields_of_line l ∷ plain_records (after_first ends_line (c ∷ rest))) line
+    ∙ sym (ap (map fields_of_line) (first_line (c ∷ rest) (before_first ends_line rest) c line))
 
 are_lines_of : (n : ℕ) (rest : List ℕ) (c : ℕ) (y z : Bool) → (c == 34) ≡ false → (c == 13) ≡ y → (c == 10) ≡ z → has_quote (c ∷ rest) ≡ false
-    → AreLines (suc n) rest → AreLines n (behind ends_line rest) → AreLines (suc n) (c ∷ rest)
+    → AreLines (suc n) rest → AreLines n (after_first ends_line rest) → AreLines (suc n) (c ∷ rest)
 are_lines_of n rest c true z q cr lf h next after = let is : c ≡ 13 = eqb-true c 13 cr in rw is (lines_cr (suc n) rest next)
 are_lines_of n rest c false true q cr lf h next after = let is : c ≡ 10 = eqb-true c 10 lf in rw is (lines_lf (suc n) rest next)
 are_lines_of n rest c false false q cr lf h next after =
-    let same : behind ends_line (c ∷ rest) ≡ behind ends_line rest = rw (cr, lf) refl in
+    let same : after_first ends_line (c ∷ rest) ≡ after_first ends_line rest = rw (cr, lf) refl in
     lines_byte n rest c q cr lf h (subst (AreLines n) (sym same) after)
 
 are_lines : (k n : ℕ) (bytes : List ℕ) → length bytes ≤ k → length bytes ≤ n → has_quote bytes ≡ false → AreLines n bytes
@@ -149,7 +149,7 @@ are_lines (suc k) (suc n) (c ∷ rest) few enough h =
     let parts = no_quote c rest h in
     are_lines_of n rest c (c == 13) (c == 10) parts.first refl refl h
     (are_lines k (suc n) rest (omega (arith, few)) (omega (arith, enough)) parts.others)
-    (are_lines k n (behind ends_line rest) (omega (arith, few, shorter_behind ends_line rest)) (omega (arith, enough, shorter_behind ends_line rest)) (quotes_behind rest parts.others))
+    (are_lines k n (after_first ends_line rest) (omega (arith, few, shorter_behind ends_line rest)) (omega (arith, enough, shorter_behind ends_line rest)) (quotes_behind rest parts.others))
 
 -- bytes without a quotation mark have these records
 pub plain_is : (bytes : List ℕ) → has_quote bytes ≡ false → records default_config bytes ≡ plain_records bytes

@@ -33,13 +33,13 @@ abbrev pub plain_records : List ℕ → List (List (List ℕ))
 plain_records bytes = map fields_of_line (lines_of bytes)
 
 -- what comes before the first byte that passes the test, and what comes after it
-abbrev pub front : (ℕ → Bool) → List ℕ → List ℕ
-front p [] = []
-front p (c ∷ rest) = if p c then [] else c ∷ front p rest
+abbrev pub before_first : (ℕ → Bool) → List ℕ → List ℕ
+before_first p [] = []
+before_first p (c ∷ rest) = if p c then [] else c ∷ before_first p rest
 
-abbrev pub behind : (ℕ → Bool) → List ℕ → List ℕ
-behind p [] = []
-behind p (c ∷ rest) = if p c then rest else behind p rest
+abbrev pub after_first : (ℕ → Bool) → List ℕ → List ℕ
+after_first p [] = []
+after_first p (c ∷ rest) = if p c then rest else after_first p rest
 
 -- a comma or the end of a line ends a field
 abbrev pub ends_field : ℕ → Bool
@@ -47,10 +47,10 @@ ends_field c = is_comma c || ends_line c
 
 -- the first field of bytes, the fields of their first line, and what comes after that line
 abbrev pub first_field : List ℕ → List ℕ
-first_field bytes = front ends_field bytes
+first_field bytes = before_first ends_field bytes
 
 abbrev pub first_record : List ℕ → List (List ℕ)
-first_record bytes = fields_of_line (front ends_line bytes)
+first_record bytes = fields_of_line (before_first ends_line bytes)
 
 abbrev pub after_line : List ℕ → List ℕ
-after_line bytes = behind ends_line bytes
+after_line bytes = after_first ends_line bytes

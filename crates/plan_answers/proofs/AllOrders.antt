@@ -118,19 +118,19 @@ at_arranged Q (suc count) entries (x ∷ xs) h is =
 
 -- ---- lexicographic order
 
-abbrev pub InOrder : List (List ℕ) → Type 0
-InOrder [] = ⊤
-InOrder (x ∷ xs) = Each (IsNotAfter x) xs × InOrder xs
+abbrev pub AreSorted : List (List ℕ) → Type 0
+AreSorted [] = ⊤
+AreSorted (x ∷ xs) = Each (IsNotAfter x) xs × AreSorted xs
 
-in_order-append : (xs ys : List (List ℕ)) → InOrder xs → InOrder ys → Each (λ x. Each (IsNotAfter x) ys) xs → InOrder (xs ++ ys)
-in_order-append [] ys p q before = q
-in_order-append (x ∷ xs) ys p q before = (each_append (IsNotAfter x) xs ys p.0 before.0, in_order-append xs ys p.1 q before.1)
+are_sorted-append : (xs ys : List (List ℕ)) → AreSorted xs → AreSorted ys → Each (λ x. Each (IsNotAfter x) ys) xs → AreSorted (xs ++ ys)
+are_sorted-append [] ys p q before = q
+are_sorted-append (x ∷ xs) ys p q before = (each_append (IsNotAfter x) xs ys p.0 before.0, are_sorted-append xs ys p.1 q before.1)
 
-in_order-begun : (first : ℕ) (xs : List (List ℕ)) → InOrder xs → InOrder (map (λ rest. first ∷ rest) xs)
-in_order-begun first [] p = tt
-in_order-begun first (x ∷ xs) p = (
+are_sorted-begun : (first : ℕ) (xs : List (List ℕ)) → AreSorted xs → AreSorted (map (λ rest. first ∷ rest) xs)
+are_sorted-begun first [] p = tt
+are_sorted-begun first (x ∷ xs) p = (
   each_map (IsNotAfter (first ∷ x)) (λ rest. first ∷ rest) xs (each_so (IsNotAfter x) (λ rest. IsNotAfter (first ∷ x) (first ∷ rest)) (λ rest q. inr (refl, q)) xs p.0),
-  in_order-begun first xs p.1,
+  are_sorted-begun first xs p.1,
 )
 
 abbrev Ascend : List ℕ → Type 0
@@ -151,12 +151,12 @@ ascend-kept test (x ∷ xs) h = elim (cases_Bool (test x)) [
   | inr n ↦ rw n (ascend-kept test xs h.1)
 ]
 
-in_order-firsts : (behind : ℕ → List (List ℕ)) → ((first : ℕ) → InOrder (behind first)) → (firsts : List ℕ) → Ascend firsts → InOrder (flat_map (λ first. map (λ rest. first ∷ rest) (behind first)) firsts)
-in_order-firsts behind h [] a = tt
-in_order-firsts behind h (x ∷ xs) a =
-    in_order-append (map (λ rest. x ∷ rest) (behind x)) (flat_map (λ first. map (λ rest. first ∷ rest) (behind first)) xs)
-    (in_order-begun x (behind x) (h x))
-    (in_order-firsts behind h xs a.1)
+are_sorted-firsts : (behind : ℕ → List (List ℕ)) → ((first : ℕ) → AreSorted (behind first)) → (firsts : List ℕ) → Ascend firsts → AreSorted (flat_map (λ first. map (λ rest. first ∷ rest) (behind first)) firsts)
+are_sorted-firsts behind h [] a = tt
+are_sorted-firsts behind h (x ∷ xs) a =
+    are_sorted-append (map (λ rest. x ∷ rest) (behind x)) (flat_map (λ first. map (λ rest. first ∷ rest) (behind first)) xs)
+    (are_sorted-begun x (behind x) (h x))
+    (are_sorted-firsts behind h xs a.1)
     (each_map (λ order. Each (IsNotAfter order) (flat_map (λ first. map (λ rest. first ∷ rest) (behind first)) xs)) (λ rest. x ∷ rest) (behind x)
     (each_any (λ rest. Each (IsNotAfter (x ∷ rest)) (flat_map (λ first. map (λ rest. first ∷ rest) (behind first)) xs)) before (behind x)))
   where
@@ -167,11 +167,11 @@ in_order-firsts behind h (x ∷ xs) a =
         (λ y below. each_map (IsNotAfter (x ∷ rest)) (λ rest. y ∷ rest) (behind y) (each_any (λ other. IsNotAfter (x ∷ rest) (y ∷ other)) (λ other. inl below) (behind y)))
         xs a.0)
 
-in_order : (count : ℕ) (entries : List ℕ) → Ascend entries → InOrder (orders_of count entries)
-in_order zero entries h = (tt, tt)
-in_order (suc count) entries h =
-    in_order-firsts (λ first. orders_of count (others first entries))
-    (λ first. in_order count (others first entries) (ascend-kept (λ entry. not (eqb first entry)) entries h))
+are_sorted : (count : ℕ) (entries : List ℕ) → Ascend entries → AreSorted (orders_of count entries)
+are_sorted zero entries h = (tt, tt)
+are_sorted (suc count) entries h =
+    are_sorted-firsts (λ first. orders_of count (others first entries))
+    (λ first. are_sorted count (others first entries) (ascend-kept (λ entry. not (eqb first entry)) entries h))
     entries h
 
 -- ---- the entries 0 to n - 1
@@ -205,5 +205,5 @@ at_order Q n h order is =
     at_arranged Q n (range_with_len 0 n) order h
     (record { entries = each_so (λ x. x < n) (Contains (range_with_len 0 n)) (λ x below. in_range 0 n x (omega arith) (omega arith)) order is.entries; once = is.once; all = is.all })
 
-pub all_in_order : (n : ℕ) → InOrder (all_orders n)
-all_in_order n = in_order n (range_with_len 0 n) (range_ascends 0 n)
+pub all_in_order : (n : ℕ) → AreSorted (all_orders n)
+all_in_order n = are_sorted n (range_with_len 0 n) (range_ascends 0 n)

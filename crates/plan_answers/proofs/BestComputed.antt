@@ -7,7 +7,7 @@ use Rattle.plans.specs.LeftDeep.{IsOrder}
 use Rattle.order_search.specs.Orders.{IsBest, IsNotAfter, cost, total}
 use Rattle.order_search.proofs.SomeBest.{some_best}
 use Rattle.plan_answers.specs.BestOrder.{all_orders, best_order, is_no_worse}
-use Rattle.plan_answers.proofs.AllOrders.{InOrder, all_in_order, at_order, each_so, listed_are_orders}
+use Rattle.plan_answers.proofs.AllOrders.{AreSorted, all_in_order, at_order, each_so, listed_are_orders}
 
 -- ---- the first list that passes a test
 
@@ -29,7 +29,7 @@ first_behind P test x xs y fails first = record {
   before = ((λ passes. absurd (both_ways (test x) fails passes)), first.before);
 }
 
-first_of : (P : List ℕ → Type 0) (test : List ℕ → Bool) (xs : List (List ℕ)) → Each P xs → InOrder xs → (Each (λ x. test x ≡ false) xs → ⊥) → (x : List ℕ) × IsFirst P test xs x
+first_of : (P : List ℕ → Type 0) (test : List ℕ → Bool) (xs : List (List ℕ)) → Each P xs → AreSorted xs → (Each (λ x. test x ≡ false) xs → ⊥) → (x : List ℕ) × IsFirst P test xs x
 first_of P test [] each in_order some = absurd (some tt)
 first_of P test (x ∷ xs) each in_order some = elim (cases_Bool (test x)) [
   | inl passes ↦ (
@@ -55,15 +55,15 @@ each_true : (test : List ℕ → Bool) (xs : List (List ℕ)) → list_all test 
 each_true test [] h = tt
 each_true test (x ∷ xs) h = let parts : (test x ≡ true) × (list_all test xs ≡ true) = and_parts (test x) (list_all test xs) h in (parts.0, each_true test xs parts.1)
 
-told : (c d s t : ℕ) → (ltb c d || (eqb c d && leb s t)) ≡ true → (c < d) ⊎ ((c ≡ d) × (s ≤ t))
-told c d s t h = elim (or_cases (ltb c d) (eqb c d && leb s t) h) [
+from_test : (c d s t : ℕ) → (ltb c d || (eqb c d && leb s t)) ≡ true → (c < d) ⊎ ((c ≡ d) × (s ≤ t))
+from_test c d s t h = elim (or_cases (ltb c d) (eqb c d && leb s t) h) [
   | inl below ↦ inl (ltb-true c d below)
   | inr same ↦ (let parts : (eqb c d ≡ true) × (leb s t ≡ true) = and_parts (eqb c d) (leb s t) same in
       inr (eqb-true c d parts.0, leb-true s t parts.1))
 ]
 
-tells : (c d s t : ℕ) → c ≤ d → (d ≡ c → s ≤ t) → (ltb c d || (eqb c d && leb s t)) ≡ true
-tells c d s t cheaper smaller = elim (cases_lt c d) [
+to_test : (c d s t : ℕ) → c ≤ d → (d ≡ c → s ≤ t) → (ltb c d || (eqb c d && leb s t)) ≡ true
+to_test c d s t cheaper smaller = elim (cases_lt c d) [
   | inl below ↦ or_left (ltb c d) (eqb c d && leb s t) (lt-ltb c d below)
   | inr above ↦ or_right (ltb c d) (eqb c d && leb s t) (and_from (eqb c d) (leb s t) (eq-eqb c d (omega arith)) (le-leb s t (smaller (omega arith))))
 ]
@@ -78,7 +78,7 @@ module _ (bounds : List ℕ) (n : ℕ) where
   best_passes best is =
       all_true (λ other. is_no_worse bounds best other) (all_orders n)
       (each_so (IsOrder n) (λ other. is_no_worse bounds best other ≡ true)
-      (λ other order. tells (cost bounds best) (cost bounds other) (total bounds best) (total bounds other) (is.none_cheaper other order) (is.none_smaller other order))
+      (λ other order. to_test (cost bounds best) (cost bounds other) (total bounds best) (total bounds other) (is.none_cheaper other order) (is.none_smaller other order))
       (all_orders n) (listed_are_orders n))
 
   some_passes : Each (λ order. test order ≡ false) (all_orders n) → ⊥
@@ -90,7 +90,7 @@ module _ (bounds : List ℕ) (n : ℕ) where
   no_worse x passes = at_order (λ other. is_no_worse bounds x other ≡ true) n (each_true (λ other. is_no_worse bounds x other) (all_orders n) passes)
 
   by_cost : (x : List ℕ) → test x ≡ true → (other : List ℕ) → IsOrder n other → (cost bounds x < cost bounds other) ⊎ ((cost bounds x ≡ cost bounds other) × (total bounds x ≤ total bounds other))
-  by_cost x passes other order = told (cost bounds x) (cost bounds other) (total bounds x) (total bounds other) (no_worse x passes other order)
+  by_cost x passes other order = from_test (cost bounds x) (cost bounds other) (total bounds x) (total bounds other) (no_worse x passes other order)
 
   equal_passes : (x other : List ℕ) → test x ≡ true → cost bounds other ≡ cost bounds x → total bounds other ≡ total bounds x → test other ≡ true
   equal_passes x other passes costs totals =

@@ -1,5 +1,5 @@
 pub mod AllOrders
 pub mod BestComputed
 pub mod BoundsListed
-pub mod OneChoice
-pub mod SmallChoices
+pub mod OneAnswer
+pub mod SmallPlans

@@ -10,7 +10,7 @@ ghost use Rattle.plan_answers.specs.PlanAnswer.{plan_answer};
 
 /// The best orders and the answers for one, three and four entries. An order through a pair of entries whose bound is past 128 bits is avoided.
 /// The largest cost that a refusal can name is 2^128 - 2.
-pub fn small_choices()
+pub fn small_plans()
     ensures orders { all_orders 3 ≡
         (0 ∷ 1 ∷ 2 ∷ []) ∷ (0 ∷ 2 ∷ 1 ∷ []) ∷ (1 ∷ 0 ∷ 2 ∷ []) ∷ (1 ∷ 2 ∷ 0 ∷ []) ∷ (2 ∷ 0 ∷ 1 ∷ []) ∷ (2 ∷ 1 ∷ 0 ∷ []) ∷ [] }
     ensures best { best_order three_entries 3 ≡ 0 ∷ 2 ∷ 1 ∷ [] }
@@ -22,6 +22,6 @@ pub fn small_choices()
     ensures past_bits { plan_answer past_bits (2 ∷ 2 ∷ 2 ∷ []) 6 ≡ Err error.PastBits }
     ensures avoided { plan_answer one_pair_past_bits (2 ∷ 2 ∷ 2 ∷ []) 6
         ≡ Ok (plan_of (0 ∷ 2 ∷ 1 ∷ []) (2 ∷ 2 ∷ 2 ∷ []) (2 ∷ 5 ∷ 6 ∷ [])) }
-    ensures greatest_told { plan_answer (1 ∷ (2 ^ 128 - 2) ∷ []) (2 ∷ []) 6 ≡ Err (error.Budget (2 ^ 128 - 2)) }
+    ensures greatest_cost_refused { plan_answer (1 ∷ (2 ^ 128 - 2) ∷ []) (2 ∷ []) 6 ≡ Err (error.Budget (2 ^ 128 - 2)) }
     ensures through_the_top { bounds_of_sets 1 (λ set. 2 ^ 129) ≡ top_bound ∷ top_bound ∷ [] }
 {}

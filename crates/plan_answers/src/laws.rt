@@ -20,7 +20,7 @@ pub fn best_orders()
 /// What `choose` promises is true of `plan_answer`, and of no other answer but `NoMemory`. So at each exit of
 /// `choose`, a plan of a best order within the budget, with its levels, is the plan of `plan_answer`. A refusal
 /// that has a cause and isn't `NoMemory` is the refusal of `plan_answer`.
-pub fn choices()
+pub fn promised_answers()
     ensures allowed { (bounds scans : List ℕ) (budget : ℕ) → IsPromised bounds scans budget (plan_answer bounds scans budget) }
     ensures only { (bounds scans : List ℕ) (budget : ℕ) (answer : Result Plan PlanError) → budget ≤ most_budget
         → IsPromised bounds scans budget answer → (answer ≡ Err error.NoMemory) ⊎ (answer ≡ plan_answer bounds scans budget) }

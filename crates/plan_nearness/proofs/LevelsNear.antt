@@ -47,9 +47,9 @@ module _ (query : Query) (tables : Tables) (budget : ℕ) (plan : Plan) (none : 
   all_there : length plan.order ≡ length query.from
   all_there = (is_best query tables 1 budget plan made).is_order.all
 
-  pub usual_near : (k : ℕ) → k < length query.from
+  pub default_near : (k : ℕ) → k < length query.from
       → get_or plan.levels k 0 ≤ 2 ^ (k + 1) * uncompressed_bound query tables (take (k + 1) plan.order)
-  usual_near k low =
+  default_near k low =
       let exact : ℕ = uncompressed_bound query tables (take (k + 1) plan.order) in
       let near : 1 ^ length (take (k + 1) plan.order) * get_or plan.levels k 0 ≤ 2 ^ length (take (k + 1) plan.order) * exact =
       levels_near query tables 1 budget plan none few made k low in

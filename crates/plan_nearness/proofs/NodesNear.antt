@@ -14,9 +14,9 @@ use Rattle.query_types.specs.declared.types.Query.{Query}
 use Rattle.sql_meaning.specs.Tables.{Tables}
 use Rattle.join_steps.specs.Lists.{scans_of}
 use Rattle.planning.specs.Bounds.{scan_bounds_of, set_bounds_of}
-use Rattle.planning.proofs.NeverUnder.{told_bound}
+use Rattle.planning.proofs.NeverUnder.{scans_are_bounded}
 use Rattle.bushy_planning.proofs.InnerNodes.{join_bound, node_bound, node_order, node_set_fits}
-use Rattle.bushy_planning.proofs.Stages.{is_best, is_plan}
+use Rattle.bushy_planning.proofs.ChosenTrees.{is_best, is_plan}
 use Rattle.plan_nearness.specs.Nearness.{FiltersNoEntry, IsNear, NodesAreNear}
 use Rattle.plan_nearness.proofs.SetsNear.{set_near}
 
@@ -30,10 +30,10 @@ module _ (query : Query) (tables : Tables) (accuracy budget : ℕ) (plan : Bushy
   n = length query.from
 
   is : IsTreePlan (length query.from) plan
-  is = is_plan query tables (scans_of query tables) sets (scan_bounds_of query tables accuracy) budget plan (told_bound query tables accuracy) some few made
+  is = is_plan query tables (scans_of query tables) sets (scan_bounds_of query tables accuracy) budget plan (scans_are_bounded query tables accuracy) some few made
 
   best : IsBestPlan (set_bounds_of query tables accuracy) (length query.from) plan
-  best = is_best query tables (scans_of query tables) sets (scan_bounds_of query tables accuracy) budget plan (told_bound query tables accuracy) some few made
+  best = is_best query tables (scans_of query tables) sets (scan_bounds_of query tables accuracy) budget plan (scans_are_bounded query tables accuracy) some few made
 
   pub nodes_near : NodesAreNear query tables accuracy plan
   nodes_near k join here =

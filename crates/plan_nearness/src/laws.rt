@@ -1,6 +1,6 @@
 //! Laws of how near bounds of plans are to the bounds without compression. Each call does nothing: its contract is the law.
 ghost use Rattle.std.specs.Prelude.{◌≡◌, ◌*◌, ◌+◌, ◌<◌, ◌≤◌, ◌^◌, ℕ, Ok, length, slice_index, take};
-ghost use Rattle.limits.specs.Profile.{most_entries, usual_accuracy};
+ghost use Rattle.limits.specs.Profile.{most_entries, default_accuracy};
 ghost use Rattle.plans.specs.declared.left_deep.Plan.{Plan};
 ghost use Rattle.tree_plans.specs.declared.bushy.BushyPlan.{BushyPlan};
 ghost use Rattle.tree_answers.specs.TreeAnswer.{tree_answer};
@@ -18,10 +18,10 @@ pub fn levels_are_near()
 {}
 
 /// If no conjunct names one entry alone, at the usual accuracy the bound of a level of n entries is at most 2^n times the uncompressed one.
-pub fn usual_levels_are_near()
+pub fn default_levels_are_near()
     ensures { (query : Query) (tables : Tables) (budget : ℕ) (plan : Plan) (k : ℕ)
         → FiltersNoEntry query → length query.from ≤ most_entries
-        → planned query tables usual_accuracy budget ≡ Ok plan → k < length query.from
+        → planned query tables default_accuracy budget ≡ Ok plan → k < length query.from
         → slice_index plan.levels k ≤ 2 ^ (k + 1) * uncompressed_bound query tables (take (k + 1) plan.order) }
 {}
 

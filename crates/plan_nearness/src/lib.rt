@@ -7,4 +7,4 @@
 
 mod laws;
 
-pub use laws::{levels_are_near, nodes_are_near, usual_levels_are_near};
+pub use laws::{default_levels_are_near, levels_are_near, nodes_are_near};

@@ -8,7 +8,12 @@ use std::alloc::Global;
 use tree_plans::{BushyPlan, Join};
 
 // The best tree over these bounds, if each entry's scan has two rows.
-fn chosen(alloc: Global, count: usize, bounds: Vec<u128>, budget: u64) -> Result<BushyPlan, Fail> {
+fn best_tree(
+    alloc: Global,
+    count: usize,
+    bounds: Vec<u128>,
+    budget: u64,
+) -> Result<BushyPlan, Fail> {
     if count == 0 || count > MOST_ENTRIES || budget > MOST_ROWS as u64 {
         return Err(Fail::Unfit);
     }
@@ -22,7 +27,7 @@ fn chosen(alloc: Global, count: usize, bounds: Vec<u128>, budget: u64) -> Result
 
 // Entries, a bound for each of their sets, a budget, and the joins of the best tree with its cost.
 #[derive(Clone, Copy)]
-struct Choice<'a> {
+struct TreeCase<'a> {
     count: usize,
     bounds: &'a [u128],
     budget: u64,
@@ -35,14 +40,14 @@ fn are(joins: &[Join], wanted: &[(u8, u8, u64)]) -> bool {
         && joins.iter().zip(wanted).all(|(join, want)| (join.left, join.right, join.bound) == *want)
 }
 
-fn is_chosen(alloc: Global, choice: &Choice<'_>) -> Result<bool, Fail> {
+fn is_chosen(alloc: Global, choice: &TreeCase<'_>) -> Result<bool, Fail> {
     let bounds = Vec::from_slice(alloc, choice.bounds)?;
-    let plan = chosen(alloc, choice.count, bounds, choice.budget)?;
+    let plan = best_tree(alloc, choice.count, bounds, choice.budget)?;
     Ok(plan.cost == choice.cost && are(plan.joins.as_slice(), choice.joins))
 }
 
-const CHOICES: [Choice<'static>; 5] = [
-    Choice {
+const TREE_CASES: [TreeCase<'static>; 5] = [
+    TreeCase {
         count: 2,
         bounds: &[1, 6, 5, 12],
         budget: 12,
@@ -50,14 +55,14 @@ const CHOICES: [Choice<'static>; 5] = [
         cost: 12,
     },
     // three trees are equally good; the first has entry 0 on the left
-    Choice {
+    TreeCase {
         count: 3,
         bounds: &[1, 3, 3, 5, 3, 5, 5, 9],
         budget: 9,
         joins: &[(1, 2, 5), (0, 3, 9)],
         cost: 9,
     },
-    Choice {
+    TreeCase {
         count: 1,
         bounds: &[9, 7],
         budget: 7,
@@ -69,7 +74,7 @@ const CHOICES: [Choice<'static>; 5] = [
     // Each of P, Q, R and S has X = 7 three times and X = 8 once. C has a row with 8 in all four joined columns. It has four more rows, one for each
     // of these columns: in its column the row has a value that P, Q, R and S don't have, and 7 in the others. So the join of all five entries has one
     // row, but the join of C with three others has 28. Each left-deep order passes a set of four entries, and the tree (((C, P), Q), (R, S)) doesn't.
-    Choice {
+    TreeCase {
         count: 5,
         bounds: &[
             1, 5, 4, 10, 4, 10, 16, 19, 4, 10, 16, 19, 16, 19, 64, 28, 4, 10, 16, 19, 16, 19, 64,
@@ -81,7 +86,7 @@ const CHOICES: [Choice<'static>; 5] = [
     },
     // All least trees have cost 3 and sum 8. Of the splits of the entries 1 to 4, the one with entry 1 alone on the left comes first. Its
     // right side costs 3, and with the entries 1 and 2 on the left the right side would cost 2.
-    Choice {
+    TreeCase {
         count: 5,
         bounds: &[
             1, 1, 3, 3, 1, 1, 2, 3, 2, 3, 3, 2, 2, 1, 2, 3, 2, 3, 3, 2, 1, 3, 3, 1, 2, 1, 2, 3, 3,
@@ -95,7 +100,7 @@ const CHOICES: [Choice<'static>; 5] = [
 
 #[test]
 fn the_best_trees(rt: HostRuntime) -> Result<(), Fail> {
-    for choice in &CHOICES {
+    for choice in &TREE_CASES {
         assert!(rt; is_chosen(rt.alloc(), choice)?);
     }
     Ok(())
@@ -110,7 +115,7 @@ fn refusal(
 ) -> Result<Option<PlanError>, Fail> {
     let mut bounds = Vec::from_slice(alloc, front)?;
     bounds.push(last)?;
-    match chosen(alloc, count, bounds, 6) {
+    match best_tree(alloc, count, bounds, 6) {
         Err(Fail::NoTree(error)) => Ok(Some(error)),
         _ => Ok(None),
     }

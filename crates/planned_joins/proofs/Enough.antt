@@ -12,7 +12,7 @@ use Rattle.query_types.specs.declared.types.Query.{Query}
 use Rattle.row_buf.specs.Rows.{Rows}
 use Rattle.sql_meaning.specs.Databases.{IsDatabaseOf}
 use Rattle.sql_meaning.specs.Tables.{row_counts, tables_of}
-use Rattle.join_steps.specs.Lists.{list_sizes, rows_listed, IsOrderOf}
+use Rattle.join_steps.specs.Lists.{list_sizes, listed_row_count, IsOrderOf}
 use Rattle.join_steps.specs.Plans.{IsPlanOf}
 use Rattle.join_steps.proofs.WholeScans.{size_at, size_count}
 use Rattle.reserve_plan.specs.declared.reserved.Reserved.{Reserved}
@@ -56,7 +56,7 @@ module _ (query : Query) (db : Database) (plan : Plan) (shape : IsPlan (length q
 -- ---- a plan of a query over lists
 
 module _ (query : Query) (lists : List (List ℕ)) (bounds : List ℕ) (count : length bounds ≡ length query.from)
-    (fit : (entry : ℕ) → entry < length query.from → rows_listed lists entry ≤ get_or bounds entry 0) where
+    (fit : (entry : ℕ) → entry < length query.from → listed_row_count lists entry ≤ get_or bounds entry 0) where
   lists_fit : AllZip ◌≤◌ (list_sizes query lists) bounds
   lists_fit = zip_each (list_sizes query lists) bounds (size_count query lists ∙ sym count)
       (λ entry low.

@@ -10,7 +10,7 @@ use Rattle.filtered_lists.specs.Standing.{CountsStandFor, ListsFall, ListsStandF
 use Rattle.query_bounds.specs.Statistics.{StandFor}
 use Rattle.table_stats.specs.Statistics.{column_lists, entry_counts}
 use Rattle.table_stats.proofs.Dominating.{lists_stand}
-use Rattle.table_stats.proofs.Summing.{counts_stand, lists_fall, lists_sum}
+use Rattle.table_stats.proofs.Summing.{counts_stand, lists_descend, lists_sum}
 use Rattle.table_stats.proofs.ValueNumbers.{have_keys}
 use Rattle.gathered_stats.specs.Statistics.{statistics_of}
 
@@ -31,7 +31,7 @@ facts tables accuracy =
       lists = λ entry column. lists_stand tables accuracy entry column (keys.0 entry column) (keys.1 entry column);
       counts = counts_stand tables;
       sums = lists_sum tables accuracy;
-      falls = lists_fall tables accuracy;
+      falls = lists_descend tables accuracy;
     }
 
 pub each_column : (Q : ℕ → ℕ → Type 0) (es : List Edge) → ((entry column : ℕ) → Q entry column) → EachNamedColumn Q es

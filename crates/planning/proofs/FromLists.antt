@@ -13,7 +13,7 @@ use Rattle.order_search.specs.Orders.{IsBest}
 use Rattle.order_search.specs.declared.refusal.PlanError.{PlanError}
 use Rattle.plan_answers.specs.PlanAnswer.{plan_answer}
 use Rattle.plan_answers.specs.Promised.{IsPromised}
-use Rattle.plan_answers.proofs.OneChoice.{allowed}
+use Rattle.plan_answers.proofs.OneAnswer.{allowed}
 use Rattle.query_types.specs.declared.types.Query.{Query}
 use Rattle.join_graph.specs.Conjuncts.{equalities_of}
 use Rattle.join_graph.specs.Kept.{joins_within}
@@ -23,7 +23,7 @@ use Rattle.tree_bounds.specs.Tables.{Dominates, RowsFit, SetDominates}
 use Rattle.tree_bounds.specs.TreeBounds.{EntryBounds, HasList}
 use Rattle.bound_fold.proofs.TestedSets.{each_in_set, each_named}
 use Rattle.set_bounds.specs.AllSets.{bounds_in_sets, in_every_set}
-use Rattle.set_bounds.proofs.Telling.{told_in}
+use Rattle.set_bounds.proofs.SetBySet.{told_in}
 use Rattle.sql_meaning.specs.Answers.{conjuncts_of}
 use Rattle.sql_meaning.specs.Levels.{level_over}
 use Rattle.sql_meaning.specs.Tables.{Tables}
@@ -83,8 +83,8 @@ module _ (query : Query) (tables : Tables) (lists : List (List ℕ)) (sets scans
 
 -- ---- the bounds of sets, from bounds of entries that stand for lists
 
-capped : (rows bound told : ℕ) → rows ≤ bound → told ≡ min bound top_bound → (rows ≤ told) ⊎ (told ≡ top_bound)
-capped rows bound told fits is = elim (cases_lt bound top_bound) [
+capped : (rows bound capped_bound : ℕ) → rows ≤ bound → capped_bound ≡ min bound top_bound → (rows ≤ capped_bound) ⊎ (capped_bound ≡ top_bound)
+capped rows bound capped_bound fits is = elim (cases_lt bound top_bound) [
   | inl below ↦ inl (omega arith)
   | inr above ↦ inr (omega arith)
 ]

@@ -6,7 +6,7 @@ use Rattle.std.proofs.Math.Path.{fun_ext}
 use Rattle.std.proofs.lemmas.Bool.{lt-ltb}
 use Rattle.std.proofs.lemmas.List.{ext_get_or}
 use Rattle.std.proofs.lemmas.List.FromFn.{get_or-map-range_with_len, length-map-range_with_len}
-use Rattle.degree_sequences.specs.Falling.{IsFalling}
+use Rattle.degree_sequences.specs.Descending.{IsDescending}
 use Rattle.berge_tree.specs.declared.edges.Edge.{Edge}
 use Rattle.berge_tree.specs.declared.edges.Place.{Place}
 use Rattle.csv_tables.specs.declared.types.Database.{Database}
@@ -15,25 +15,25 @@ use Rattle.join_graph.specs.Conjuncts.{equalities_of}
 use Rattle.tree_bounds.specs.TreeBounds.{EntryBounds, HasList}
 use Rattle.bound_fold.specs.declared.lists.EntryLists.{EntryLists}
 use Rattle.bound_fold.specs.Lists.{bounds_of, list_of}
-use Rattle.bound_fold.specs.Sets.{HaveLists, SetIsListed}
-use Rattle.set_bounds.specs.AllSets.{bound_told, bounds_in_sets, bounds_of_sets, first_entries}
+use Rattle.bound_fold.specs.Sets.{HaveLists, SetHasBounds}
+use Rattle.set_bounds.specs.AllSets.{bound_in_128_bits, bounds_in_sets, bounds_of_sets, first_entries}
 use Rattle.set_bounds.proofs.Listing.{first_listed}
 use Rattle.sql_meaning.specs.Tables.{tables_of}
 use Rattle.join_steps.specs.Lists.{list_sizes}
 use Rattle.predicate_bounds.specs.declared.columns.QueryStats.{QueryStats}
 use Rattle.query_bounds.specs.Bounds.{HoldsKnown, entry_bounds, is_among, joined_columns, scan_bounds, scan_list, scan_rows, set_bounds}
-use Rattle.query_bounds.specs.Statistics.{StatsAreTold, Statistics, Tells}
+use Rattle.query_bounds.specs.Statistics.{TellsSomeStatistics, Statistics, Tells}
 use Rattle.query_bounds.proofs.Sets as told
-use Rattle.planning.specs.declared.known.Known.{Known}
+use Rattle.planning.specs.declared.known.QueryBounds.{QueryBounds}
 use Rattle.planning.specs.HasBounds.{HasBounds}
-use Rattle.planning.specs.Known.{IsKnown}
+use Rattle.planning.specs.ListsSoFar.{IsKnown}
 use Rattle.planning.specs.ListedBounds.{entry_bounds_over, set_bounds_over}
 use Rattle.planning.specs.Standing.{JoinedHaveLists}
 use Rattle.planning.proofs.Knowing as listed
 use Rattle.planning.proofs.ScanBounds.{named_all}
 
-pub is_told : {query : Query} {stats : QueryStats} {known : Statistics} → Tells query stats known → StatsAreTold query stats
-is_told {known = known} tells = record { known = known; tells = tells }
+pub tells_some_statistics : {query : Query} {stats : QueryStats} {known : Statistics} → Tells query stats known → TellsSomeStatistics query stats
+tells_some_statistics {known = known} tells = record { known = known; tells = tells }
 
 -- ---- bounds from statistics
 
@@ -43,22 +43,22 @@ same_below f g n same =
     let within : k < n = omega (arith, low, length-map-range_with_len f 0 n) in
     get_or-map-range_with_len f 0 n k k 0 within (omega arith) ∙ same k within ∙ sym (get_or-map-range_with_len g 0 n k k 0 within (omega arith)))
 
-pub told_scans : (query : Query) (stats : Statistics) (lists : EntryLists) → bounds_of lists ≡ entry_bounds query stats
+pub scans_from_statistics : (query : Query) (stats : Statistics) (lists : EntryLists) → bounds_of lists ≡ entry_bounds query stats
     → map (bounds_of lists).rows (range_with_len 0 (length query.from)) ≡ scan_bounds query stats
-told_scans query stats lists are =
+scans_from_statistics query stats lists are =
     ap (λ (b : EntryBounds). map b.rows (range_with_len 0 (length query.from))) are
     ∙ same_below (entry_bounds query stats).rows (scan_rows query stats) (length query.from)
     (λ k low. ap (λ (t : Bool). if t then scan_rows query stats k else 0) (lt-ltb k (length query.from) low))
 
 list_there : (lists : EntryLists) (entry column : ℕ) (list : List ℕ) → list_of lists entry column ≡ Some list → HasList (bounds_of lists) entry column
 list_there lists entry column list is = record {
-  falls = subst (λ (o : Option (List ℕ)). IsFalling (unwrap_or o [])) (sym is) (lists.sums entry column list is).0;
+  falls = subst (λ (o : Option (List ℕ)). IsDescending (unwrap_or o [])) (sym is) (lists.sums entry column list is).0;
   total = ap (λ (o : Option (List ℕ)). sum (unwrap_or o [])) is ∙ sym (ap (λ (o : Option ℕ). unwrap_or o 0) (lists.sums entry column list is).1);
 }
 
-pub told_lists : (query : Query) (stats : Statistics) (lists : EntryLists) → HoldsKnown query stats (length query.from) (joined_columns query) lists
+pub lists_from_statistics : (query : Query) (stats : Statistics) (lists : EntryLists) → HoldsKnown query stats (length query.from) (joined_columns query) lists
     → bounds_of lists ≡ entry_bounds query stats → JoinedHaveLists query (entry_bounds query stats)
-told_lists query stats lists held are =
+lists_from_statistics query stats lists held are =
     named_all (λ entry column. entry < length query.from → HasList (entry_bounds query stats) entry column) (equalities_of query) (λ k d low.
     let among = told.both_among (equalities_of query) k d low in
     let l : Place = (get_or (equalities_of query) k d).left in
@@ -77,12 +77,12 @@ module _ (query : Query) (es : List Edge) (split : es ≡ equalities_of query) (
   pub one_each : length scans ≡ length query.from
   one_each = ap (λ (s : List ℕ). length s) are ∙ length-map-range_with_len (bounds_of lists).rows 0 count ∙ all
 
-  pub each_listed : SetIsListed lists (equalities_of query) (first_entries (length query.from)) → (subset : ℕ) → subset < 2 ^ length scans → SetIsListed lists es subset
-  each_listed whole subset fits =
-      subst (λ (s : List Edge). SetIsListed lists s subset) (sym split)
+  pub each_has_bounds : SetHasBounds lists (equalities_of query) (first_entries (length query.from)) → (subset : ℕ) → subset < 2 ^ length scans → SetHasBounds lists es subset
+  each_has_bounds whole subset fits =
+      subst (λ (s : List Edge). SetHasBounds lists s subset) (sym split)
       (first_listed lists (equalities_of query) (length query.from) subset whole (subst (λ (n : ℕ). subset < 2 ^ n) one_each fits))
 
-  bounds_give : (b : EntryBounds) (each : List ℕ) (known : Known) → known.sets ≡ bounds_of_sets (bounds_of lists) es (length scans) → known.scans ≡ scans
+  bounds_give : (b : EntryBounds) (each : List ℕ) (known : QueryBounds) → known.sets ≡ bounds_of_sets (bounds_of lists) es (length scans) → known.scans ≡ scans
       → bounds_of_sets (bounds_of lists) (equalities_of query) (length query.from) ≡ bounds_of_sets b (equalities_of query) (length query.from)
       → map (bounds_of lists).rows (range_with_len 0 (length query.from)) ≡ each → HasBounds (bounds_of_sets b (equalities_of query) (length query.from)) each known
   bounds_give b each known made kept same like = record {
@@ -92,13 +92,13 @@ module _ (query : Query) (es : List Edge) (split : es ≡ equalities_of query) (
     scans = kept ∙ are ∙ ap (λ (n : ℕ). map (bounds_of lists).rows (range_with_len 0 n)) all ∙ like;
   }
 
-  pub told_give : (stats : Statistics) (known : Known) → known.sets ≡ bounds_of_sets (bounds_of lists) es (length scans) → known.scans ≡ scans
+  pub statistics_give_bounds : (stats : Statistics) (known : QueryBounds) → known.sets ≡ bounds_of_sets (bounds_of lists) es (length scans) → known.scans ≡ scans
       → bounds_of lists ≡ entry_bounds query stats → HasBounds (set_bounds query stats) (scan_bounds query stats) known
-  told_give stats known made kept same =
+  statistics_give_bounds stats known made kept same =
       bounds_give (entry_bounds query stats) (scan_bounds query stats) known made kept
-      (ap (λ (b : EntryBounds). bounds_of_sets b (equalities_of query) (length query.from)) same) (told_scans query stats lists same)
+      (ap (λ (b : EntryBounds). bounds_of_sets b (equalities_of query) (length query.from)) same) (scans_from_statistics query stats lists same)
 
-  pub rows_give : (db : Database) (rows : List (List ℕ)) (accuracy : ℕ) (known : Known) → known.sets ≡ bounds_of_sets (bounds_of lists) es (length scans) → known.scans ≡ scans
+  pub rows_give : (db : Database) (rows : List (List ℕ)) (accuracy : ℕ) (known : QueryBounds) → known.sets ≡ bounds_of_sets (bounds_of lists) es (length scans) → known.scans ≡ scans
       → IsKnown db rows accuracy lists → All (HaveLists lists) (equalities_of query)
       → HasBounds (set_bounds_over query (tables_of db) rows accuracy) (list_sizes query rows) known
   rows_give db rows accuracy known made kept is joined =
@@ -108,7 +108,7 @@ module _ (query : Query) (es : List Edge) (split : es ≡ equalities_of query) (
 
 -- ---- the number of bounds
 
-module _ (query : Query) (bounds : ℕ → EntryBounds) (scans : List ℕ) (known : Known) (gives : HasBounds (bounds_in_sets bounds (equalities_of query) (length query.from)) scans known)
+module _ (query : Query) (bounds : ℕ → EntryBounds) (scans : List ℕ) (known : QueryBounds) (gives : HasBounds (bounds_in_sets bounds (equalities_of query) (length query.from)) scans known)
     (one_scan : length scans ≡ length query.from) where
   pub known_long : length known.scans ≡ length query.from
   known_long = ap (λ (s : List ℕ). length s) gives.scans ∙ one_scan
@@ -116,5 +116,5 @@ module _ (query : Query) (bounds : ℕ → EntryBounds) (scans : List ℕ) (know
   pub known_many : length known.sets ≡ 2 ^ length known.scans
   known_many =
       ap (λ (s : List ℕ). length s) gives.sets
-      ∙ length-map-range_with_len (λ subset. bound_told (bounds subset) (equalities_of query) subset) 0 (2 ^ length query.from)
+      ∙ length-map-range_with_len (λ subset. bound_in_128_bits (bounds subset) (equalities_of query) subset) 0 (2 ^ length query.from)
       ∙ ap (λ (k : ℕ). 2 ^ k) (sym known_long)

@@ -9,15 +9,15 @@ use Rattle.csv_tables.specs.declared.types.Database.{Database}
 use Rattle.tree_bounds.specs.TreeBounds.{EntryBounds}
 use Rattle.bound_fold.specs.declared.lists.EntryLists.{EntryLists}
 use Rattle.bound_fold.specs.Lists.{bounds_of, list_of, rows_of}
-use Rattle.bound_fold.specs.Sets.{HaveLists, SetIsListed}
+use Rattle.bound_fold.specs.Sets.{HaveLists, SetHasBounds}
 use Rattle.bound_fold.proofs.TestedSets.{each_in_set, each_named}
 use Rattle.set_bounds.specs.AllSets.{bounds_of_sets}
 use Rattle.query_bounds.proofs.Holding.{is_some_of, no_more}
 use Rattle.sql_meaning.specs.Tables.{tables_of}
-use Rattle.join_steps.specs.Lists.{rows_listed}
+use Rattle.join_steps.specs.Lists.{listed_row_count}
 use Rattle.entry_sets.proofs.Listing.{entry_below}
 use Rattle.planning.specs.ListedBounds.{entry_bounds_over}
-use Rattle.planning.specs.Known.{HasRows, IsKnown}
+use Rattle.planning.specs.ListsSoFar.{HasRows, IsKnown}
 use Rattle.planning.proofs.SameBounds.{sets_same}
 
 some_there : {X : Type 0} (o : Option X) → IsSome o → (x : X) × (o ≡ Some x)
@@ -32,11 +32,11 @@ one_some o x y e f = cc
 pub rows_none : (lists : List (List ℕ)) (known : EntryLists) → ((entry : ℕ) → rows_of known entry ≡ None) → HasRows lists 0 known
 rows_none lists known none = record { there = λ entry low. absurd (omega arith); past = λ entry past. none entry }
 
-pub rows_more : (lists : List (List ℕ)) (i rows : ℕ) (old new : EntryLists) → HasRows lists i old → rows ≡ rows_listed lists i → rows_of new i ≡ Some rows
+pub rows_more : (lists : List (List ℕ)) (i rows : ℕ) (old new : EntryLists) → HasRows lists i old → rows ≡ listed_row_count lists i → rows_of new i ≡ Some rows
     → ((other : ℕ) → other ≢ i → rows_of new other ≡ rows_of old other) → HasRows lists (i + 1) new
 rows_more lists i rows old new before is set others = record {
   there = λ entry low. elim (cases_eq entry i) [
-    | inl same ↦ ap (rows_of new) same ∙ set ∙ ap Some (is ∙ ap (rows_listed lists) (sym same))
+    | inl same ↦ ap (rows_of new) same ∙ set ∙ ap Some (is ∙ ap (listed_row_count lists) (sym same))
     | inr apart ↦ others entry apart ∙ before.there entry (omega arith)
   ];
   past = λ entry past. others entry (λ same. absurd (omega arith)) ∙ before.past entry (omega arith);
@@ -87,7 +87,7 @@ module _ (db : Database) (lists : List (List ℕ)) (accuracy : ℕ) where
   -- ---- the bounds that all row bounds and lists make together
 
   module _ (known : EntryLists) (is : IsKnown db lists accuracy known) where
-    pub row_bound_is : (entry : ℕ) → unwrap_or (rows_of known entry) 0 ≡ rows_listed lists entry
+    pub row_bound_is : (entry : ℕ) → unwrap_or (rows_of known entry) 0 ≡ listed_row_count lists entry
     row_bound_is entry = elim (cases_lt entry (length lists)) [
       | inl low ↦ ap (λ (o : Option ℕ). unwrap_or o 0) (is.rows.there entry low)
       | inr past ↦ ap (λ (o : Option ℕ). unwrap_or o 0) (is.rows.past entry past) ∙ ap (λ (l : List ℕ). length l) (sym (get_or_past lists entry [] past))
@@ -105,10 +105,10 @@ module _ (db : Database) (lists : List (List ℕ)) (accuracy : ℕ) where
         list_told (get_or es k d).right.entry (get_or es k d).right.column (joined k d low).1,
       )) n
 
-      pub all_listed : (n : ℕ) → n ≡ length lists → SetIsListed known es (2 ^ n - 1)
-      all_listed n all = record {
+      pub all_have_bounds : (n : ℕ) → n ≡ length lists → SetHasBounds known es (2 ^ n - 1)
+      all_have_bounds n all = record {
         rows = each_in_set (λ k. IsSome (rows_of known k)) (2 ^ n - 1) (λ k low has.
             let below : k < n = entry_below n (2 ^ n - 1) k (omega (arith, pow_pos n)) has in
-            is_some_of (rows_of known k) (rows_listed lists k) (is.rows.there k (omega (arith, below, all))));
+            is_some_of (rows_of known k) (listed_row_count lists k) (is.rows.there k (omega (arith, below, all))));
         columns = each_named (λ entry column. IsSome (list_of known entry column)) (2 ^ n - 1) es (λ k d low joins. joined k d low);
       }

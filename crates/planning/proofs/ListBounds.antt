@@ -6,8 +6,8 @@ use Rattle.std.proofs.lemmas.List.FromFn.{length-range_with_len}
 use Rattle.csv_tables.specs.Values.{Value}
 use Rattle.degree_sequences.specs.Degrees.{degree_list}
 use Rattle.degree_sequences.specs.Domination.{DominatesKeys}
-use Rattle.degree_sequences.proofs.CompressedLists.{IsFalling-compressed, compressed_dominates, sum-compressed}
-use Rattle.degree_sequences.proofs.DegreeLists.{IsFalling-degree_list, sum-degree_list}
+use Rattle.degree_sequences.proofs.CompressedLists.{IsDescending-compressed, compressed_dominates, sum-compressed}
+use Rattle.degree_sequences.proofs.DegreeLists.{IsDescending-degree_list, sum-degree_list}
 use Rattle.query_types.specs.declared.types.Query.{Query}
 use Rattle.join_graph.specs.Conjuncts.{equalities_of}
 use Rattle.tree_bounds.specs.TreeBounds.{EntryBounds, HasList}
@@ -17,11 +17,11 @@ use Rattle.level_bounds.specs.Keys.{AreKeys, Keys}
 use Rattle.level_bounds.proofs.Lists.{map_both}
 use Rattle.relabelling_laws.specs.Relabelling.{AreEqualAlike}
 use Rattle.relabelling_laws.proofs.Dominated.{rows_dominated}
-use Rattle.table_stats.specs.Columns.{first_row, numbered}
-use Rattle.table_stats.specs.Keys.{TellsValues}
+use Rattle.table_stats.specs.Columns.{first_row, as_first_rows}
+use Rattle.table_stats.specs.Keys.{SeparatesValues}
 use Rattle.table_stats.proofs.EqualValues.{equal_itself, is_equal}
 use Rattle.table_stats.proofs.FirstRows.{equal_firsts, first_there, same_first}
-use Rattle.join_steps.specs.Lists.{list_at, list_sizes, rows_listed, AreOfScans}
+use Rattle.join_steps.specs.Lists.{list_at, list_sizes, listed_row_count, AreOfScans}
 use Rattle.join_steps.proofs.WholeScans.{size_at, size_count}
 use Rattle.reduced_scans.proofs.ByRounds.{filter_shrinks}
 use Rattle.reduced_scans.proofs.FamilyRows.{family_list, row_low, stays}
@@ -37,13 +37,13 @@ module _ (tables : Tables) (lists : List (List ℕ)) (accuracy : ℕ) where
   has_list entry column =
       let values : List Value = listed_values tables lists entry column in
       record {
-        falls = IsFalling-compressed accuracy (degree_list (numbered values)) (IsFalling-degree_list (numbered values));
+        falls = IsDescending-compressed accuracy (degree_list (as_first_rows values)) (IsDescending-degree_list (as_first_rows values));
         total =
-            sum-compressed accuracy (degree_list (numbered values)) (IsFalling-degree_list (numbered values)) ∙ sum-degree_list (numbered values)
+            sum-compressed accuracy (degree_list (as_first_rows values)) (IsDescending-degree_list (as_first_rows values)) ∙ sum-degree_list (as_first_rows values)
             ∙ length-map values (first_row values) ∙ length-map (list_at lists entry) (value_in_row tables entry column);
       }
 
-  module _ (query : Query) (are : AreOfScans query tables lists) (key : Keys) (tells : (entry column : ℕ) → TellsValues tables entry column (key entry column)) where
+  module _ (query : Query) (are : AreOfScans query tables lists) (key : Keys) (tells : (entry column : ℕ) → SeparatesValues tables entry column (key entry column)) where
     module _ (entry column : ℕ) where
       abbrev rows : List ℕ
       rows = list_at lists entry
@@ -72,7 +72,7 @@ module _ (tables : Tables) (lists : List (List ℕ)) (accuracy : ℕ) where
       dominates : DominatesKeys (bounds.list entry column) (map (key entry column) rows)
       dominates =
           (rows_dominated (bounds.list entry column) number_at (key entry column) rows alike).0
-          (subst (DominatesKeys (bounds.list entry column)) (map_both (first_row values) value_at number_at (λ row. refl) rows) (compressed_dominates accuracy (numbered values)))
+          (subst (DominatesKeys (bounds.list entry column)) (map_both (first_row values) value_at number_at (λ row. refl) rows) (compressed_dominates accuracy (as_first_rows values)))
 
     pub lists_stand : AreKeys tables key (equalities_of query) → EntriesStand query tables lists key (entry_bounds_over tables lists accuracy)
     lists_stand keys = record {
@@ -82,7 +82,7 @@ module _ (tables : Tables) (lists : List (List ℕ)) (accuracy : ℕ) where
           (λ entry column low. record { has = has_list entry column; dominates = dominates entry column });
     }
 
-rows_few : (query : Query) (tables : Tables) (lists : List (List ℕ)) → AreOfScans query tables lists → (entry : ℕ) → rows_listed lists entry ≤ row_counts tables entry
+rows_few : (query : Query) (tables : Tables) (lists : List (List ℕ)) → AreOfScans query tables lists → (entry : ℕ) → listed_row_count lists entry ≤ row_counts tables entry
 rows_few query tables lists are entry =
     omega (
       arith,

@@ -19,11 +19,11 @@ use Rattle.sql_meaning.specs.Levels.{all_pass, level_over, row_in}
 use Rattle.sql_meaning.specs.Tables.{Tables, row_counts}
 use Rattle.level_bounds.specs.Keys.{JoinsEqualKeys, Keys}
 use Rattle.level_bounds.specs.Orders.{IsOrderOfSet}
-use Rattle.level_bounds.specs.Scans.{equalities_in, query_level, query_scan}
+use Rattle.level_bounds.specs.Scans.{equalities_in, level_over_entries, query_scan}
 use Rattle.level_bounds.proofs.Choosing.{entry_in}
 use Rattle.level_bounds.proofs.Lists.{all_from, each_of, from_filter, from_map, in_map, in_true, is_in}
 use Rattle.level_bounds.proofs.NeverUnder.{differ, satisfies}
-use Rattle.level_bounds.proofs.Reordering.{stands}
+use Rattle.level_bounds.proofs.Reordering.{is_level_choice}
 use Rattle.join_steps.specs.Lists.{list_at, AreOfScans}
 use Rattle.reduced_scans.proofs.Bridge.{has, has-contains}
 use Rattle.reduced_scans.proofs.FamilyRows.{family_level}
@@ -63,24 +63,24 @@ module _ (query : Query) (tables : Tables) (lists : List (List ℕ)) (are : AreO
   listed entry row = has row (list_at lists entry)
 
   abbrev kept : List (List ℕ)
-  kept = filter (all_pass listed order) (query_level query tables order)
+  kept = filter (all_pass listed order) (level_over_entries query tables order)
 
   abbrev set : List ℕ
   set = entries_of_set subset
 
   row_listed : (choice : List ℕ) → Contains kept choice → (entry : ℕ) → Contains set entry → Contains (list_at lists entry) (row_in order choice entry)
   row_listed choice k entry here =
-      let parts : Contains (query_level query tables order) choice × (all_pass listed order choice ≡ true) = from_filter (all_pass listed order) (query_level query tables order) choice k in
+      let parts : Contains (level_over_entries query tables order) choice × (all_pass listed order choice ≡ true) = from_filter (all_pass listed order) (level_over_entries query tables order) choice k in
       has-contains (row_in order choice entry) (list_at lists entry)
-      (pass_at listed (row_counts tables) order choice (stands (conjuncts_of query tables) (row_counts tables) order choice parts.0).chosen parts.1 entry
+      (pass_at listed (row_counts tables) order choice (is_level_choice (conjuncts_of query tables) (row_counts tables) order choice parts.0).chosen parts.1 entry
       (in_true order entry (entry_in set order o entry here)))
 
   kept_differ : ChoicesAreDifferent set (map (row_in order) kept)
   kept_differ =
       let apart : (ℕ → ℕ) → (ℕ → ℕ) → Type 0 = λ x y. map x set ≢ map y set in
       pairs_mapped apart (row_in order) kept
-      (AllPairs-filter (λ a b. apart (row_in order a) (row_in order b)) (all_pass listed order) (query_level query tables order)
-      (pairs_unmapped apart (row_in order) (query_level query tables order) (differ query tables subset order o)))
+      (AllPairs-filter (λ a b. apart (row_in order a) (row_in order b)) (all_pass listed order) (level_over_entries query tables order)
+      (pairs_unmapped apart (row_in order) (level_over_entries query tables order) (differ query tables subset order o)))
 
   module _ (key : Keys) (joins : AllByRecursion (JoinsEqualKeys tables key) (equalities_in query subset)) where
     kept_satisfies : AllByRecursion (SatisfiesScanned (list_at lists) key set (equalities_in query subset)) (map (row_in order) kept)
@@ -93,9 +93,9 @@ module _ (query : Query) (tables : Tables) (lists : List (List ℕ)) (are : AreO
         one choice k = record {
           rows = all_from (λ entry. Contains (list_at lists entry) (row_in order choice entry)) set (row_listed choice k);
           equal =
-              (each_of (SatisfiesScanned (query_scan query tables) key set (equalities_in query subset)) (map (row_in order) (query_level query tables order))
+              (each_of (SatisfiesScanned (query_scan query tables) key set (equalities_in query subset)) (map (row_in order) (level_over_entries query tables order))
               (satisfies query tables key subset order joins o) (row_in order choice)
-              (in_map (row_in order) (query_level query tables order) choice (from_filter (all_pass listed order) (query_level query tables order) choice k).0)).equal;
+              (in_map (row_in order) (level_over_entries query tables order) choice (from_filter (all_pass listed order) (level_over_entries query tables order) choice k).0)).equal;
         }
 
     pub level_within : (b : EntryBounds) → SetHasLists b (equalities_of query) subset → SetDominates b (scanned (list_at lists) key) (equalities_of query) subset

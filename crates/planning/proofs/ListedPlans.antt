@@ -7,7 +7,7 @@ use Rattle.entry_sets.specs.Sets.{entries_of_set}
 use Rattle.plans.specs.declared.left_deep.Plan.{Plan}
 use Rattle.order_search.specs.Orders.{IsBest}
 use Rattle.order_search.specs.declared.refusal.PlanError.TheVariants as error
-use Rattle.plan_answers.proofs.OneChoice.{never_memory}
+use Rattle.plan_answers.proofs.OneAnswer.{never_memory}
 use Rattle.query_types.specs.declared.types.Query.{Query}
 use Rattle.join_graph.specs.Conjuncts.{equalities_of}
 use Rattle.tree_bounds.specs.TreeBounds.{EntryBounds}
@@ -15,7 +15,7 @@ use Rattle.set_bounds.specs.AllSets.{in_every_set}
 use Rattle.sql_meaning.specs.Answers.{conjuncts_of, entries_of}
 use Rattle.sql_meaning.specs.Levels.{level_over}
 use Rattle.sql_meaning.specs.Tables.{Tables}
-use Rattle.join_steps.specs.Lists.{list_at, list_sizes, rows_listed, AreOfScans}
+use Rattle.join_steps.specs.Lists.{list_at, list_sizes, listed_row_count, AreOfScans}
 use Rattle.join_steps.specs.Plans.{IsPlanOf}
 use Rattle.join_steps.proofs.WholeScans.{size_at, size_count}
 use Rattle.level_bounds.specs.Orders.{IsOrderOfSet}
@@ -64,7 +64,7 @@ module _ (query : Query) (tables : Tables) (lists : List (List ℕ)) (accuracy :
       pub whole_order : take (length query.from) plan.order ≡ plan.order
       whole_order = take_all (length query.from) plan.order (omega (arith, is_best_over.is_order.all))
 
-      pub scan_is : (entry : ℕ) → entry < length query.from → get_or plan.scans entry 0 ≡ rows_listed lists entry
+      pub scan_is : (entry : ℕ) → entry < length query.from → get_or plan.scans entry 0 ≡ listed_row_count lists entry
       unfolding planned_over
       scan_is entry low =
           scan_kept sets scans (length query.from) budget (size_count query lists) plan made entry ∙ size_at query lists entry low

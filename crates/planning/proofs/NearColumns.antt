@@ -14,9 +14,9 @@ use Rattle.sql_meaning.specs.Tables.{Tables, row_counts}
 use Rattle.filtered_lists.specs.Filters.{own_conjuncts}
 use Rattle.filtered_lists.specs.Standing.{value_in_row}
 use Rattle.level_bounds.specs.Whole.{keys_of, uncompressed}
-use Rattle.query_bounds.specs.Statistics.{AreWhole}
+use Rattle.query_bounds.specs.Statistics.{AreOfWholeTables}
 use Rattle.query_bounds.proofs.Near.{near_whole}
-use Rattle.table_stats.specs.Columns.{column_values, first_row, numbered}
+use Rattle.table_stats.specs.Columns.{column_values, first_row, as_first_rows}
 use Rattle.table_stats.specs.Statistics.{column_lists}
 use Rattle.gathered_stats.specs.Statistics.{statistics_of}
 use Rattle.planning.specs.Bounds.{set_bounds_of, whole_columns}
@@ -25,17 +25,17 @@ use Rattle.planning.proofs.Facts.{each_column}
 module _ (tables : Tables) where
   -- a row's number in its column serves as its key
   abbrev row_number : ℕ → ℕ → ℕ → ℕ
-  row_number entry column row = get_or (numbered (column_values tables entry column)) row 0
+  row_number entry column row = get_or (as_first_rows (column_values tables entry column)) row 0
 
-  length-numbered : (entry column : ℕ) → length (numbered (column_values tables entry column)) ≡ row_counts tables entry
-  length-numbered entry column =
+  length-as_first_rows : (entry column : ℕ) → length (as_first_rows (column_values tables entry column)) ≡ row_counts tables entry
+  length-as_first_rows entry column =
       length-map (column_values tables entry column) (first_row (column_values tables entry column))
       ∙ length-map-range_with_len (value_in_row tables entry column) 0 (row_counts tables entry)
 
-  keys_are_numbers : (entry column : ℕ) → numbered (column_values tables entry column) ≡ keys_of tables row_number entry column
+  keys_are_numbers : (entry column : ℕ) → as_first_rows (column_values tables entry column) ≡ keys_of tables row_number entry column
   keys_are_numbers entry column =
-      fill_by_all (row_number entry column) (numbered (column_values tables entry column)) (row_counts tables entry) 0
-      (length-numbered entry column) (λ k low. refl)
+      fill_by_all (row_number entry column) (as_first_rows (column_values tables entry column)) (row_counts tables entry) 0
+      (length-as_first_rows entry column) (λ k low. refl)
 
   whole_columns_are : uncompressed tables row_number ≡ whole_columns tables
   whole_columns_are =
@@ -45,7 +45,7 @@ module _ (tables : Tables) where
       made list = record { rows = row_counts tables; list = list }
 
   are_whole : (query : Query) (accuracy : ℕ) → ((entry : ℕ) → own_conjuncts entry query.conjuncts ≡ [])
-      → AreWhole query (statistics_of tables accuracy) tables row_number accuracy
+      → AreOfWholeTables query (statistics_of tables accuracy) tables row_number accuracy
   are_whole query accuracy none = record {
     unfiltered = none;
     counts = λ entry low. refl;

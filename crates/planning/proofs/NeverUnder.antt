@@ -17,7 +17,7 @@ use Rattle.join_steps.specs.Lists.{list_at, scans_of}
 use Rattle.join_steps.proofs.WholeScans.{levels_of_scans, scan_at, whole_of_scans}
 use Rattle.level_bounds.specs.Keys.{Keys}
 use Rattle.level_bounds.specs.Orders.{IsOrderOfSet}
-use Rattle.level_bounds.specs.Scans.{query_level, query_scan}
+use Rattle.level_bounds.specs.Scans.{level_over_entries, query_scan}
 use Rattle.level_bounds.proofs.Lists.{all_from, each_of}
 use Rattle.filtered_lists.specs.Standing.{ListsFall, SumTo}
 use Rattle.filtered_lists.proofs.Lists.{rows_within}
@@ -74,25 +74,25 @@ module _ (query : Query) (tables : Tables) (accuracy : ℕ) where
       let f : Facts tables accuracy = facts tables accuracy in
       scan_fits query (statistics_of tables accuracy) tables f.key (stand_for query tables accuracy f) entry low
 
-  pub told_bound : BoundLists query tables (scans_of query tables) (scan_bounds_of query tables accuracy)
-  told_bound =
+  pub scans_are_bounded : BoundLists query tables (scans_of query tables) (scan_bounds_of query tables accuracy)
+  scans_are_bounded =
       let f : Facts tables accuracy = facts tables accuracy in
       scans_bound query (statistics_of tables accuracy) tables f.key (stand_for query tables accuracy f) (λ entry low. omega arith)
 
   pub scan_small : (entry : ℕ) → entry < length query.from
       → get_or (scan_bounds_of query tables accuracy) entry 0 ≤ row_counts tables entry
-  scan_small = told_bound.within
+  scan_small = scans_are_bounded.within
 
-  pub told_levels : BoundLevels query tables (scans_of query tables) (set_bounds_of query tables accuracy)
-  told_levels =
+  pub levels_are_bounded : BoundLevels query tables (scans_of query tables) (set_bounds_of query tables accuracy)
+  levels_are_bounded =
       let key : Keys = (facts tables accuracy).key in
       levels_bound query tables (scans_of query tables) key (in_every_set bounds)
       (stand_in_every_set query tables (scans_of query tables) key bounds (whole_of_scans query tables) entries_stand)
 
   level_is : (subset : ℕ) (order : List ℕ) → subset < 2 ^ length query.from → IsOrderOfSet (entries_of_set subset) order
-      → level_over (conjuncts_of query tables) (list_at (scans_of query tables)) order ≡ query_level query tables order
+      → level_over (conjuncts_of query tables) (list_at (scans_of query tables)) order ≡ level_over_entries query tables order
   level_is subset order fits o =
-      subst (λ (s : List ℕ). level_over (conjuncts_of query tables) (list_at (scans_of query tables)) s ≡ query_level query tables s)
+      subst (λ (s : List ℕ). level_over (conjuncts_of query tables) (list_at (scans_of query tables)) s ≡ level_over_entries query tables s)
       (take_all (length order) order (omega arith))
       (levels_of_scans query tables order (length order) (all_from (λ entry. entry < length query.from) order low) o.once)
     where
@@ -100,9 +100,9 @@ module _ (query : Query) (tables : Tables) (accuracy : ℕ) where
       low entry here = entry_below (length query.from) subset entry fits (set_entries subset entry (each_of (Contains (entries_of_set subset)) order o.within entry here))
 
   pub level_never_under : (subset : ℕ) (order : List ℕ) → subset < 2 ^ length query.from → IsOrderOfSet (entries_of_set subset) order
-      → (length (query_level query tables order) ≤ get_or (set_bounds_of query tables accuracy) subset 0)
+      → (length (level_over_entries query tables order) ≤ get_or (set_bounds_of query tables accuracy) subset 0)
       ⊎ (get_or (set_bounds_of query tables accuracy) subset 0 ≡ top_bound)
   level_never_under subset order fits o =
       subst (λ (level : List (List ℕ)). (length level ≤ get_or (set_bounds_of query tables accuracy) subset 0) ⊎ (get_or (set_bounds_of query tables accuracy) subset 0 ≡ top_bound))
       (level_is subset order fits o)
-      (told_levels subset order fits o)
+      (levels_are_bounded subset order fits o)

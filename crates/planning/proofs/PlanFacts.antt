@@ -6,17 +6,17 @@ use Rattle.plans.specs.declared.left_deep.Plan.{Plan}
 use Rattle.plans.specs.LeftDeep.{IsPlan}
 use Rattle.order_search.specs.Orders.{IsBest}
 use Rattle.order_search.specs.declared.refusal.PlanError.TheVariants as error
-use Rattle.plan_answers.proofs.OneChoice.{never_memory}
+use Rattle.plan_answers.proofs.OneAnswer.{never_memory}
 use Rattle.query_types.specs.declared.types.Query.{Query}
 use Rattle.sql_meaning.specs.Tables.{Tables, row_counts}
 use Rattle.join_steps.specs.Lists.{scans_of}
 use Rattle.join_steps.specs.Plans.{IsPlanOf}
 use Rattle.join_steps.proofs.WholeScans.{levels_of_scans}
-use Rattle.level_bounds.specs.Scans.{query_level, query_scan}
+use Rattle.level_bounds.specs.Scans.{level_over_entries, query_scan}
 use Rattle.planning.specs.Bounds.{scan_bounds_of, set_bounds_of}
 use Rattle.planning.specs.Plans.{planned}
 use Rattle.planning.proofs.FromLists.{is_best_from, is_plan_from, level_within_budget, plan_over_lists, scan_kept}
-use Rattle.planning.proofs.NeverUnder.{one_scan_each, scan_never_under, scan_small, told_bound, told_levels}
+use Rattle.planning.proofs.NeverUnder.{one_scan_each, scan_never_under, scan_small, scans_are_bounded, levels_are_bounded}
 
 module _ (query : Query) (tables : Tables) (accuracy budget : ℕ) where
   abbrev sets : List ℕ
@@ -59,10 +59,10 @@ module _ (query : Query) (tables : Tables) (accuracy budget : ℕ) where
     pub is_plan_of : length query.from ≤ most_entries → budget ≤ most_budget → IsPlanOf query tables (scans_of query tables) plan
     unfolding planned
     is_plan_of few small =
-        plan_over_lists query tables (scans_of query tables) sets scans (told_levels query tables accuracy) (told_bound query tables accuracy) budget plan few small made
+        plan_over_lists query tables (scans_of query tables) sets scans (levels_are_bounded query tables accuracy) (scans_are_bounded query tables accuracy) budget plan few small made
 
     pub level_fits : (k : ℕ) → length query.from ≤ most_entries → budget ≤ most_budget → k < length query.from
-        → length (query_level query tables (take (k + 1) plan.order)) ≤ get_or plan.levels k 0
+        → length (level_over_entries query tables (take (k + 1) plan.order)) ≤ get_or plan.levels k 0
     level_fits k few small low =
         subst (λ (level : List (List ℕ)). length level ≤ get_or plan.levels k 0)
         (levels_of_scans query tables plan.order (k + 1) is_best.is_order.entries is_best.is_order.once)

@@ -17,7 +17,7 @@ use Rattle.tree_bounds.specs.SetBounds.{bound_of_turn, least_to, trees_of}
 use Rattle.tree_bounds.proofs.Agreeing.{named_in_turn, tree_columns}
 use Rattle.tree_bounds.proofs.Turns.{trees_there}
 use Rattle.bound_fold.proofs.TestedSets.{each_named}
-use Rattle.set_bounds.specs.AllSets.{bound_told, bounds_of_sets}
+use Rattle.set_bounds.specs.AllSets.{bound_in_128_bits, bounds_of_sets}
 
 module _ (b c : EntryBounds) (rows : (entry : ℕ) → b.rows entry ≡ c.rows entry) where
   abbrev IsSame : ℕ → ℕ → Type 0
@@ -67,7 +67,7 @@ module _ (b c : EntryBounds) (rows : (entry : ℕ) → b.rows entry ≡ c.rows e
         trees_same kept (trees_of kept subset)
         (tree_columns IsSame kept (named_in_turn IsSame subset turn es (each_named IsSame subset es (λ k d low joins. named k d low)))) all.trees
 
-    set_same : (subset : ℕ) → bound_told b es subset ≡ bound_told c es subset
+    set_same : (subset : ℕ) → bound_in_128_bits b es subset ≡ bound_in_128_bits c es subset
     set_same subset = ap saturated (least_same (bound_of_turn b es subset) (bound_of_turn c es subset) (turn_same subset) (turn_count subset es - 1))
 
     pub sets_same : (n : ℕ) → bounds_of_sets b es n ≡ bounds_of_sets c es n

@@ -23,7 +23,7 @@ use Rattle.sql_meaning.specs.Databases.{AreTables, IsColumnOf}
 use Rattle.sql_meaning.specs.Tables.{cells_of, tables_of}
 use Rattle.join_steps.specs.Columns.{column_cells}
 use Rattle.join_steps.proofs.Cells.{cell_of_row, value_by_cell}
-use Rattle.table_stats.specs.Columns.{first_row, numbered}
+use Rattle.table_stats.specs.Columns.{first_row, as_first_rows}
 use Rattle.table_stats.proofs.EqualValues.{equal_itself, is_equal}
 use Rattle.table_stats.proofs.FirstRows.{equal_firsts, first_there}
 
@@ -73,13 +73,13 @@ module _ (db : Database) (are : AreTables db) (differ : HaveDifferentCharacters 
   alike : AreEqualAlike cell_of number_of rows
   alike i j has_i has_j = (numbers_equal i j has_i has_j, cells_equal i j has_i has_j)
 
-  numbers_are : numbered values ≡ map number_of rows
+  numbers_are : as_first_rows values ≡ map number_of rows
   numbers_are = map_both (first_row values) value_of number_of (λ row. refl) rows
 
-  pub degrees_are : degree_list (map cell_of rows) ≡ degree_list (numbered values)
+  pub degrees_are : degree_list (map cell_of rows) ≡ degree_list (as_first_rows values)
   degrees_are = same_degrees cell_of number_of rows alike ∙ ap degree_list (sym numbers_are)
 
   pub list_is : (accuracy : ℕ) (keys degrees list : List ℕ) → keys ≡ map cell_of rows → degrees ≡ degree_list keys → list ≡ compressed accuracy degrees
-      → list ≡ compressed_degrees accuracy (numbered values)
+      → list ≡ compressed_degrees accuracy (as_first_rows values)
   list_is accuracy keys degrees list keys_are degrees_are_of list_is_of =
       list_is_of ∙ ap (compressed accuracy) (degrees_are_of ∙ ap degree_list keys_are ∙ degrees_are)

@@ -3,7 +3,7 @@ use Rattle.std.proofs.Common.{◌≡◌, ℕ, suc, ◌<◌, ◌≤◌, Bool, tru
 use Rattle.std.specs.Prelude.{if◌then◌else◌}
 use Rattle.std.proofs.lemmas.Bool.{lt-ltb}
 use Rattle.degree_sequences.specs.Domination.{DominatesKeys}
-use Rattle.degree_sequences.specs.Falling.{IsFalling}
+use Rattle.degree_sequences.specs.Descending.{IsDescending}
 use Rattle.berge_tree.specs.declared.edges.Edge.{Edge}
 use Rattle.berge_tree.specs.declared.edges.Place.{Place}
 use Rattle.query_types.specs.declared.types.Query.{Query}
@@ -44,7 +44,7 @@ module _ (query : Query) (known : Statistics) where
       → entry < length query.from
       → is_among (joined_columns query) entry column ≡ true → HasList (entry_bounds query known) entry column
   has_list entry column falls sums low among = record {
-    falls = subst IsFalling (sym (joined_list entry column among)) (filtered_falls (known.lists entry column) entry query.conjuncts falls);
+    falls = subst IsDescending (sym (joined_list entry column among)) (filtered_falls (known.lists entry column) entry query.conjuncts falls);
     total =
         ap (λ (s : List ℕ). sum s) (joined_list entry column among)
         ∙ sum-filtered (known.lists entry column) (known.counts entry) entry query.conjuncts sums ∙ sym (rows_at entry low);

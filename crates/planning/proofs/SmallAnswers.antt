@@ -18,7 +18,7 @@ use Rattle.join_graph.specs.Examples.{triangle as sides}
 use Rattle.join_graph.proofs.Comparing.{equality_two}
 use Rattle.sql_meaning.specs.Answers.{answer, entries_of, query_holds, selected}
 use Rattle.sql_meaning.specs.Choices.{choices_of}
-use Rattle.sql_meaning.specs.Conditions.{comparison_says}
+use Rattle.sql_meaning.specs.Conditions.{comparison_holds}
 use Rattle.sql_meaning.specs.Examples.{triangle}
 use Rattle.sql_meaning.specs.Tables.{Tables, row_counts}
 use Rattle.sql_meaning.proofs.ConditionFacts.{holds_compare}
@@ -42,7 +42,7 @@ answer_by query tables test is =
     (choices_of (row_counts tables) (entries_of query)))
 
 abbrev equal : Tables → (ℕ → ℕ) → Operand → Operand → Bool
-equal tables row_of left right = comparison_says tables row_of op.Eq left right
+equal tables row_of left right = comparison_holds tables row_of op.Eq left right
 
 -- ---- R and S
 

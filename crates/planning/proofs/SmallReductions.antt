@@ -17,7 +17,7 @@ use Rattle.join_graph.specs.Conjuncts.{column_operand, equalities_of}
 use Rattle.join_graph.specs.Examples.{triangle as sides}
 use Rattle.join_graph.proofs.Comparing.{equality_literal, equality_two}
 use Rattle.sql_meaning.specs.Answers.{conjuncts_of}
-use Rattle.sql_meaning.specs.Conditions.{comparison_says}
+use Rattle.sql_meaning.specs.Conditions.{comparison_holds}
 use Rattle.sql_meaning.specs.Examples.{triangle}
 use Rattle.sql_meaning.specs.Levels.{names_just}
 use Rattle.sql_meaning.specs.Tables.{Tables}
@@ -31,7 +31,7 @@ use Rattle.planning.specs.Examples.{small_tables}
 use Rattle.reduced_scans.specs.Rounds.{after_rounds, reduced_of, rows_in_all}
 use Rattle.join_steps.specs.Lists.{scans_of, list_sizes}
 use Rattle.planning.specs.ListedBounds.{set_bounds_over}
-use Rattle.planning.specs.ReducedExamples.{along, by_region, chain_tables, empty_first, never_true, region_tables, with_another}
+use Rattle.planning.specs.ReducedExamples.{chain_query, by_region, chain_tables, empty_first, never_true, region_tables, with_another}
 use Rattle.planning.specs.Plans.{planned_over, planned_reduced}
 
 -- ---- reduced scans and plans, from computed equalities, scans and bounds
@@ -83,7 +83,7 @@ region_joined : equalities_of by_region ≡ edge_of 0 1 1 0 ∷ []
 region_joined = rw (equality_two 0 1 1 0 (λ e. absurd (omega (arith, e))), equality_literal (column_operand 1 1) (operand.Int (pos 3)) refl) refl
 
 in_region : (row : ℕ) → list_all (λ c. not (names_just c 1) || c.holds (λ e. row)) (conjuncts_of by_region region_tables)
-    ≡ (comparison_says region_tables (λ e. row) op.Eq (column_operand 1 1) (operand.Int (pos 3)) && true)
+    ≡ (comparison_holds region_tables (λ e. row) op.Eq (column_operand 1 1) (operand.Int (pos 3)) && true)
 in_region row =
     rw (
       entries_compare op.Eq (column_operand 0 1) (column_operand 1 0),
@@ -97,7 +97,7 @@ o_scan = rw (entries_compare op.Eq (column_operand 0 1) (column_operand 1 0), en
 c_scan : query_scan by_region region_tables 1 ≡ 0 ∷ []
 c_scan =
     filter_agree (λ row. list_all (λ c. not (names_just c 1) || c.holds (λ e. row)) (conjuncts_of by_region region_tables))
-    (λ row. comparison_says region_tables (λ e. row) op.Eq (column_operand 1 1) (operand.Int (pos 3)) && true) in_region (range_with_len 0 4)
+    (λ row. comparison_holds region_tables (λ e. row) op.Eq (column_operand 1 1) (operand.Int (pos 3)) && true) in_region (range_with_len 0 4)
 
 region_scans : scans_of by_region region_tables ≡ (0 ∷ 1 ∷ 2 ∷ 3 ∷ 4 ∷ []) ∷ (0 ∷ []) ∷ []
 region_scans =
@@ -128,20 +128,20 @@ region_plan =
 abbrev chain : List Edge
 chain = edge_of 0 0 1 0 ∷ edge_of 1 1 2 0 ∷ []
 
-chain_joined : equalities_of along ≡ chain
+chain_joined : equalities_of chain_query ≡ chain
 chain_joined = rw (equality_two 0 0 1 0 (λ e. absurd (omega (arith, e))), equality_two 1 1 2 0 (λ e. absurd (omega (arith, e)))) refl
 
-chain_scans : scans_of along chain_tables ≡ (0 ∷ 1 ∷ 2 ∷ []) ∷ (0 ∷ 1 ∷ 2 ∷ []) ∷ (0 ∷ []) ∷ []
+chain_scans : scans_of chain_query chain_tables ≡ (0 ∷ 1 ∷ 2 ∷ []) ∷ (0 ∷ 1 ∷ 2 ∷ []) ∷ (0 ∷ []) ∷ []
 chain_scans =
     rw (entries_compare op.Eq (column_operand 0 0) (column_operand 1 0), entries_compare op.Eq (column_operand 1 1) (column_operand 2 0)) refl
 
 chain_rounds : after_rounds chain (are_equal_at chain_tables) 8 ((0 ∷ 1 ∷ 2 ∷ []) ∷ (0 ∷ 1 ∷ 2 ∷ []) ∷ (0 ∷ []) ∷ []) ≡ (0 ∷ []) ∷ (0 ∷ []) ∷ (0 ∷ []) ∷ []
 chain_rounds = refl
 
-pub chain_reduced : reduced_of along chain_tables ≡ (0 ∷ []) ∷ (0 ∷ []) ∷ (0 ∷ []) ∷ []
-chain_reduced = reduced_from along chain_tables chain ((0 ∷ 1 ∷ 2 ∷ []) ∷ (0 ∷ 1 ∷ 2 ∷ []) ∷ (0 ∷ []) ∷ []) chain_joined chain_scans ∙ chain_rounds
+pub chain_reduced : reduced_of chain_query chain_tables ≡ (0 ∷ []) ∷ (0 ∷ []) ∷ (0 ∷ []) ∷ []
+chain_reduced = reduced_from chain_query chain_tables chain ((0 ∷ 1 ∷ 2 ∷ []) ∷ (0 ∷ 1 ∷ 2 ∷ []) ∷ (0 ∷ []) ∷ []) chain_joined chain_scans ∙ chain_rounds
 
-chain_sets : set_bounds_over along chain_tables ((0 ∷ []) ∷ (0 ∷ []) ∷ (0 ∷ []) ∷ []) 1 ≡ 1 ∷ 1 ∷ 1 ∷ 1 ∷ 1 ∷ 1 ∷ 1 ∷ 1 ∷ []
+chain_sets : set_bounds_over chain_query chain_tables ((0 ∷ []) ∷ (0 ∷ []) ∷ (0 ∷ []) ∷ []) 1 ≡ 1 ∷ 1 ∷ 1 ∷ 1 ∷ 1 ∷ 1 ∷ 1 ∷ 1 ∷ []
 unfolding entries_of_set
 chain_sets = rw (equality_two 0 0 1 0 (λ e. absurd (omega (arith, e))), equality_two 1 1 2 0 (λ e. absurd (omega (arith, e)))) refl
 
@@ -149,9 +149,9 @@ chain_chosen : plan_answer (1 ∷ 1 ∷ 1 ∷ 1 ∷ 1 ∷ 1 ∷ 1 ∷ 1 ∷ []) 
 unfolding plan_answer best_order
 chain_chosen = refl
 
-pub chain_plan : planned_reduced along chain_tables 1 1 ≡ Ok (plan_of (0 ∷ 1 ∷ 2 ∷ []) (1 ∷ 1 ∷ 1 ∷ []) (1 ∷ 1 ∷ 1 ∷ []))
+pub chain_plan : planned_reduced chain_query chain_tables 1 1 ≡ Ok (plan_of (0 ∷ 1 ∷ 2 ∷ []) (1 ∷ 1 ∷ 1 ∷ []) (1 ∷ 1 ∷ 1 ∷ []))
 chain_plan =
-    plan_computed along chain_tables ((0 ∷ []) ∷ (0 ∷ []) ∷ (0 ∷ []) ∷ []) 1 1 (1 ∷ 1 ∷ 1 ∷ 1 ∷ 1 ∷ 1 ∷ 1 ∷ 1 ∷ []) (1 ∷ 1 ∷ 1 ∷ []) chain_reduced chain_sets refl
+    plan_computed chain_query chain_tables ((0 ∷ []) ∷ (0 ∷ []) ∷ (0 ∷ []) ∷ []) 1 1 (1 ∷ 1 ∷ 1 ∷ 1 ∷ 1 ∷ 1 ∷ 1 ∷ 1 ∷ []) (1 ∷ 1 ∷ 1 ∷ []) chain_reduced chain_sets refl
     ∙ chain_chosen
 
 -- ---- the triangle

@@ -13,9 +13,9 @@ use Rattle.join_graph.specs.Conjuncts.{equalities_of, equality_of}
 use Rattle.join_graph.specs.Kept.{AreConnected}
 use Rattle.sql_meaning.specs.Answers.{conjunct_of, conjuncts_of}
 use Rattle.sql_meaning.specs.Conditions.{cond_holds}
-use Rattle.sql_meaning.specs.Levels.{AsksOnly, Conjunct, names_just}
+use Rattle.sql_meaning.specs.Levels.{DependsOnNamed, Conjunct, names_just}
 use Rattle.sql_meaning.specs.Tables.{Tables, row_counts}
-use Rattle.sql_meaning.proofs.AskFacts.{asks_only}
+use Rattle.sql_meaning.proofs.AskFacts.{depend_on_named}
 use Rattle.sql_meaning.proofs.LevelFacts.{is_in, names_at}
 use Rattle.level_bounds.specs.Keys.{are_equal_at}
 use Rattle.level_bounds.specs.Scans.{query_scan}
@@ -72,7 +72,7 @@ module _ (query : Query) (tables : Tables) (family : List (List ℕ)) (are : Are
         let in_conjuncts : Contains (conjuncts_of query tables) c = in_map (conjunct_of tables) query.conjuncts cond there in
         let just : names_just c other ≡ true = and_from (are_within (entries_named cond) (other ∷ [])) (not (are_within (entries_named cond) [])) alone (not_none (entries_named cond) other named) in
         let row_scanned : Contains (query_scan query tables other) (e.row_of other) = scanned other (e.row_of other) (e.listed other same) in
-        each_of AsksOnly (conjuncts_of query tables) (asks_only tables query.conjuncts) c in_conjuncts e.row_of (λ x. e.row_of other) (λ x here. ap e.row_of (only x here))
+        each_of DependsOnNamed (conjuncts_of query tables) (depend_on_named tables query.conjuncts) c in_conjuncts e.row_of (λ x. e.row_of other) (λ x here. ap e.row_of (only x here))
         ∙ implied (names_just c other) (c.holds (λ x. e.row_of other))
         (all_true (λ (k : Conjunct). not (names_just k other) || k.holds (λ x. e.row_of other)) (conjuncts_of query tables)
         (from_filter (λ n. list_all (λ (k : Conjunct). not (names_just k other) || k.holds (λ x. n)) (conjuncts_of query tables)) (range_with_len 0 (row_counts tables other)) (e.row_of other) row_scanned).1

@@ -5,7 +5,7 @@ use Rattle.query_types.specs.declared.types.Query.{Query}
 use Rattle.tree_bounds.specs.TreeBounds.{EntryBounds}
 use Rattle.sql_meaning.specs.Tables.{Tables, row_counts}
 use Rattle.query_bounds.specs.Bounds.{scan_bounds, set_bounds}
-use Rattle.table_stats.specs.Columns.{column_values, numbered}
+use Rattle.table_stats.specs.Columns.{column_values, as_first_rows}
 use Rattle.gathered_stats.specs.Statistics.{statistics_of}
 
 -- the bound of each entry's scan, in FROM order, at an accuracy
@@ -20,5 +20,5 @@ set_bounds_of query tables accuracy = set_bounds query (statistics_of tables acc
 abbrev pub whole_columns : Tables → EntryBounds
 whole_columns tables = record {
   rows = row_counts tables;
-  list = λ entry column. degree_list (numbered (column_values tables entry column));
+  list = λ entry column. degree_list (as_first_rows (column_values tables entry column));
 }

@@ -3,7 +3,7 @@ pub mod ListedBounds
 pub mod Standing
 pub mod Plans
 pub mod HasBounds
-pub mod Known
+pub mod ListsSoFar
 pub mod TakingPart
 pub mod Examples
 pub mod ReducedExamples

@@ -8,8 +8,8 @@ use Rattle.tree_bounds.specs.TreeBounds.{EntryBounds}
 use Rattle.set_bounds.specs.AllSets.{bounds_of_sets}
 use Rattle.sql_meaning.specs.Tables.{Tables}
 use Rattle.filtered_lists.specs.Standing.{value_in_row}
-use Rattle.table_stats.specs.Columns.{numbered}
-use Rattle.join_steps.specs.Lists.{list_at, rows_listed}
+use Rattle.table_stats.specs.Columns.{as_first_rows}
+use Rattle.join_steps.specs.Lists.{list_at, listed_row_count}
 
 -- the values of a column in the rows of its entry's list
 abbrev pub listed_values : Tables → List (List ℕ) → ℕ → ℕ → List Value
@@ -18,8 +18,8 @@ listed_values tables lists entry column = map (value_in_row tables entry column)
 -- for each entry the number of its listed rows, and for each column its degree sequence over these rows, compressed at an accuracy
 abbrev pub entry_bounds_over : Tables → List (List ℕ) → ℕ → EntryBounds
 entry_bounds_over tables lists accuracy = record {
-  rows = rows_listed lists;
-  list = λ entry column. compressed_degrees accuracy (numbered (listed_values tables lists entry column));
+  rows = listed_row_count lists;
+  list = λ entry column. compressed_degrees accuracy (as_first_rows (listed_values tables lists entry column));
 }
 
 -- the bound of each set of entries. A set's index is the number whose bits are the set

@@ -38,8 +38,8 @@ region_tables entry =
     else (1 ∷ 3 ∷ []) ∷ (2 ∷ 4 ∷ []) ∷ (3 ∷ 4 ∷ []) ∷ (4 ∷ 4 ∷ []) ∷ [])
 
 -- SELECT A.X FROM A, B, D WHERE A.X = B.X AND B.Y = D.Y
-abbrev pub along : Query
-along = record {
+abbrev pub chain_query : Query
+chain_query = record {
   from = source 0 65 ∷ source 1 66 ∷ source 2 68 ∷ [];
   conjuncts = columns_equal 0 0 1 0 ∷ columns_equal 1 1 2 0 ∷ [];
   select = record { column = record { from = 0; column = 0 }; name = 88 ∷ [] } ∷ [];

@@ -13,7 +13,7 @@ use Rattle.tree_bounds.specs.TreeBounds.{EntryBounds, HasList}
 use Rattle.sql_meaning.specs.Answers.{conjuncts_of}
 use Rattle.sql_meaning.specs.Levels.{level_over}
 use Rattle.sql_meaning.specs.Tables.{Tables, row_counts}
-use Rattle.join_steps.specs.Lists.{list_at, rows_listed, AreOfScans}
+use Rattle.join_steps.specs.Lists.{list_at, listed_row_count, AreOfScans}
 use Rattle.level_bounds.specs.Keys.{AreKeys, Keys}
 use Rattle.level_bounds.specs.Orders.{IsOrderOfSet}
 
@@ -51,7 +51,7 @@ pub record ColumnStands (lists : List (List ℕ)) (key : Keys) (bounds : EntryBo
 -- true for each of its columns that an equality joins
 pub record EntriesStand (query : Query) (tables : Tables) (lists : List (List ℕ)) (key : Keys) (bounds : EntryBounds) : Type 0 where
   pub keys : AreKeys tables key (equalities_of query)
-  pub rows : (entry : ℕ) → entry < length query.from → rows_listed lists entry ≤ bounds.rows entry
+  pub rows : (entry : ℕ) → entry < length query.from → listed_row_count lists entry ≤ bounds.rows entry
   pub columns : EachNamedColumn (λ entry column. entry < length query.from → ColumnStands lists key bounds entry column) (equalities_of query)
 
 -- ---- bounds of scans and of sets
@@ -59,7 +59,7 @@ pub record EntriesStand (query : Query) (tables : Tables) (lists : List (List �
 -- the bound of each scan is at least the number of its listed rows, and at most the number of rows of its table
 pub record BoundLists (query : Query) (tables : Tables) (lists : List (List ℕ)) (scans : List ℕ) : Type 0 where
   pub one_each : length scans ≡ length query.from
-  pub fit : (entry : ℕ) → entry < length query.from → rows_listed lists entry ≤ slice_index scans entry
+  pub fit : (entry : ℕ) → entry < length query.from → listed_row_count lists entry ≤ slice_index scans entry
   pub within : (entry : ℕ) → entry < length query.from → slice_index scans entry ≤ row_counts tables entry
 
 -- no level over the lists of a set's entries has more rows than the bound of the set, in whatever order the entries are joined. If the set's

@@ -5,7 +5,7 @@ ghost use Rattle.entry_sets.specs.Sets.{entries_of_set};
 ghost use Rattle.sql_meaning.specs.Databases.{IsDatabaseOf};
 ghost use Rattle.sql_meaning.specs.Tables.{tables_of};
 ghost use Rattle.level_bounds.specs.Orders.{IsOrderOfSet};
-ghost use Rattle.level_bounds.specs.Scans.{query_level, query_scan};
+ghost use Rattle.level_bounds.specs.Scans.{level_over_entries, query_scan};
 ghost use Rattle.planning.specs.Bounds.{scan_bounds_of, set_bounds_of};
 
 use crate::sources::from_statistics;
@@ -21,7 +21,7 @@ use std::alloc::Global;
 /// The bound of each entry's scan, in rows and in FROM order. No scan has more rows than its bound.
 ///
 /// `accuracy` is the accuracy of compressed lists (SafeBound, SIGMOD 2023).
-#[tactic(auto, using(crate::proofs::Giving::is_told))]
+#[tactic(auto, using(crate::proofs::Giving::tells_some_statistics))]
 pub fn scan_bounds(
     alloc: Global,
     query: &Query,
@@ -57,7 +57,7 @@ pub fn subset_bounds(
     ensures of_nothing { IfOk result (λ bounds. slice_index bounds 0 ≡ 1) }
     ensures never_under { IfOk result (λ bounds. (subset : ℕ) (order : List ℕ)
         → subset < 2 ^ length query.now.from → IsOrderOfSet (entries_of_set subset) order
-        → (length (query_level query.now (tables_of db.now) order) ≤ slice_index bounds subset)
+        → (length (level_over_entries query.now (tables_of db.now) order) ≤ slice_index bounds subset)
         ⊎ (slice_index bounds subset ≡ top_bound)) }
 {
     characters_differ(&db.pool);

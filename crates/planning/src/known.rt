@@ -4,7 +4,7 @@ ghost use Rattle.limits.specs.Profile.{most_budget, most_entries};
 ghost use Rattle.order_search.specs.declared.refusal.PlanError.TheVariants as error;
 ghost use Rattle.plan_answers.specs.PlanAnswer.{plan_answer};
 ghost use Rattle.set_bounds.specs.AllSets.{bounds_in_sets as told_in_sets};
-ghost use Rattle.set_bounds.specs.Parts.{LooksAtParts};
+ghost use Rattle.set_bounds.specs.Parts.{DependsOnPartsOnly};
 
 use base_io::{NoMemory, Seq};
 use join_graph::Parts;
@@ -15,7 +15,7 @@ use std::alloc::Global;
 
 /// A bound for each set of a query's entries, and for each scan, in FROM order. All are in rows. A set's index is the number whose bits are the set.
 #[derive(Drop)]
-pub struct Known {
+pub struct QueryBounds {
     pub sets: Seq<u128>,
     pub scans: Seq<u64>,
 }
@@ -30,22 +30,22 @@ pub fn bounds_from<K: KnownInSets>(
     parts: &Parts,
     lists: &K,
     scans: Seq<u64>,
-) -> Result<Known, NoMemory>
+) -> Result<QueryBounds, NoMemory>
     requires few { length scans ≤ most_entries }
     requires listed { (subset : ℕ) → subset < 2 ^ length scans → K.is_listed lists.now parts.now.equalities subset }
-    requires looks { LooksAtParts (K.known lists.now) parts.now.equalities }
+    requires looks { DependsOnPartsOnly (K.known lists.now) parts.now.equalities }
     ensures sets { IfOk result (λ known. known.sets ≡ told_in_sets (K.known lists.now) parts.now.equalities (length scans)) }
     ensures scans { IfOk result (λ known. known.scans ≡ scans) }
 {
     let sets = bounds_in_sets(alloc, parts, lists, scans.len() as u8)?;
-    Ok(Known { sets, scans })
+    Ok(QueryBounds { sets, scans })
 }
 
 /// The best order of the entries by these bounds, with the bounds of its scans and levels, or why no order is within the budget. All
 /// numbers are in rows, and the budget is at most 20,000,000.
 ///
 /// It answers `Budget` or `PastBits` exactly if `plan_answer` does, and `NoMemory` if memory runs out.
-pub fn plan_from(alloc: Global, known: &Known, budget: u64) -> Result<Plan, PlanError>
+pub fn plan_from(alloc: Global, known: &QueryBounds, budget: u64) -> Result<Plan, PlanError>
     requires some { 1 ≤ length known.now.scans }
     requires few { length known.now.scans ≤ most_entries }
     requires sets { length known.now.sets ≡ 2 ^ length known.now.scans }

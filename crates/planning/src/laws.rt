@@ -23,7 +23,7 @@ ghost use Rattle.join_steps.specs.Lists.{scans_of, AreOfScans};
 ghost use Rattle.join_steps.specs.Plans.{IsPlanOf};
 ghost use Rattle.level_bounds.specs.Keys.{AreKeys, Keys};
 ghost use Rattle.level_bounds.specs.Orders.{IsOrderOfSet};
-ghost use Rattle.level_bounds.specs.Scans.{query_level, query_scan};
+ghost use Rattle.level_bounds.specs.Scans.{level_over_entries, query_scan};
 ghost use Rattle.filtered_lists.specs.Filters.{own_conjuncts};
 ghost use Rattle.query_bounds.specs.Bounds.{entry_bounds, scan_bounds};
 ghost use Rattle.query_bounds.specs.Statistics.{StandFor, Statistics};
@@ -45,7 +45,7 @@ pub fn bounds_are_never_under()
         → length (query_scan query tables entry) ≤ slice_index (scan_bounds_of query tables accuracy) entry }
     ensures sets { (query : Query) (tables : Tables) (accuracy subset : ℕ) (order : List ℕ)
         → subset < 2 ^ length query.from → IsOrderOfSet (entries_of_set subset) order
-        → (length (query_level query tables order) ≤ slice_index (set_bounds_of query tables accuracy) subset)
+        → (length (level_over_entries query tables order) ≤ slice_index (set_bounds_of query tables accuracy) subset)
         ⊎ (slice_index (set_bounds_of query tables accuracy) subset ≡ top_bound) }
 {}
 
@@ -78,7 +78,7 @@ pub fn plans_are_never_under()
     ensures levels { (query : Query) (tables : Tables) (accuracy budget : ℕ) (plan : Plan) (k : ℕ)
         → length query.from ≤ most_entries → budget ≤ most_budget
         → planned query tables accuracy budget ≡ Ok plan → k < length query.from
-        → length (query_level query tables (take (k + 1) plan.order)) ≤ slice_index plan.levels k }
+        → length (level_over_entries query tables (take (k + 1) plan.order)) ≤ slice_index plan.levels k }
     // the same for level k + 1 of the order
     ensures levels_of_order { (query : Query) (tables : Tables) (accuracy budget : ℕ) (plan : Plan) (k : ℕ)
         → length query.from ≤ most_entries → budget ≤ most_budget

@@ -2,10 +2,10 @@
 //!
 //! In: a query and the tables of its entries. Each entry gets a row bound, and each of its joined columns a degree sequence. Both are made from
 //! statistics of the entry's table (`from_statistics`), or from a list of its rows, such as its reduced scan (`from_reduced`). From these
-//! `bounds_from` makes the bounds of all sets of entries, a `Known`, and `plan_from` chooses the order of least cost. Out: the plan, or why no plan
+//! `bounds_from` makes the bounds of all sets of entries, a `QueryBounds`, and `plan_from` chooses the order of least cost. Out: the plan, or why no plan
 //! is within the budget. `from_reduced` returns the reduced scans too, since the plan's levels are joined from them.
 //!
-//! Callers cite `HasBounds` for the bounds in a `Known`, and `planned_from` (in `specs/Plans.antt`) for the answer. `planned`,
+//! Callers cite `HasBounds` for the bounds in a `QueryBounds`, and `planned_from` (in `specs/Plans.antt`) for the answer. `planned`,
 //! `planned_over` and `planned_reduced` are this answer for bounds from different sources. Each is a function of the query, its plain
 //! tables, the accuracy and the budget, and `planned_over` also of the lists. The laws say that no bound of a plan is too low.
 //!
@@ -30,7 +30,7 @@ mod sources;
 
 pub use bounds::{scan_bounds, subset_bounds};
 pub use examples::small_plans;
-pub use known::{Known, bounds_from, plan_from};
+pub use known::{QueryBounds, bounds_from, plan_from};
 pub use reduced::{Reduced, from_reduced, reduced_lists};
 pub use scans::scan_entries;
-pub use sources::{from_rows, from_statistics, from_told};
+pub use sources::{from_given_statistics, from_rows, from_statistics};

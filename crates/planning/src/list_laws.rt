@@ -14,7 +14,7 @@ ghost use Rattle.sql_meaning.specs.Answers.{answer, conjuncts_of, entries_of, se
 ghost use Rattle.sql_meaning.specs.Levels.{level, level_over, row_in};
 ghost use Rattle.sql_meaning.specs.Tables.{Tables, row_counts};
 ghost use Rattle.level_bounds.specs.Orders.{IsOrderOfSet};
-ghost use Rattle.join_steps.specs.Lists.{list_at, scans_of, rows_listed, AreOfScans, list_levels};
+ghost use Rattle.join_steps.specs.Lists.{list_at, scans_of, listed_row_count, AreOfScans, list_levels};
 ghost use Rattle.reduced_scans.specs.Rounds.{reduced_of};
 ghost use Rattle.reduced_scans.specs.Scans.{AreConsistentScans};
 ghost use Rattle.planning.specs.ListedBounds.{set_bounds_over};
@@ -43,7 +43,7 @@ pub fn plans_over_lists_are_never_under()
         → IsBest (set_bounds_over query tables lists accuracy) (length query.from) plan.order }
     ensures scans { (query : Query) (tables : Tables) (lists : List (List ℕ)) (accuracy budget : ℕ) (plan : Plan) (entry : ℕ)
         → planned_over query tables lists accuracy budget ≡ Ok plan → entry < length query.from
-        → slice_index plan.scans entry ≡ rows_listed lists entry }
+        → slice_index plan.scans entry ≡ listed_row_count lists entry }
     ensures levels { (query : Query) (tables : Tables) (lists : List (List ℕ)) (accuracy budget : ℕ) (plan : Plan) (k : ℕ)
         → planned_over query tables lists accuracy budget ≡ Ok plan → slice_index plan.levels k ≤ budget }
     ensures no_memory { (query : Query) (tables : Tables) (lists : List (List ℕ)) (accuracy budget : ℕ)

@@ -8,10 +8,10 @@ ghost use Rattle.bound_fold.specs.Sets.{HaveLists};
 ghost use Rattle.filtered_lists.specs.Standing.{value_in_row};
 ghost use Rattle.sql_meaning.specs.Databases.{AreTables, IsColumnOf};
 ghost use Rattle.sql_meaning.specs.Tables.{cells_of, tables_of};
-ghost use Rattle.table_stats.specs.Columns.{numbered};
+ghost use Rattle.table_stats.specs.Columns.{as_first_rows};
 ghost use Rattle.join_steps.specs.Lists.{lists_of};
 ghost use Rattle.reduced_scans.specs.Lists.{AreRowLists, JoinsColumns, column_of};
-ghost use Rattle.planning.specs.Known.{IsKnown};
+ghost use Rattle.planning.specs.ListsSoFar.{IsKnown};
 
 use crate::rows::row_bounds;
 use base_io::NoMemory;
@@ -41,7 +41,7 @@ fn column_list(
     requires rows { All (λ row. row < (cells_of db.now place.entry).rows) rows.now }
     requires few { length rows.now ≤ most_rows }
     ensures exact { IfOk result (λ list. list
-        ≡ compressed_degrees accuracy (numbered (map (value_in_row (tables_of db.now) place.entry place.column) rows.now))) }
+        ≡ compressed_degrees accuracy (as_first_rows (map (value_in_row (tables_of db.now) place.entry place.column) rows.now))) }
     ensures sum { IfOk result (λ list. sum list ≡ length rows.now) }
 {
     characters_differ(&db.pool);

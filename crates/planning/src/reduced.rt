@@ -9,7 +9,7 @@ ghost use Rattle.reduced_scans.specs.Rounds.{reduced_of};
 ghost use Rattle.planning.specs.HasBounds.{HasBounds};
 ghost use Rattle.planning.specs.ListedBounds.{set_bounds_over};
 
-use crate::known::Known;
+use crate::known::QueryBounds;
 use crate::scans::scan_entries;
 use crate::sources::from_rows;
 use base_io::NoMemory;
@@ -25,7 +25,7 @@ use std::alloc::Global;
 /// The bounds from the reduced scans of a query, and for each FROM entry the numbers of its reduced rows, in file order.
 #[derive(Drop)]
 pub struct Reduced {
-    pub known: Known,
+    pub known: QueryBounds,
     pub lists: Vec<RowBuf<u32>>,
 }
 

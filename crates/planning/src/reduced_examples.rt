@@ -7,7 +7,7 @@ ghost use Rattle.sql_meaning.specs.Examples.{triangle};
 ghost use Rattle.level_bounds.specs.Examples.{three_tables};
 ghost use Rattle.planning.specs.Examples.{small_tables};
 ghost use Rattle.reduced_scans.specs.Rounds.{reduced_of};
-ghost use Rattle.planning.specs.ReducedExamples.{along, by_region, chain_tables, crossed_tables, empty_first, never_true, region_tables, with_another};
+ghost use Rattle.planning.specs.ReducedExamples.{chain_query, by_region, chain_tables, crossed_tables, empty_first, never_true, region_tables, with_another};
 ghost use Rattle.planning.specs.Plans.{planned_reduced};
 
 /// R(X) of 1, 1, 1, 2, 2, 3 and S(X) of 1, 1, 4, 5, 6, joined by X: three rows of R and two of S are kept, and the bound is the answer's size.
@@ -25,8 +25,8 @@ pub fn a_filtered_partner()
 
 /// A(X), B(X, Y) and D(Y), joined in a chain: the one row of D reduces B, and then B reduces A.
 pub fn along_a_chain()
-    ensures reduced { reduced_of along chain_tables ≡ (0 ∷ []) ∷ (0 ∷ []) ∷ (0 ∷ []) ∷ [] }
-    ensures plan { planned_reduced along chain_tables 1 1
+    ensures reduced { reduced_of chain_query chain_tables ≡ (0 ∷ []) ∷ (0 ∷ []) ∷ (0 ∷ []) ∷ [] }
+    ensures plan { planned_reduced chain_query chain_tables 1 1
         ≡ Ok (plan_of (0 ∷ 1 ∷ 2 ∷ []) (1 ∷ 1 ∷ 1 ∷ []) (1 ∷ 1 ∷ 1 ∷ [])) }
 {}
 

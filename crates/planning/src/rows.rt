@@ -3,7 +3,7 @@ ghost use Rattle.std.specs.Prelude.{◌≡◌, ◌≤◌, ℕ, IfOk, None, lengt
 ghost use Rattle.limits.specs.Profile.{most_entries, most_rows};
 ghost use Rattle.bound_fold.specs.Lists.{list_of as list_known};
 ghost use Rattle.join_steps.specs.Lists.{list_at, lists_of};
-ghost use Rattle.planning.specs.Known.{HasRows};
+ghost use Rattle.planning.specs.ListsSoFar.{HasRows};
 
 use base_io::NoMemory;
 use bound_fold::EntryLists;

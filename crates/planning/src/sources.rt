@@ -7,13 +7,13 @@ ghost use Rattle.sql_meaning.specs.Tables.{tables_of};
 ghost use Rattle.join_steps.specs.Lists.{list_sizes, lists_of};
 ghost use Rattle.reduced_scans.specs.Lists.{AreRowLists};
 ghost use Rattle.query_bounds.specs.Bounds.{entry_bounds, scan_bounds, set_bounds};
-ghost use Rattle.query_bounds.specs.Statistics.{StatsAreTold, Statistics, Tells};
+ghost use Rattle.query_bounds.specs.Statistics.{TellsSomeStatistics, Statistics, Tells};
 ghost use Rattle.planning.specs.Bounds.{scan_bounds_of, set_bounds_of};
 ghost use Rattle.planning.specs.HasBounds.{HasBounds};
 ghost use Rattle.planning.specs.ListedBounds.{set_bounds_over};
 ghost use Rattle.planning.specs.Standing.{JoinedHaveLists};
 
-use crate::known::{Known, bounds_from};
+use crate::known::{QueryBounds, bounds_from};
 use crate::lists::lists_over_rows;
 use base_io::NoMemory;
 use csv_tables::Database;
@@ -28,15 +28,15 @@ use std::alloc::Global;
 
 /// The bounds from statistics of a query's entries, whatever the statistics were made from. A scan's bound is the row bound of its entry. `parts` is
 /// the result of `split`.
-pub fn from_told(
+pub fn from_given_statistics(
     alloc: Global,
     query: &Query,
     parts: &Parts,
     stats: &QueryStats,
-) -> Result<Known, NoMemory>
+) -> Result<QueryBounds, NoMemory>
     requires few { length query.now.from ≤ most_entries }
     requires equalities { parts.now.equalities ≡ equalities_of query.now }
-    requires told { StatsAreTold query.now stats.now }
+    requires told { TellsSomeStatistics query.now stats.now }
     ensures gives { IfOk result (λ made. (known : Statistics) → Tells query.now stats.now known
         → HasBounds (set_bounds query.now known) (scan_bounds query.now known) made) }
     ensures lists { IfOk result (λ made. (known : Statistics) → Tells query.now stats.now known
@@ -51,19 +51,19 @@ pub fn from_told(
 /// The bounds from statistics of the query's tables, which are gathered once. A scan's bound is the row bound of its entry.
 ///
 /// `accuracy` is the accuracy of compressed degree sequences (SafeBound, SIGMOD 2023).
-#[tactic(auto, using(crate::proofs::Giving::is_told))]
+#[tactic(auto, using(crate::proofs::Giving::tells_some_statistics))]
 pub fn from_statistics(
     alloc: Global,
     query: &Query,
     db: &Database,
     accuracy: Accuracy,
-) -> Result<Known, NoMemory>
+) -> Result<QueryBounds, NoMemory>
     requires database { IsDatabaseOf query.now db.now }
     ensures { IfOk result (HasBounds (set_bounds_of query.now (tables_of db.now) accuracy) (scan_bounds_of query.now (tables_of db.now) accuracy)) }
 {
     let parts = split(alloc, query)?;
     let stats = gather_query(alloc, query, &parts, db, accuracy)?;
-    from_told(alloc, query, &parts, &stats)
+    from_given_statistics(alloc, query, &parts, &stats)
 }
 
 /// The bounds from lists of rows of the query's tables, one list for each entry. A scan's bound is the number of rows of its list. `parts` is the
@@ -77,7 +77,7 @@ pub fn from_rows(
     db: &Database,
     rows: &[RowBuf<u32>],
     accuracy: Accuracy,
-) -> Result<Known, NoMemory>
+) -> Result<QueryBounds, NoMemory>
     requires equalities { parts.now.equalities ≡ equalities_of query.now }
     requires database { IsDatabaseOf query.now db.now }
     requires rows { AreRowLists db.now rows.now }

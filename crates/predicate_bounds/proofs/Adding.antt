@@ -10,7 +10,7 @@ use Rattle.predicate_bounds.specs.declared.steps.Range.{Range}
 use Rattle.predicate_bounds.specs.declared.steps.Step.{Step}
 use Rattle.predicate_bounds.specs.declared.steps.Step.TheVariants as step
 use Rattle.predicate_bounds.specs.declared.reading.Members.{Members}
-use Rattle.predicate_bounds.specs.Added.{IsConjunctionAdded, closing, ending, is_some_of, last_steps, more_steps}
+use Rattle.predicate_bounds.specs.Added.{IsConjunctionAdded, and_if_earlier, range_steps, is_not_empty, last_steps, more_steps}
 use Rattle.predicate_bounds.specs.Steps.{range_in, range_of, step_answers}
 use Rattle.predicate_bounds.proofs.Literals.{ranges_again}
 
@@ -20,16 +20,16 @@ append_nil (x ∷ s) = ap (λ (t : List Step). x ∷ t) (append_nil s)
 
 -- ---- the steps of two lists of members, one after the other
 
-pub more_steps-append : (some : Bool) (xs ys : List (List Step)) → more_steps some (xs ++ ys) ≡ more_steps some xs ++ more_steps (some || is_some_of xs) ys
-more_steps-append some [] ys = ap (λ (b : Bool). more_steps b ys) (sym (or-false some))
-more_steps-append some (x ∷ xs) ys =
-    rw (more_steps-append true xs ys, or-true some)
-    (ap (λ (t : List Step). x ++ t) (sym (append_assoc (closing some) (more_steps true xs) (more_steps true ys)))
-    ∙ sym (append_assoc x (closing some ++ more_steps true xs) (more_steps true ys)))
+pub more_steps-append : (has_answer : Bool) (xs ys : List (List Step)) → more_steps has_answer (xs ++ ys) ≡ more_steps has_answer xs ++ more_steps (has_answer || is_not_empty xs) ys
+more_steps-append has_answer [] ys = ap (λ (b : Bool). more_steps b ys) (sym (or-false has_answer))
+more_steps-append has_answer (x ∷ xs) ys =
+    rw (more_steps-append true xs ys, or-true has_answer)
+    (ap (λ (t : List Step). x ++ t) (sym (append_assoc (and_if_earlier has_answer) (more_steps true xs) (more_steps true ys)))
+    ∙ sym (append_assoc x (and_if_earlier has_answer ++ more_steps true xs) (more_steps true ys)))
 
-pub is_some_of-append : (xs ys : List (List Step)) → is_some_of (xs ++ ys) ≡ (is_some_of xs || is_some_of ys)
-is_some_of-append [] ys = refl
-is_some_of-append (x ∷ xs) ys = refl
+pub is_not_empty-append : (xs ys : List (List Step)) → is_not_empty (xs ++ ys) ≡ (is_not_empty xs || is_not_empty ys)
+is_not_empty-append [] ys = refl
+is_not_empty-append (x ∷ xs) ys = refl
 
 and_more_steps : (so_far : List Step) (xs : List (List Step)) → and_more step_answers so_far xs ≡ so_far ++ more_steps true xs
 and_more_steps so_far [] = sym (append_nil so_far)
@@ -42,7 +42,7 @@ last_true [] = refl
 last_true (y ∷ ys) = refl
 
 -- `ys` has the steps of the AND's ranges, which come last
-all_steps : (xs ys : List (List Step)) → all_of step_answers (xs ++ ys) ≡ more_steps false xs ++ last_steps (is_some_of xs) ys
+all_steps : (xs ys : List (List Step)) → all_of step_answers (xs ++ ys) ≡ more_steps false xs ++ last_steps (is_not_empty xs) ys
 all_steps [] [] = refl
 all_steps [] (y ∷ ys) = and_more_steps y ys
 all_steps (x ∷ xs) ys =
@@ -55,20 +55,20 @@ pub or_assoc : (a b c : Bool) → ((a || b) || c) ≡ (a || (b || c))
 or_assoc true b c = refl
 or_assoc false b c = refl
 
-abbrev pub two : Conjunction (List Step) → Conjunction (List Step) → Conjunction (List Step)
-two x y = record { ranges = x.ranges ++ y.ranges; others = x.others ++ y.others }
+abbrev pub both_conjunctions : Conjunction (List Step) → Conjunction (List Step) → Conjunction (List Step)
+both_conjunctions x y = record { ranges = x.ranges ++ y.ranges; others = x.others ++ y.others }
 
 pub both_added : (before between after : Members) (old mid new : List Step) (x y : Conjunction (List Step))
-    → IsConjunctionAdded before old between mid x → IsConjunctionAdded between mid after new y → IsConjunctionAdded before old after new (two x y)
+    → IsConjunctionAdded before old between mid x → IsConjunctionAdded between mid after new y → IsConjunctionAdded before old after new (both_conjunctions x y)
 both_added before between after old mid new x y h k = record {
-  steps = k.steps ∙ ap (λ (s : List Step). s ++ more_steps between.some y.others) h.steps ∙ append_assoc old (more_steps before.some x.others) (more_steps between.some y.others)
-      ∙ ap (λ (b : Bool). old ++ (more_steps before.some x.others ++ more_steps b y.others)) h.some ∙ ap (λ (s : List Step). old ++ s) (sym (more_steps-append before.some x.others y.others));
+  steps = k.steps ∙ ap (λ (s : List Step). s ++ more_steps between.has_answer y.others) h.steps ∙ append_assoc old (more_steps before.has_answer x.others) (more_steps between.has_answer y.others)
+      ∙ ap (λ (b : Bool). old ++ (more_steps before.has_answer x.others ++ more_steps b y.others)) h.has_answer ∙ ap (λ (s : List Step). old ++ s) (sym (more_steps-append before.has_answer x.others y.others));
   ranges = k.ranges ∙ ap (λ (s : List Range). s ++ map range_in y.ranges) h.ranges ∙ append_assoc before.ranges (map range_in x.ranges) (map range_in y.ranges)
       ∙ ap (λ (s : List Range). before.ranges ++ s) (sym (map-append range_in x.ranges y.ranges));
-  some = k.some ∙ ap (λ (b : Bool). b || is_some_of y.others) h.some ∙ or_assoc before.some (is_some_of x.others) (is_some_of y.others) ∙ ap (λ (b : Bool). before.some || b) (sym (is_some_of-append x.others y.others));
+  has_answer = k.has_answer ∙ ap (λ (b : Bool). b || is_not_empty y.others) h.has_answer ∙ or_assoc before.has_answer (is_not_empty x.others) (is_not_empty y.others) ∙ ap (λ (b : Bool). before.has_answer || b) (sym (is_not_empty-append x.others y.others));
 }
 
-pub joined_more : (cs : List (Conjunction (List Step))) (c : Conjunction (List Step)) → one_conjunction (cs ++ c ∷ []) ≡ two (one_conjunction cs) c
+pub joined_more : (cs : List (Conjunction (List Step))) (c : Conjunction (List Step)) → one_conjunction (cs ++ c ∷ []) ≡ both_conjunctions (one_conjunction cs) c
 joined_more [] c = ap (λ (s : List ranges.Range). record { ranges = s; others = c.others ++ [] }) (nil c.ranges) ∙ ap (λ (s : List (List Step)). record { ranges = c.ranges; others = s }) (nils c.others)
   where
     nil : (s : List ranges.Range) → s ++ [] ≡ s
@@ -92,12 +92,12 @@ each_more f conds i cond before between after old mid new low is h k =
     (sym (joined_more (map f (take i conds)) (f cond)) ∙ ap one_conjunction (sym (map-append f (take i conds) (cond ∷ [])) ∙ ap (map f) (sym front)))
     (both_added before between after old mid new (one_conjunction (map f (take i conds))) (f cond) h k)
 
-pub answer_added : (before after : Members) (old mid new x : List Step) → mid ≡ old ++ x → new ≡ mid ++ closing before.some → after.some ≡ true → after.ranges ≡ before.ranges
+pub answer_added : (before after : Members) (old mid new x : List Step) → mid ≡ old ++ x → new ≡ mid ++ and_if_earlier before.has_answer → after.has_answer ≡ true → after.ranges ≡ before.ranges
     → IsConjunctionAdded before old after new (of_answer x)
-answer_added before after old mid new x is closed some same = record {
-  steps = closed ∙ ap (λ (s : List Step). s ++ closing before.some) is ∙ append_assoc old x (closing before.some) ∙ ap (λ (s : List Step). old ++ (x ++ s)) (sym (append_nil (closing before.some)));
+answer_added before after old mid new x is closed has_answer same = record {
+  steps = closed ∙ ap (λ (s : List Step). s ++ and_if_earlier before.has_answer) is ∙ append_assoc old x (and_if_earlier before.has_answer) ∙ ap (λ (s : List Step). old ++ (x ++ s)) (sym (append_nil (and_if_earlier before.has_answer)));
   ranges = same ∙ sym (nil before.ranges);
-  some = some ∙ sym (or-true before.some);
+  has_answer = has_answer ∙ sym (or-true before.has_answer);
 }
   where
     nil : (s : List Range) → s ++ [] ≡ s
@@ -106,16 +106,16 @@ answer_added before after old mid new x is closed some same = record {
 
 -- ---- if a conjunction was added to no members, and the AND was ended, the new steps are those of the conjunction's answer
 
-pub answer_steps : (none after : Members) (old mid new : List Step) (c : Conjunction (List Step)) → none.some ≡ false → none.ranges ≡ []
-    → IsConjunctionAdded none old after mid c → new ≡ mid ++ ending after.some after.ranges → new ≡ old ++ and_answer step_answers c
+pub answer_steps : (none after : Members) (old mid new : List Step) (c : Conjunction (List Step)) → none.has_answer ≡ false → none.ranges ≡ []
+    → IsConjunctionAdded none old after mid c → new ≡ mid ++ range_steps after.has_answer after.ranges → new ≡ old ++ and_answer step_answers c
 answer_steps none after old mid new c fresh empty h closed =
-    let some : after.some ≡ is_some_of c.others = h.some ∙ ap (λ (b : Bool). b || is_some_of c.others) fresh in
+    let has_answer : after.has_answer ≡ is_not_empty c.others = h.has_answer ∙ ap (λ (b : Bool). b || is_not_empty c.others) fresh in
     let same_ranges : map range_of after.ranges ≡ c.ranges = ap (map range_of) (h.ranges ∙ ap (λ (s : List Range). s ++ map range_in c.ranges) empty) ∙ ranges_again c.ranges in
     let steps : mid ≡ old ++ more_steps false c.others = h.steps ∙ ap (λ (b : Bool). old ++ more_steps b c.others) fresh in
-    closed ∙ ap (λ (s : List Step). s ++ ending after.some after.ranges) steps
-    ∙ ap (λ (b : Bool). (old ++ more_steps false c.others) ++ ending b after.ranges) some
-    ∙ ap (λ (rs : List ranges.Range). (old ++ more_steps false c.others) ++ last_steps (is_some_of c.others) (map step_answers.range (intersection_for_each_column rs))) same_ranges
-    ∙ append_assoc old (more_steps false c.others) (last_steps (is_some_of c.others) (map step_answers.range (intersection_for_each_column c.ranges)))
+    closed ∙ ap (λ (s : List Step). s ++ range_steps after.has_answer after.ranges) steps
+    ∙ ap (λ (b : Bool). (old ++ more_steps false c.others) ++ range_steps b after.ranges) has_answer
+    ∙ ap (λ (rs : List ranges.Range). (old ++ more_steps false c.others) ++ last_steps (is_not_empty c.others) (map step_answers.range (intersection_for_each_column rs))) same_ranges
+    ∙ append_assoc old (more_steps false c.others) (last_steps (is_not_empty c.others) (map step_answers.range (intersection_for_each_column c.ranges)))
     ∙ ap (λ (s : List Step). old ++ s) (sym (all_steps c.others (map step_answers.range (intersection_for_each_column c.ranges))))
 
 -- ---- the steps of an OR: Nothing, and then for each member its steps and Or

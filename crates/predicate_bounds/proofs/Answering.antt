@@ -9,7 +9,7 @@ use Rattle.filtered_lists.specs.Ranges as ranges
 use Rattle.filtered_lists.proofs.Related.{filtered_related}
 use Rattle.predicate_bounds.specs.declared.steps.Step.{Step}
 use Rattle.predicate_bounds.specs.declared.steps.Step.TheVariants as step
-use Rattle.predicate_bounds.specs.ListRuns.{after_list_step, after_list_steps, listed}
+use Rattle.predicate_bounds.specs.ListRuns.{after_list_step, after_list_steps, with_list}
 use Rattle.predicate_bounds.specs.Runs.{after_step, after_steps}
 use Rattle.predicate_bounds.specs.Steps.{step_answers, steps_of}
 use Rattle.predicate_bounds.proofs.Literals.{value_again, range_of_in}
@@ -37,7 +37,7 @@ steps_answer A answers entry conjuncts =
 -- ---- steps that hold their lists leave the same answer as steps that ask for them
 
 module _ (lists : ColumnLists) where
-  one_list : (s : Step) (stack : List (List ℕ)) → after_list_step (listed lists s) stack ≡ after_step (list_answers lists) s stack
+  one_list : (s : Step) (stack : List (List ℕ)) → after_list_step (with_list lists s) stack ≡ after_step (list_answers lists) s stack
   one_list step.Whole stack = refl
   one_list (step.Equal column literal) stack = refl
   one_list (step.Within range) stack = refl
@@ -45,10 +45,10 @@ module _ (lists : ColumnLists) where
   one_list step.Nothing stack = refl
   one_list step.Or stack = refl
 
-  all_lists : (steps : List Step) (stack : List (List ℕ)) → after_list_steps (map (listed lists) steps) stack ≡ after_steps (list_answers lists) steps stack
+  all_lists : (steps : List Step) (stack : List (List ℕ)) → after_list_steps (map (with_list lists) steps) stack ≡ after_steps (list_answers lists) steps stack
   all_lists [] stack = refl
   all_lists (s ∷ steps) stack =
-      ap (after_list_steps (map (listed lists) steps)) (one_list s stack) ∙ all_lists steps (after_step (list_answers lists) s stack)
+      ap (after_list_steps (map (with_list lists) steps)) (one_list s stack) ∙ all_lists steps (after_step (list_answers lists) s stack)
 
-  pub lists_answer : (entry : ℕ) (conjuncts : List Cond) → after_list_steps (map (listed lists) (steps_of entry conjuncts)) [] ≡ filtered (list_answers lists) entry conjuncts ∷ []
+  pub lists_answer : (entry : ℕ) (conjuncts : List Cond) → after_list_steps (map (with_list lists) (steps_of entry conjuncts)) [] ≡ filtered (list_answers lists) entry conjuncts ∷ []
   lists_answer entry conjuncts = all_lists (steps_of entry conjuncts) [] ∙ steps_answer (List ℕ) (list_answers lists) entry conjuncts

@@ -8,17 +8,17 @@ use Rattle.predicate_bounds.specs.declared.steps.Range.{Range}
 use Rattle.predicate_bounds.specs.declared.steps.Step.{Step}
 use Rattle.predicate_bounds.specs.declared.steps.Step.TheVariants as step
 use Rattle.predicate_bounds.specs.declared.reading.Members.{Members}
-use Rattle.predicate_bounds.specs.Added.{closing, is_some_of, more_steps}
+use Rattle.predicate_bounds.specs.Added.{and_if_earlier, is_not_empty, more_steps}
 use Rattle.predicate_bounds.specs.Steps.{range_in, range_of, step_answers}
-use Rattle.predicate_bounds.proofs.Adding.{more_steps-append, is_some_of-append}
+use Rattle.predicate_bounds.proofs.Adding.{more_steps-append, is_not_empty-append}
 use Rattle.predicate_bounds.proofs.Narrow.{first_steps, old_column, new_column}
 
 -- the loop has passed the first i ranges: the steps of their columns were added
 pub record AreFinished (before : Members) (old : List Step) (now : Members) (new : List Step) (count i : ℕ) : Type 0 where
   pub ranges : now.ranges ≡ before.ranges
   pub len : count ≡ length before.ranges
-  pub steps : new ≡ old ++ more_steps before.some (first_steps before.ranges i)
-  pub some : now.some ≡ (before.some || is_some_of (first_steps before.ranges i))
+  pub steps : new ≡ old ++ more_steps before.has_answer (first_steps before.ranges i)
+  pub has_answer : now.has_answer ≡ (before.has_answer || is_not_empty (first_steps before.ranges i))
 
 pub finished_old : (before now : Members) (old new : List Step) (len i : ℕ) (r : Range) → AreFinished before old now new len i → i < len → r ≡ get_or now.ranges i r
     → list_any (λ range. eqb range.column r.column) (take i now.ranges) ≡ true → AreFinished before old now new len (i + 1)
@@ -28,15 +28,15 @@ finished_old before now old new len i r h low is there =
     record {
       ranges = h.ranges;
       len = h.len;
-      steps = h.steps ∙ ap (λ (s : List (List Step)). old ++ more_steps before.some s) (sym same);
-      some = h.some ∙ ap (λ (s : List (List Step)). before.some || is_some_of s) (sym same);
+      steps = h.steps ∙ ap (λ (s : List (List Step)). old ++ more_steps before.has_answer s) (sym same);
+      has_answer = h.has_answer ∙ ap (λ (s : List (List Step)). before.has_answer || is_not_empty s) (sym same);
     }
 
 pub finished_new : (before now after : Members) (old new mid last : List Step) (len i : ℕ) (r range : Range) → AreFinished before old now new len i → i < len → r ≡ get_or now.ranges i r
     → list_any (λ range. eqb range.column r.column) (take i now.ranges) ≡ false → range ≡ range_in (intersection_of (map range_of now.ranges) r.column)
-    → mid ≡ new ++ step.Within range ∷ [] → last ≡ mid ++ closing now.some → after.some ≡ true → after.ranges ≡ now.ranges
+    → mid ≡ new ++ step.Within range ∷ [] → last ≡ mid ++ and_if_earlier now.has_answer → after.has_answer ≡ true → after.ranges ≡ now.ranges
     → AreFinished before old after last len (i + 1)
-finished_new before now after old new mid last len i r range h low is there one more closed some same =
+finished_new before now after old new mid last len i r range h low is there one more closed has_answer same =
     let x : List Step = step_answers.range (intersection_of (map range_of before.ranges) r.column) in
     let xs : List (List Step) = first_steps before.ranges i in
     let added : first_steps before.ranges (i + 1) ≡ xs ++ x ∷ [] =
@@ -45,14 +45,14 @@ finished_new before now after old new mid last len i r range h low is there one 
     record {
       ranges = same ∙ h.ranges;
       len = h.len;
-      steps = closed ∙ ap (λ (s : List Step). s ++ closing now.some) (more ∙ ap (λ (s : List Step). s ++ step.Within range ∷ []) h.steps ∙ ap (λ (s : List Step). (old ++ more_steps before.some xs) ++ s) within)
-          ∙ append_assoc (old ++ more_steps before.some xs) x (closing now.some) ∙ append_assoc old (more_steps before.some xs) (x ++ closing now.some)
-          ∙ ap (λ (b : Bool). old ++ (more_steps before.some xs ++ (x ++ closing b))) h.some
-          ∙ ap (λ (s : List Step). old ++ (more_steps before.some xs ++ (x ++ s))) (sym (append-nil (closing (before.some || is_some_of xs))))
-          ∙ ap (λ (s : List Step). old ++ s) (sym (more_steps-append before.some xs (x ∷ [])))
-          ∙ ap (λ (s : List (List Step)). old ++ more_steps before.some s) (sym added);
-      some = some ∙ sym (ap (λ (s : List (List Step)). before.some || is_some_of s) added ∙ ap (λ (b : Bool). before.some || b) (is_some_of-append xs (x ∷ []))
-          ∙ ap (λ (b : Bool). before.some || b) (or-true (is_some_of xs)) ∙ or-true before.some);
+      steps = closed ∙ ap (λ (s : List Step). s ++ and_if_earlier now.has_answer) (more ∙ ap (λ (s : List Step). s ++ step.Within range ∷ []) h.steps ∙ ap (λ (s : List Step). (old ++ more_steps before.has_answer xs) ++ s) within)
+          ∙ append_assoc (old ++ more_steps before.has_answer xs) x (and_if_earlier now.has_answer) ∙ append_assoc old (more_steps before.has_answer xs) (x ++ and_if_earlier now.has_answer)
+          ∙ ap (λ (b : Bool). old ++ (more_steps before.has_answer xs ++ (x ++ and_if_earlier b))) h.has_answer
+          ∙ ap (λ (s : List Step). old ++ (more_steps before.has_answer xs ++ (x ++ s))) (sym (append-nil (and_if_earlier (before.has_answer || is_not_empty xs))))
+          ∙ ap (λ (s : List Step). old ++ s) (sym (more_steps-append before.has_answer xs (x ∷ [])))
+          ∙ ap (λ (s : List (List Step)). old ++ more_steps before.has_answer s) (sym added);
+      has_answer = has_answer ∙ sym (ap (λ (s : List (List Step)). before.has_answer || is_not_empty s) added ∙ ap (λ (b : Bool). before.has_answer || b) (is_not_empty-append xs (x ∷ []))
+          ∙ ap (λ (b : Bool). before.has_answer || b) (or-true (is_not_empty xs)) ∙ or-true before.has_answer);
     }
 
 -- ---- the two facts above, with the names and tests of the loop
@@ -72,8 +72,8 @@ loop_old before now now' old new new' len i r items found h low same is tests te
 pub loop_new : (before now after now' : Members) (old new mid last new' : List Step) (len i : ℕ) (r range : Range) (items : List Range) (found : Bool) → AreFinished before old now new len i → i < len
     → items ≡ now.ranges → r ≡ get_or items i r → found ≡ list_any (λ range. eqb range.column (get_or items i r).column) (take i items) → found ≡ false
     → range ≡ range_in (intersection_of (map range_of items) (get_or items i r).column)
-    → mid ≡ new ++ step.Within range ∷ [] → last ≡ mid ++ closing now.some → after.some ≡ true → after.ranges ≡ now.ranges
+    → mid ≡ new ++ step.Within range ∷ [] → last ≡ mid ++ and_if_earlier now.has_answer → after.has_answer ≡ true → after.ranges ≡ now.ranges
     → now' ≡ after → new' ≡ last → AreFinished before old now' new' len (i + 1)
-loop_new before now after now' old new mid last new' len i r range items found h low same is tests tells one more closed some kept self steps =
+loop_new before now after now' old new mid last new' len i r range items found h low same is tests tells one more closed has_answer kept self steps =
     rw (self, steps) (finished_new before now after old new mid last len i r range h low (is ∙ ap (λ (s : List Range). get_or s i r) same) (there_is items i r found false is tests tells now.ranges same)
-    (one ∙ ap (λ (x : Range). range_in (intersection_of (map range_of items) x.column)) (sym is) ∙ ap (λ (s : List Range). range_in (intersection_of (map range_of s) r.column)) same) more closed some kept)
+    (one ∙ ap (λ (x : Range). range_in (intersection_of (map range_of items) x.column)) (sym is) ∙ ap (λ (s : List Range). range_in (intersection_of (map range_of s) r.column)) same) more closed has_answer kept)

@@ -5,5 +5,5 @@ pub mod Finishing
 pub mod Conditions
 pub mod Answering
 pub mod Stacks
-pub mod Telling
+pub mod StatsListFacts
 pub mod Own

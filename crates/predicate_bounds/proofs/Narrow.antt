@@ -12,23 +12,23 @@ use Rattle.filtered_lists.specs.Ranges as ranges
 use Rattle.filtered_lists.specs.Ranges.{greatest_value, least, intersection_of, ranges_of, intersection_for_each_column}
 use Rattle.predicate_bounds.specs.declared.steps.Range.{Range}
 use Rattle.predicate_bounds.specs.declared.steps.Step.{Step}
-use Rattle.predicate_bounds.specs.Narrowing.{more_high, more_low, narrowed}
+use Rattle.predicate_bounds.specs.Narrowing.{lower_high, greater_low, narrowed}
 use Rattle.predicate_bounds.specs.Steps.{range_of, step_answers}
 
 -- ---- the ends of the intersection of a column's ranges
 
-low_more : (low : Option Value) (lows : List Value) → greatest_value (cons_option low lows) ≡ more_low low (greatest_value lows)
+low_more : (low : Option Value) (lows : List Value) → greatest_value (cons_option low lows) ≡ greater_low low (greatest_value lows)
 low_more None lows = refl
 low_more (Some v) lows = refl
 
-high_more : (high : Option Value) (highs : List Value) → least (cons_option high highs) ≡ more_high high (least highs)
+high_more : (high : Option Value) (highs : List Value) → least (cons_option high highs) ≡ lower_high high (least highs)
 high_more None highs = refl
 high_more (Some v) highs = refl
 
 range_more : (r : ranges.Range) (rs : List ranges.Range) (column : ℕ) → eqb r.column column ≡ true → intersection_of (r ∷ rs) column ≡ narrowed r (intersection_of rs column)
 range_more r rs column t =
     rw t (ap (λ (low : Option Value). record { column = column; low = low; high = least (cons_option r.high (filter_map (λ range. range.high) (ranges_of column rs))) }) (low_more r.low (filter_map (λ range. range.low) (ranges_of column rs)))
-    ∙ ap (λ (high : Option Value). record { column = column; low = more_low r.low (greatest_value (filter_map (λ range. range.low) (ranges_of column rs))); high = high }) (high_more r.high (filter_map (λ range. range.high) (ranges_of column rs))))
+    ∙ ap (λ (high : Option Value). record { column = column; low = greater_low r.low (greatest_value (filter_map (λ range. range.low) (ranges_of column rs))); high = high }) (high_more r.high (filter_map (λ range. range.high) (ranges_of column rs))))
 
 range_other : (r : ranges.Range) (rs : List ranges.Range) (column : ℕ) → eqb r.column column ≡ false → intersection_of (r ∷ rs) column ≡ intersection_of rs column
 range_other r rs column n = rw n refl

@@ -12,7 +12,7 @@ use Rattle.join_graph.specs.Conjuncts.{local_of, names_just, numbers_where}
 use Rattle.predicate_bounds.specs.declared.steps.Step.{Step}
 use Rattle.predicate_bounds.specs.declared.steps.Step.TheVariants as step
 use Rattle.predicate_bounds.specs.declared.reading.Members.{Members}
-use Rattle.predicate_bounds.specs.Added.{IsConjunctionAdded, ending}
+use Rattle.predicate_bounds.specs.Added.{IsConjunctionAdded, range_steps}
 use Rattle.predicate_bounds.specs.Steps.{step_answers, steps_of}
 use Rattle.predicate_bounds.proofs.Adding.{both_added, joined_more, answer_steps}
 use Rattle.predicate_bounds.proofs.Conditions.{read}
@@ -85,7 +85,7 @@ one_read conds numbers i n c before now after old mid new low at is h k =
 -- Suppose that all own conjuncts were read, that the AND was ended, and that the steps `Whole` and `And` were appended. Then the steps are those of
 -- the definition.
 pub all_read : (from : ℕ) (conds : List Cond) (numbers : List ℕ) (i : ℕ) (before now : Members) (old mid ended whole last : List Step) → numbers ≡ numbers_where (names_just from) 0 conds → length numbers ≤ i
-    → before.some ≡ false → before.ranges ≡ [] → old ≡ [] → AreRead conds (take i numbers) before old now mid → ended ≡ mid ++ ending now.some now.ranges
+    → before.has_answer ≡ false → before.ranges ≡ [] → old ≡ [] → AreRead conds (take i numbers) before old now mid → ended ≡ mid ++ range_steps now.has_answer now.ranges
     → whole ≡ ended ++ step.Whole ∷ [] → last ≡ whole ++ step.And ∷ [] → last ≡ steps_of from conds
 all_read from conds numbers i before now old mid ended whole last same end fresh empty nothing h closed first second =
     let own : conds_at conds (take i numbers) ≡ own_conjuncts from conds = ap (conds_at conds) (take_all i numbers end ∙ same) ∙ numbers_give (names_just from) conds in

@@ -11,7 +11,7 @@ use Rattle.degree_sequences.specs.Saturation.{saturated}
 use Rattle.filtered_lists.proofs.Lists.{sum-lesser}
 use Rattle.degree_sequences.proofs.ByRank.{sum-rank_sum}
 use Rattle.predicate_bounds.specs.ListRuns.{total_of, is_small, after_list_step, after_list_steps}
-use Rattle.predicate_bounds.specs.Runs.{put_together}
+use Rattle.predicate_bounds.specs.Runs.{combine_top}
 use Rattle.predicate_bounds.specs.declared.running.ListStep.{ListStep}
 
 -- ---- pushing a list, and combining the two lists on top
@@ -20,9 +20,9 @@ pub pushed : (old new : List (List ℕ)) (x : List ℕ) → new ≡ old ++ x ∷
 pushed old new x h = ap reverse h ∙ reverse-append old (x ∷ [])
 
 pub two_put_together : (f : List ℕ → List ℕ → List ℕ) (old mid rest new : List (List ℕ)) (x y : List ℕ) → old ≡ mid ++ y ∷ [] → mid ≡ rest ++ x ∷ [] → new ≡ rest ++ f x y ∷ []
-    → reverse new ≡ put_together f (reverse old)
+    → reverse new ≡ combine_top f (reverse old)
 two_put_together f old mid rest new x y h k l =
-    pushed rest new (f x y) l ∙ sym (ap (put_together f) (pushed mid old y h ∙ ap (λ (s : List (List ℕ)). y ∷ s) (pushed rest mid x k)))
+    pushed rest new (f x y) l ∙ sym (ap (combine_top f) (pushed mid old y h ∙ ap (λ (s : List (List ℕ)). y ∷ s) (pushed rest mid x k)))
 
 -- ---- the sum of all lists on the stack, after a push, an And and an Or
 

@@ -9,33 +9,33 @@ use Rattle.predicate_bounds.specs.declared.reading.Members.{Members}
 use Rattle.predicate_bounds.specs.Steps.{range_of, range_in}
 
 -- the steps after those of a member: And, if an earlier member has left an answer on the stack, and otherwise no step
-abbrev pub closing : Bool → List Step
-closing false = []
-closing true = step.And ∷ []
+abbrev pub and_if_earlier : Bool → List Step
+and_if_earlier false = []
+and_if_earlier true = step.And ∷ []
 
--- the steps of members, where `some` says whether a member before them has left an answer on the stack
+-- the steps of members, where `has_answer` says whether a member before them has left an answer on the stack
 abbrev pub more_steps : Bool → List (List Step) → List Step
-more_steps some [] = []
-more_steps some (steps ∷ members) = steps ++ (closing some ++ more_steps true members)
+more_steps has_answer [] = []
+more_steps has_answer (steps ∷ members) = steps ++ (and_if_earlier has_answer ++ more_steps true members)
 
-abbrev pub is_some_of : {A : Type 0} → List A → Bool
-is_some_of [] = false
-is_some_of (x ∷ xs) = true
+abbrev pub is_not_empty : {A : Type 0} → List A → Bool
+is_not_empty [] = false
+is_not_empty (x ∷ xs) = true
 
 -- the members of conjunction `c` were added to the members of an AND: the ranges of `c` come after the ranges before, and the steps of its
 -- other members after the old steps
 pub record IsConjunctionAdded (before : Members) (old : List Step) (after : Members) (new : List Step) (c : Conjunction (List Step)) : Type 0 where
-  pub steps : new ≡ old ++ more_steps before.some c.others
+  pub steps : new ≡ old ++ more_steps before.has_answer c.others
   pub ranges : after.ranges ≡ before.ranges ++ map range_in c.ranges
-  pub some : after.some ≡ (before.some || is_some_of c.others)
+  pub has_answer : after.has_answer ≡ (before.has_answer || is_not_empty c.others)
 
 -- the steps that end an AND, where the list has the steps of its ranges, one range for each column. An AND without a member lets every row
 -- pass: its step is Whole
 abbrev pub last_steps : Bool → List (List Step) → List Step
 last_steps false [] = step.Whole ∷ []
 last_steps true [] = []
-last_steps some (steps ∷ members) = more_steps some (steps ∷ members)
+last_steps has_answer (steps ∷ members) = more_steps has_answer (steps ∷ members)
 
 -- the steps that end an AND with these ranges. Ranges of one column become one range first
-abbrev pub ending : Bool → List Range → List Step
-ending some ranges = last_steps some (map (λ range. step.Within (range_in range) ∷ []) (intersection_for_each_column (map range_of ranges)))
+abbrev pub range_steps : Bool → List Range → List Step
+range_steps has_answer ranges = last_steps has_answer (map (λ range. step.Within (range_in range) ∷ []) (intersection_for_each_column (map range_of ranges)))

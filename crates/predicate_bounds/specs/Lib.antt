@@ -4,4 +4,4 @@ pub mod Comparing
 pub mod Narrowing
 pub mod Added
 pub mod ListRuns
-pub mod Told
+pub mod StatsLists

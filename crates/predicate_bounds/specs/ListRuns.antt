@@ -8,14 +8,14 @@ use Rattle.predicate_bounds.specs.declared.running.ListStep.{ListStep}
 use Rattle.predicate_bounds.specs.declared.running.ListStep.TheVariants as list_step
 use Rattle.predicate_bounds.specs.declared.steps.Step.{Step}
 use Rattle.predicate_bounds.specs.declared.steps.Step.TheVariants as step
-use Rattle.predicate_bounds.specs.Runs.{put_together}
+use Rattle.predicate_bounds.specs.Runs.{combine_top}
 use Rattle.predicate_bounds.specs.Steps.{value_of, range_of}
 
 abbrev pub after_list_step : ListStep → List (List ℕ) → List (List ℕ)
 after_list_step (list_step.List list) stack = list ∷ stack
-after_list_step list_step.And stack = put_together lesser stack
+after_list_step list_step.And stack = combine_top lesser stack
 after_list_step list_step.Nothing stack = [] ∷ stack
-after_list_step list_step.Or stack = put_together rank_sum stack
+after_list_step list_step.Or stack = combine_top rank_sum stack
 
 abbrev pub after_list_steps : List ListStep → List (List ℕ) → List (List ℕ)
 after_list_steps [] stack = stack
@@ -37,10 +37,10 @@ is_small list_step.Nothing = true
 is_small list_step.Or = true
 
 -- a step with the list that it asks for
-abbrev pub listed : ColumnLists → Step → ListStep
-listed lists step.Whole = list_step.List lists.whole
-listed lists (step.Equal column literal) = list_step.List (lists.equal column (value_of literal))
-listed lists (step.Within range) = list_step.List (lists.range (range_of range))
-listed lists step.And = list_step.And
-listed lists step.Nothing = list_step.Nothing
-listed lists step.Or = list_step.Or
+abbrev pub with_list : ColumnLists → Step → ListStep
+with_list lists step.Whole = list_step.List lists.whole
+with_list lists (step.Equal column literal) = list_step.List (lists.equal column (value_of literal))
+with_list lists (step.Within range) = list_step.List (lists.range (range_of range))
+with_list lists step.And = list_step.And
+with_list lists step.Nothing = list_step.Nothing
+with_list lists step.Or = list_step.Or

@@ -14,14 +14,14 @@ is_below None value = false
 is_below (Some end) value = is_gt (value_cmp value end)
 
 -- the greater of two low ends, and the lower of two high ends. If one end is missing, the other one is taken
-abbrev pub more_low : Option Value → Option Value → Option Value
-more_low None other = other
-more_low (Some value) other = Some (greater_of value other)
+abbrev pub greater_low : Option Value → Option Value → Option Value
+greater_low None other = other
+greater_low (Some value) other = Some (greater_of value other)
 
-abbrev pub more_high : Option Value → Option Value → Option Value
-more_high None other = other
-more_high (Some value) other = Some (lesser_of value other)
+abbrev pub lower_high : Option Value → Option Value → Option Value
+lower_high None other = other
+lower_high (Some value) other = Some (lesser_of value other)
 
 -- the intersection of two ranges of one column
 abbrev pub narrowed : Range → Range → Range
-narrowed range one = record { column = one.column; low = more_low range.low one.low; high = more_high range.high one.high }
+narrowed range one = record { column = one.column; low = greater_low range.low one.low; high = lower_high range.high one.high }

@@ -6,18 +6,18 @@ use Rattle.predicate_bounds.specs.declared.steps.Step.TheVariants as step
 use Rattle.predicate_bounds.specs.Steps.{value_of, range_of}
 
 -- the stack after `f` has made one answer of the two on top
-abbrev pub put_together : {A : Type 0} → (A → A → A) → List A → List A
-put_together f [] = []
-put_together f (y ∷ []) = y ∷ []
-put_together f (y ∷ (x ∷ stack)) = f x y ∷ stack
+abbrev pub combine_top : {A : Type 0} → (A → A → A) → List A → List A
+combine_top f [] = []
+combine_top f (y ∷ []) = y ∷ []
+combine_top f (y ∷ (x ∷ stack)) = f x y ∷ stack
 
 abbrev pub after_step : {A : Type 0} → ComparisonAnswers A → Step → List A → List A
 after_step answers step.Whole stack = answers.whole ∷ stack
 after_step answers (step.Equal column literal) stack = answers.equal column (value_of literal) ∷ stack
 after_step answers (step.Within range) stack = answers.range (range_of range) ∷ stack
-after_step answers step.And stack = put_together answers.both stack
+after_step answers step.And stack = combine_top answers.both stack
 after_step answers step.Nothing stack = answers.none ∷ stack
-after_step answers step.Or stack = put_together answers.either stack
+after_step answers step.Or stack = combine_top answers.either stack
 
 abbrev pub after_steps : {A : Type 0} → ComparisonAnswers A → List Step → List A → List A
 after_steps answers [] stack = stack

@@ -32,7 +32,7 @@ pub(crate) fn opposite(op: Op) -> Op
 }
 
 // The comparison that holds exactly where `op` holds with its sides swapped: < becomes >, and = stays =.
-fn turned(op: Op) -> Op
+fn mirrored(op: Op) -> Op
     ensures { result ≡ mirrored op }
 {
     match op {
@@ -89,7 +89,7 @@ pub(crate) fn compared_of(
         return compared_with(alloc, op, column.column, right);
     }
     if let Operand::Column(column) = right {
-        return compared_with(alloc, turned(op), column.column, left);
+        return compared_with(alloc, mirrored(op), column.column, left);
     }
     Ok(None)
 }

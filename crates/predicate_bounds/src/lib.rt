@@ -6,7 +6,7 @@
 //! lists that they ask for. `bound_list` and `row_bound` run these steps. This crate doesn't know where the lists come from.
 //!
 //! Callers cite `steps_of` (in `specs/Steps.antt`) for the lists that an entry's own conjuncts ask for. `HasLists` and `HasRowLists` (in
-//! `specs/Told.antt`) say which lists statistics hold. The results are `filtered_list` and `row_bound` of `filtered_lists`.
+//! `specs/StatsLists.antt`) say which lists statistics hold. The results are `filtered_list` and `row_bound` of `filtered_lists`.
 //!
 //! ```text
 //! let steps = read_steps(alloc, &query, &parts, 0)?;   // steps ≡ steps_of 0 query.conjuncts

@@ -2,7 +2,7 @@
 ghost use Rattle.std.specs.Prelude.{◌≡◌, ◌==◌, map, option_map, IfOk};
 ghost use Rattle.std.specs.List.{list_any};
 ghost use Rattle.filtered_lists.specs.Ranges.{intersection_of};
-ghost use Rattle.predicate_bounds.specs.Narrowing.{is_below, is_above, more_high, more_low, narrowed};
+ghost use Rattle.predicate_bounds.specs.Narrowing.{is_below, is_above, lower_high, greater_low, narrowed};
 ghost use Rattle.predicate_bounds.specs.Steps.{range_in, range_of, value_of};
 
 use crate::steps::{Literal, Range, compare_literals};
@@ -35,7 +35,7 @@ fn greater_low(
     one: &Option<Literal>,
     other: Option<Literal>,
 ) -> Result<Option<Literal>, NoMemory>
-    ensures { IfOk result (λ low. option_map value_of low ≡ more_low (option_map value_of one.now) (option_map value_of other)) }
+    ensures { IfOk result (λ low. option_map value_of low ≡ greater_low (option_map value_of one.now) (option_map value_of other)) }
 {
     let Some(one) = one else {
         return Ok(other);
@@ -52,7 +52,7 @@ fn lower_high(
     one: &Option<Literal>,
     other: Option<Literal>,
 ) -> Result<Option<Literal>, NoMemory>
-    ensures { IfOk result (λ high. option_map value_of high ≡ more_high (option_map value_of one.now) (option_map value_of other)) }
+    ensures { IfOk result (λ high. option_map value_of high ≡ lower_high (option_map value_of one.now) (option_map value_of other)) }
 {
     let Some(one) = one else {
         return Ok(other);

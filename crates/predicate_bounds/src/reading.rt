@@ -4,7 +4,7 @@ ghost use Rattle.std.specs.Prelude.{◌≡◌, ◌<◌, ◌++◌, ◌∷◌, [],
 ghost use Rattle.filtered_lists.specs.Comparisons.{comparison_of};
 ghost use Rattle.filtered_lists.specs.Filters.{and_answer, conjunction_of, one_conjunction, or_answer};
 ghost use Rattle.filtered_lists.specs.Filters.{of_answer, of_comparison, of_comparison_or_whole};
-ghost use Rattle.predicate_bounds.specs.Added.{IsConjunctionAdded, closing, ending};
+ghost use Rattle.predicate_bounds.specs.Added.{IsConjunctionAdded, and_if_earlier, range_steps};
 ghost use Rattle.predicate_bounds.specs.Steps.{range_of, step_answers, steps_of, value_of};
 ghost use Rattle.join_graph.specs.Conjuncts.{local_of, names_just, numbers_where};
 
@@ -17,42 +17,42 @@ use query_grammar::Op;
 use query_types::{Cond, Operand, Query};
 use std::alloc::Global;
 
-/// The members of an AND that were read so far. `some` says whether a member has left an answer on the stack. `ranges` has the ranges of the
+/// The members of an AND that were read so far. `has_answer` says whether a member has left an answer on the stack. `ranges` has the ranges of the
 /// comparisons with < <= > >=, whose steps come at the end of the AND.
 #[derive(Drop)]
 pub(crate) struct Members {
-    pub some: bool,
+    pub has_answer: bool,
     pub ranges: Seq<Range>,
 }
 
 impl Members {
     // No member yet.
     fn none(alloc: Global) -> Members
-        ensures some { result.some ≡ false }
+        ensures has_answer { result.has_answer ≡ false }
         ensures ranges { result.ranges ≡ [] }
     {
         Members {
-            some: false,
+            has_answer: false,
             ranges: Seq::new(alloc),
         }
     }
 
     // Ends the steps of a member that leaves an answer on the stack: adds the step And, if an earlier member has left an answer there too.
-    fn close(&mut self, steps: &mut Seq<Step>) -> Result<(), NoMemory>
-        ensures steps { OnOk result (steps.new ≡ steps.old ++ closing self.old.some) }
-        ensures some { OnOk result (self.new.some ≡ true) }
+    fn add_and(&mut self, steps: &mut Seq<Step>) -> Result<(), NoMemory>
+        ensures steps { OnOk result (steps.new ≡ steps.old ++ and_if_earlier self.old.has_answer) }
+        ensures has_answer { OnOk result (self.new.has_answer ≡ true) }
         ensures ranges { OnOk result (self.new.ranges ≡ self.old.ranges) }
     {
-        if self.some {
+        if self.has_answer {
             steps.push(Step::And)?;
         }
-        self.some = true;
+        self.has_answer = true;
         Ok(())
     }
 
     // Ends the AND: adds the steps of its ranges, one range for each column. If the AND has no members, adds the step Whole.
     fn finish(&mut self, alloc: Global, steps: &mut Seq<Step>) -> Result<(), NoMemory>
-        ensures { OnOk result (steps.new ≡ steps.old ++ ending self.old.some self.old.ranges) }
+        ensures { OnOk result (steps.new ≡ steps.old ++ range_steps self.old.has_answer self.old.ranges) }
     {
         let len = self.ranges.len();
         for i in 0..len {
@@ -60,10 +60,10 @@ impl Members {
             let column = ranges[i].column;
             if !has_column(&ranges[..i], column) {
                 steps.push(Step::Within(intersection_of(alloc, ranges, column)?))?;
-                self.close(steps)?;
+                self.add_and(steps)?;
             }
         }
-        if !self.some {
+        if !self.has_answer {
             steps.push(Step::Whole)?;
         }
         Ok(())
@@ -87,7 +87,7 @@ impl Members {
         match op {
             Op::Eq => {
                 steps.push(Step::Equal { column, literal })?;
-                self.close(steps)
+                self.add_and(steps)
             }
             Op::Ne => {
                 let below = Range {
@@ -103,7 +103,7 @@ impl Members {
                 steps.push(Step::Within(below))?;
                 steps.push(Step::Within(above))?;
                 steps.push(Step::Or)?;
-                self.close(steps)
+                self.add_and(steps)
             }
             Op::Lt | Op::Le => self.ranges.push(Range {
                 column,
@@ -134,7 +134,7 @@ impl Members {
             Some(compared) => self.add_compared(alloc, compared, steps),
             None => {
                 steps.push(Step::Whole)?;
-                self.close(steps)
+                self.add_and(steps)
             }
         }
     }
@@ -208,7 +208,7 @@ impl Members {
             add_answer(alloc, cond, holds, steps)?;
             steps.push(Step::Or)?;
         }
-        self.close(steps)
+        self.add_and(steps)
     }
 }
 

@@ -3,7 +3,7 @@ ghost use Rattle.std.specs.Prelude.{◌≡◌, ◌+◌, ◌*◌, ◌^◌, ◌<�
 ghost use Rattle.std.specs.List.{list_all, sum_by, sum};
 ghost use Rattle.degree_sequences.specs.ByRank.{rank_sum};
 ghost use Rattle.degree_sequences.specs.RunningSums.{lesser};
-ghost use Rattle.predicate_bounds.specs.Runs.{put_together};
+ghost use Rattle.predicate_bounds.specs.Runs.{combine_top};
 ghost use Rattle.predicate_bounds.specs.ListRuns.{after_list_step, after_list_steps, is_small, top_of, total_of};
 
 use base_io::{NoMemory, Seq};
@@ -26,7 +26,7 @@ pub enum ListStep {
 // Replaces the two lists on top by their AND.
 fn and_top(stack: &mut Seq<Pieces>) -> Result<(), NoMemory>
     requires { total_of stack.old < 2 ^ 128 }
-    ensures lists { OnOk result (reverse stack.new ≡ put_together lesser (reverse stack.old)) }
+    ensures lists { OnOk result (reverse stack.new ≡ combine_top lesser (reverse stack.old)) }
     ensures total { OnOk result (total_of stack.new ≤ total_of stack.old) }
 {
     let Some(y) = stack.pop() else {
@@ -42,7 +42,7 @@ fn and_top(stack: &mut Seq<Pieces>) -> Result<(), NoMemory>
 // Replaces the two lists on top by their OR.
 fn or_top(stack: &mut Seq<Pieces>) -> Result<(), NoMemory>
     requires { total_of stack.old < 2 ^ 128 }
-    ensures lists { OnOk result (reverse stack.new ≡ put_together rank_sum (reverse stack.old)) }
+    ensures lists { OnOk result (reverse stack.new ≡ combine_top rank_sum (reverse stack.old)) }
     ensures total { OnOk result (total_of stack.new ≤ total_of stack.old) }
 {
     let Some(y) = stack.pop() else {

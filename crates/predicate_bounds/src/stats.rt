@@ -5,7 +5,7 @@ ghost use Rattle.query_types.specs.declared.types.Query.{Query};
 ghost use Rattle.sql_meaning.specs.Tables.{Tables};
 ghost use Rattle.filtered_lists.specs.Lists.{ColumnLists, RowCounts, filtered_list, row_bound};
 ghost use Rattle.filtered_lists.specs.Standing.{ListsStandFor, SumTo, scan_of};
-ghost use Rattle.predicate_bounds.specs.Told.{HasLists, HasRowLists, column_steps, columns_of, first_steps, list_in_stats, row_bound_in_stats};
+ghost use Rattle.predicate_bounds.specs.StatsLists.{HasLists, HasRowLists, column_steps, columns_of, first_steps, list_in_stats, row_bound_in_stats};
 
 use crate::columns::{ColumnSteps, QueryStats};
 use crate::running::run;

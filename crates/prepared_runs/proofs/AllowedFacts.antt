@@ -5,11 +5,11 @@ use Rattle.order_search.specs.declared.refusal.PlanError.{PlanError}
 use Rattle.plans.specs.declared.left_deep.Plan.{Plan}
 use Rattle.plan_answers.specs.PlanAnswer.{plan_answer}
 use Rattle.plan_answers.specs.Promised.{IsPromised}
-use Rattle.plan_answers.proofs.OneChoice.{allowed}
+use Rattle.plan_answers.proofs.OneAnswer.{allowed}
 use Rattle.tree_plans.specs.declared.bushy.BushyPlan.{BushyPlan}
 use Rattle.tree_answers.specs.TreeAnswer.{tree_answer}
 use Rattle.tree_answers.specs.Promised as trees
-use Rattle.tree_answers.proofs.OneChoice as tree_choice
+use Rattle.tree_answers.proofs.OneAnswer as tree_choice
 use Rattle.planning.specs.Standing.{BoundLists}
 use Rattle.query_types.specs.declared.types.Query.{Query}
 use Rattle.sql_meaning.specs.Tables.{Tables}
@@ -19,7 +19,7 @@ use Rattle.prepared_runs.specs.Sources.{Sourced}
 use Rattle.prepared_runs.specs.declared.shapes.AnyPlan.{AnyPlan}
 use Rattle.safebound_words.specs.declared.command.Shape.{Shape}
 use Rattle.safebound_words.specs.declared.command.Shape.TheVariants as shapes
-use Rattle.prepared_runs.proofs.ShapeFacts.{along, over, seen_ok}
+use Rattle.prepared_runs.proofs.ShapeFacts.{as_order_plan, as_tree_plan, mapped_ok}
 
 module _ (sets scans : List ℕ) (budget : ℕ) where
   order_costs : (plan : Plan) → plan_answer sets scans budget ≡ Ok plan → greatest plan.levels ≤ budget
@@ -36,10 +36,10 @@ module _ (sets scans : List ℕ) (budget : ℕ) where
 
   answer_costs : (shape : Shape) (plan : AnyPlan) → 1 ≤ length scans → length scans ≤ 12 → answer_of shape sets scans budget ≡ Ok plan → shape_cost plan ≤ budget
   answer_costs shapes.Order plan some few made =
-      let it = seen_ok along (plan_answer sets scans budget) plan made in
+      let it = mapped_ok as_order_plan (plan_answer sets scans budget) plan made in
       subst (λ (p : AnyPlan). shape_cost p ≤ budget) it.2 (order_costs it.0 it.1)
   answer_costs shapes.Tree plan some few made =
-      let it = seen_ok over (tree_answer sets scans budget) plan made in
+      let it = mapped_ok as_tree_plan (tree_answer sets scans budget) plan made in
       subst (λ (p : AnyPlan). shape_cost p ≤ budget) it.2 (tree_costs it.0 some few it.1)
 
 pub plan_costs : (query : Query) (tables : Tables) (given : Sourced) (accuracy budget : ℕ) → BoundLists query tables given.lists (given.scans accuracy) → 1 ≤ length query.from → length query.from ≤ 12

@@ -15,9 +15,9 @@ use Rattle.text_answers.proofs.SchemaAnswers as schemas
 use Rattle.csv_tables.specs.Rows.{Row}
 use Rattle.order_search.specs.declared.refusal.PlanError.{PlanError}
 use Rattle.order_search.specs.declared.refusal.PlanError.TheVariants as plan
-use Rattle.outcomes.specs.Errors.{plan_ending, plan_refusal, query_ending, query_refusal, schema_ending, schema_refusal}
-use Rattle.outcomes.specs.Reads.{◌>>=◌, StopsBy, told}
-use Rattle.outcomes.specs.declared.ending.Ending.TheVariants as ending
+use Rattle.outcomes.specs.Errors.{plan_failure, plan_refusal, query_failure, query_refusal, schema_failure, schema_refusal}
+use Rattle.outcomes.specs.Reads.{◌>>=◌, StopsBy, with_refusal}
+use Rattle.outcomes.specs.declared.failure.Failure.TheVariants as failure
 use Rattle.outcomes.specs.declared.refusal.Refusal.{Refusal}
 use Rattle.sql_meaning.specs.Tables.{Tables}
 use Rattle.table_files.specs.EntryTables.{tables_in}
@@ -39,33 +39,33 @@ schema_read text x is = same_value schema.NoMemory (schema_answer text) x (schem
 pub query_read : (s : Schema) (text : List ℕ) (x : Query) → IsAnswer s text (Ok x) → query_answer s text ≡ Ok x
 query_read s text x is = same_value query.NoMemory (query_answer s text) x (queries.only s text (Ok x) is)
 
-schema_tells : (answer : Result Schema SchemaError) (e : SchemaError) → (◌≡◌ {A = Result Schema SchemaError} (Err e) (Err schema.NoMemory)) ⊎ (Err e ≡ answer) → StopsBy (told schema_refusal answer) (schema_ending e)
-schema_tells answer schema.NoMemory h = tt
-schema_tells answer (schema.Syntax at) (inl e) = cc
-schema_tells answer (schema.Syntax at) (inr e) = (ap (told schema_refusal) (sym e), (λ file h. cc), (λ h. cc))
-schema_tells answer (schema.Name at) (inl e) = cc
-schema_tells answer (schema.Name at) (inr e) = (ap (told schema_refusal) (sym e), (λ file h. cc), (λ h. cc))
-schema_tells answer (schema.Nullable at) (inl e) = cc
-schema_tells answer (schema.Nullable at) (inr e) = (ap (told schema_refusal) (sym e), (λ file h. cc), (λ h. cc))
-schema_tells answer (schema.Limit which found) (inl e) = cc
-schema_tells answer (schema.Limit which found) (inr e) = (ap (told schema_refusal) (sym e), (λ file h. cc), (λ h. cc))
+schema_error_stops : (answer : Result Schema SchemaError) (e : SchemaError) → (◌≡◌ {A = Result Schema SchemaError} (Err e) (Err schema.NoMemory)) ⊎ (Err e ≡ answer) → StopsBy (with_refusal schema_refusal answer) (schema_failure e)
+schema_error_stops answer schema.NoMemory h = tt
+schema_error_stops answer (schema.Syntax at) (inl e) = cc
+schema_error_stops answer (schema.Syntax at) (inr e) = (ap (with_refusal schema_refusal) (sym e), (λ file h. cc), (λ h. cc))
+schema_error_stops answer (schema.Name at) (inl e) = cc
+schema_error_stops answer (schema.Name at) (inr e) = (ap (with_refusal schema_refusal) (sym e), (λ file h. cc), (λ h. cc))
+schema_error_stops answer (schema.Nullable at) (inl e) = cc
+schema_error_stops answer (schema.Nullable at) (inr e) = (ap (with_refusal schema_refusal) (sym e), (λ file h. cc), (λ h. cc))
+schema_error_stops answer (schema.Limit which found) (inl e) = cc
+schema_error_stops answer (schema.Limit which found) (inr e) = (ap (with_refusal schema_refusal) (sym e), (λ file h. cc), (λ h. cc))
 
-pub schema_told : (text : List ℕ) (e : SchemaError) → IsSchemaOf text (Err e) → StopsBy (told schema_refusal (schema_answer text)) (schema_ending e)
-schema_told text e is = schema_tells (schema_answer text) e (schemas.only text (Err e) is)
+pub schema_stops_by : (text : List ℕ) (e : SchemaError) → IsSchemaOf text (Err e) → StopsBy (with_refusal schema_refusal (schema_answer text)) (schema_failure e)
+schema_stops_by text e is = schema_error_stops (schema_answer text) e (schemas.only text (Err e) is)
 
-query_tells : (answer : Result Query QueryError) (e : QueryError) → (◌≡◌ {A = Result Query QueryError} (Err e) (Err query.NoMemory)) ⊎ (Err e ≡ answer) → StopsBy (told query_refusal answer) (query_ending e)
-query_tells answer query.NoMemory h = tt
-query_tells answer (query.Syntax at) (inl e) = cc
-query_tells answer (query.Syntax at) (inr e) = (ap (told query_refusal) (sym e), (λ file h. cc), (λ h. cc))
-query_tells answer (query.Name at) (inl e) = cc
-query_tells answer (query.Name at) (inr e) = (ap (told query_refusal) (sym e), (λ file h. cc), (λ h. cc))
-query_tells answer (query.Kind at) (inl e) = cc
-query_tells answer (query.Kind at) (inr e) = (ap (told query_refusal) (sym e), (λ file h. cc), (λ h. cc))
-query_tells answer (query.Limit which found) (inl e) = cc
-query_tells answer (query.Limit which found) (inr e) = (ap (told query_refusal) (sym e), (λ file h. cc), (λ h. cc))
+query_error_stops : (answer : Result Query QueryError) (e : QueryError) → (◌≡◌ {A = Result Query QueryError} (Err e) (Err query.NoMemory)) ⊎ (Err e ≡ answer) → StopsBy (with_refusal query_refusal answer) (query_failure e)
+query_error_stops answer query.NoMemory h = tt
+query_error_stops answer (query.Syntax at) (inl e) = cc
+query_error_stops answer (query.Syntax at) (inr e) = (ap (with_refusal query_refusal) (sym e), (λ file h. cc), (λ h. cc))
+query_error_stops answer (query.Name at) (inl e) = cc
+query_error_stops answer (query.Name at) (inr e) = (ap (with_refusal query_refusal) (sym e), (λ file h. cc), (λ h. cc))
+query_error_stops answer (query.Kind at) (inl e) = cc
+query_error_stops answer (query.Kind at) (inr e) = (ap (with_refusal query_refusal) (sym e), (λ file h. cc), (λ h. cc))
+query_error_stops answer (query.Limit which found) (inl e) = cc
+query_error_stops answer (query.Limit which found) (inr e) = (ap (with_refusal query_refusal) (sym e), (λ file h. cc), (λ h. cc))
 
-pub query_told : (s : Schema) (text : List ℕ) (e : QueryError) → IsAnswer s text (Err e) → StopsBy (told query_refusal (query_answer s text)) (query_ending e)
-query_told s text e is = query_tells (query_answer s text) e (queries.only s text (Err e) is)
+pub query_stops_by : (s : Schema) (text : List ℕ) (e : QueryError) → IsAnswer s text (Err e) → StopsBy (with_refusal query_refusal (query_answer s text)) (query_failure e)
+query_stops_by s text e is = query_error_stops (query_answer s text) e (queries.only s text (Err e) is)
 
 -- ---- plans
 
@@ -78,13 +78,13 @@ was_refused answer e (inl none) = inl cc
 was_refused answer e (inr is) = inr (sym is)
 
 module _ (next : AnyPlan → Result RunOutcome Refusal) where
-  plan_tells : (answer : Result AnyPlan PlanError) (e : PlanError) → (e ≡ plan.NoMemory) ⊎ (answer ≡ Err e)
-      → StopsBy (told plan_refusal answer >>= next) (plan_ending e)
-  plan_tells answer plan.NoMemory h = tt
-  plan_tells answer (plan.Budget least) (inl e) = cc
-  plan_tells answer (plan.Budget least) (inr e) = (ap (λ (r : Result AnyPlan PlanError). told plan_refusal r >>= next) e, (λ file h. cc), (λ h. cc))
-  plan_tells answer plan.PastBits (inl e) = cc
-  plan_tells answer plan.PastBits (inr e) = (ap (λ (r : Result AnyPlan PlanError). told plan_refusal r >>= next) e, (λ file h. cc), (λ h. cc))
+  plan_error_stops : (answer : Result AnyPlan PlanError) (e : PlanError) → (e ≡ plan.NoMemory) ⊎ (answer ≡ Err e)
+      → StopsBy (with_refusal plan_refusal answer >>= next) (plan_failure e)
+  plan_error_stops answer plan.NoMemory h = tt
+  plan_error_stops answer (plan.Budget least) (inl e) = cc
+  plan_error_stops answer (plan.Budget least) (inr e) = (ap (λ (r : Result AnyPlan PlanError). with_refusal plan_refusal r >>= next) e, (λ file h. cc), (λ h. cc))
+  plan_error_stops answer plan.PastBits (inl e) = cc
+  plan_error_stops answer plan.PastBits (inr e) = (ap (λ (r : Result AnyPlan PlanError). with_refusal plan_refusal r >>= next) e, (λ file h. cc), (λ h. cc))
 
 -- a plan within the budget is refused only if its bytes are past the limit of memory
 module _ (limit : Option ℕ) (outcome : AnyPlan → RunOutcome) (answer : Result AnyPlan PlanError) where
@@ -92,18 +92,18 @@ module _ (limit : Option ℕ) (outcome : AnyPlan → RunOutcome) (answer : Resul
   limited p = within_limit limit (shape_bytes p) (outcome p)
 
   planned_at : (p : AnyPlan) → answer ≡ Ok p → planned_within limit outcome answer ≡ within_limit limit (shape_bytes p) (outcome p)
-  planned_at p is = ap (λ (r : Result AnyPlan PlanError). told plan_refusal r >>= limited) is
+  planned_at p is = ap (λ (r : Result AnyPlan PlanError). with_refusal plan_refusal r >>= limited) is
 
   pub planned_kept : (p : AnyPlan) → answer ≡ Ok p → limit_test limit (shape_bytes p) ≡ Ok tt → planned_within limit outcome answer ≡ Ok (outcome p)
   planned_kept p is fits = planned_at p is ∙ kept limit (shape_bytes p) (outcome p) fits
 
   pub planned_past : (p : AnyPlan) → answer ≡ Ok p → (r : Refusal) → limit_test limit (shape_bytes p) ≡ Err r
-      → StopsBy (planned_within limit outcome answer) (ending.Refused r)
+      → StopsBy (planned_within limit outcome answer) (failure.Refused r)
   planned_past p is r above =
-      subst (λ (s : Result RunOutcome Refusal). StopsBy s (ending.Refused r)) (sym (planned_at p is)) (stops limit (shape_bytes p) (outcome p) r above)
+      subst (λ (s : Result RunOutcome Refusal). StopsBy s (failure.Refused r)) (sym (planned_at p is)) (stops limit (shape_bytes p) (outcome p) r above)
 
-  pub planned_told : (e : PlanError) → (e ≡ plan.NoMemory) ⊎ (answer ≡ Err e) → StopsBy (planned_within limit outcome answer) (plan_ending e)
-  planned_told e h = plan_tells limited answer e h
+  pub planned_stops_by : (e : PlanError) → (e ≡ plan.NoMemory) ⊎ (answer ≡ Err e) → StopsBy (planned_within limit outcome answer) (plan_failure e)
+  planned_stops_by e h = plan_error_stops limited answer e h
 
 module _ (task : PlanWork) (schema : Schema) (query : Query) (rows : List (List Row)) (t : Tables) (same : tables_in rows ≡ t) where
   over_rows : plan_asked task schema query (tables_in rows) ≡ plan_asked task schema query t
@@ -117,13 +117,13 @@ module _ (task : PlanWork) (schema : Schema) (query : Query) (rows : List (List 
   unfolding plan_stage
   plan_stage_ok p is fits = planned_kept task.terms.memory made (plan_asked task schema query (tables_in rows)) p (over_rows ∙ is) fits
 
-  pub limit_told : (p : AnyPlan) → plan_asked task schema query t ≡ Ok p → (r : Refusal) → limit_test task.terms.memory (shape_bytes p) ≡ Err r
-      → StopsBy (plan_stage task schema query rows) (ending.Refused r)
+  pub limit_stops_by : (p : AnyPlan) → plan_asked task schema query t ≡ Ok p → (r : Refusal) → limit_test task.terms.memory (shape_bytes p) ≡ Err r
+      → StopsBy (plan_stage task schema query rows) (failure.Refused r)
   unfolding plan_stage
-  limit_told p is r above = planned_past task.terms.memory made (plan_asked task schema query (tables_in rows)) p (over_rows ∙ is) r above
+  limit_stops_by p is r above = planned_past task.terms.memory made (plan_asked task schema query (tables_in rows)) p (over_rows ∙ is) r above
 
-  pub plan_told : (e : PlanError) → (e ≡ plan.NoMemory) ⊎ (plan_asked task schema query t ≡ Err e) → StopsBy (plan_stage task schema query rows) (plan_ending e)
+  pub plan_stops_by : (e : PlanError) → (e ≡ plan.NoMemory) ⊎ (plan_asked task schema query t ≡ Err e) → StopsBy (plan_stage task schema query rows) (plan_failure e)
   unfolding plan_stage
-  plan_told e h =
-      planned_told task.terms.memory made (plan_asked task schema query (tables_in rows)) e
+  plan_stops_by e h =
+      planned_stops_by task.terms.memory made (plan_asked task schema query (tables_in rows)) e
       (subst (λ (r : Result AnyPlan PlanError). (e ≡ plan.NoMemory) ⊎ (r ≡ Err e)) (sym over_rows) h)

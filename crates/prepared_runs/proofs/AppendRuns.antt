@@ -1,5 +1,5 @@
 -- Every outcome of `append` is an earlier statistics file with rows added, and stands for the earlier file's tables with these rows
--- (`StandsForMore`).
+-- (`StandsAfterAppend`).
 use Rattle.std.proofs.Common.{◌≡◌, ℕ, ◌+◌, List, Result, Ok, Err, length, refl, subst, sym, inl, inr}
 use Rattle.std.specs.Prelude.{IfOk, nat_le}
 use Rattle.std.proofs.lemmas.Bool.{cases_Bool}
@@ -19,7 +19,7 @@ use Rattle.table_files.specs.TableFile.{rows_in}
 use Rattle.prepared_runs.specs.Appending.{append_run, grown_stage, rows_run, section_stage, stats_run}
 use Rattle.safebound_words.specs.declared.command.NewRows.{NewRows}
 use Rattle.prepared_runs.specs.StatsFiles.{stats_stage}
-use Rattle.prepared_runs.specs.RunOutcome.{Appended, AppendedRows, NoBoundIsTooLow, RunOutcome, StandsForMore}
+use Rattle.prepared_runs.specs.RunOutcome.{Appended, AppendedRows, NoBoundIsTooLow, RunOutcome, StandsAfterAppend}
 use Rattle.prepared_runs.proofs.StatsFileRuns.{stats_keep}
 
 pub then_ok : {A B : Type 0} (P : A → Type 0) (Q : B → Type 0) (r : Result A Refusal) (f : A → Result B Refusal) → IfOk r P → ((x : A) → P x → IfOk (f x) Q) → IfOk (r >>= f) Q
@@ -30,11 +30,11 @@ pub any_ok : {A B : Type 0} (Q : B → Type 0) (r : Result A Refusal) (f : A →
 any_ok Q (Ok x) f next = next x
 any_ok Q (Err s) f next = tt
 
-module _ (append : NewRows) (schema : Schema) (Q : RunOutcome → Type 0) (so : (made : AppendedRows) → StandsForMore made → Q (Appended made)) where
+module _ (append : NewRows) (schema : Schema) (Q : RunOutcome → Type 0) (so : (made : AppendedRows) → StandsAfterAppend made → Q (Appended made)) where
   abbrev with_rows : StatsFile → ℕ → List Row → AppendedRows
   with_rows stats table rows = record { schema = schema; table = table; rows = rows; file = file_after stats table rows }
 
-  stands : (stats : StatsFile) (table : ℕ) (rows : List Row) → KeepsRules schema stats → StandsForMore (with_rows stats table rows)
+  stands : (stats : StatsFile) (table : ℕ) (rows : List Row) → KeepsRules schema stats → StandsAfterAppend (with_rows stats table rows)
   stands stats table rows keeps = record {
     before = stats;
     keeps = keeps;

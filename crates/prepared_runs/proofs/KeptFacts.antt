@@ -12,11 +12,11 @@ use Rattle.plan_answers.specs.PlanAnswer.{plan_answer}
 use Rattle.tree_answers.specs.TreeAnswer.{tree_answer}
 use Rattle.planning.specs.Standing.{BoundLists}
 use Rattle.planning.proofs.FromLists.{is_plan_from, scan_kept}
-use Rattle.bushy_planning.proofs.Stages as stages
+use Rattle.bushy_planning.proofs.ChosenTrees as stages
 use Rattle.query_types.specs.declared.types.Query.{Query}
 use Rattle.schema_types.specs.declared.types.Schema.{Schema}
 use Rattle.sql_meaning.specs.Tables.{Tables, tables_of}
-use Rattle.join_steps.specs.Lists.{list_levels, list_sizes, lists_of, rows_listed, AreOfScans}
+use Rattle.join_steps.specs.Lists.{list_levels, list_sizes, lists_of, listed_row_count, AreOfScans}
 use Rattle.join_steps.proofs.WholeScans.{count_of, length-lists_of, list_in, no_rows, size_at, size_count}
 use Rattle.joined_texts.proofs.AuditLines.{counts_of_levels}
 use Rattle.reduced_scans.specs.Lists.{HaveNoSpare}
@@ -26,9 +26,9 @@ use Rattle.outcomes.specs.declared.names.FileId.TheVariants as file
 use Rattle.outcomes.specs.declared.refusal.Refusal.{Refusal}
 use Rattle.table_files.specs.EntryTables.{entry_rows, tables_in}
 use Rattle.safebound_words.specs.declared.command.Command.{Command}
-use Rattle.prepared_runs.specs.Kept.{bytes_in, counts_in, plan_joined, rows_in, AreDone, HasParts, IsJoined, IsKept, IsLeft, KeepsItsBuffers}
+use Rattle.prepared_runs.specs.KeptBuffers.{joined_bytes, counts_in, plan_joined, part_rows_in, AreDone, HasParts, IsJoined, HasBuffersOf, KeepsPending, KeepsItsBuffers}
 use Rattle.prepared_runs.specs.RunOutcome.{RunOutcome, Planned}
-use Rattle.prepared_runs.specs.PreparedQuery.{bytes_held, plan_in, plan_left, text_left, AreOverLists, HoldsBytes}
+use Rattle.prepared_runs.specs.PreparedQuery.{room_and_list_bytes, plan_in, pending_plan, pending_text, AreOverLists, HoldsBytes}
 use Rattle.prepared_runs.specs.Shapes.{answer_of, part_count, part_rows, part_sizes, parts_bytes, planned_by, scan_bounds, shape_bytes}
 use Rattle.prepared_runs.specs.Shops.{shop_of, store_read}
 use Rattle.prepared_runs.specs.Sources.{Sourced}
@@ -44,7 +44,7 @@ use Rattle.safebound_words.specs.declared.command.ListSource.{ListSource}
 use Rattle.safebound_words.specs.declared.command.Shape.{Shape}
 use Rattle.safebound_words.specs.declared.command.Shape.TheVariants as shapes
 use Rattle.prepared_runs.proofs.RootFacts.{counts_of_nodes}
-use Rattle.prepared_runs.proofs.ShapeFacts.{along, over, seen_ok}
+use Rattle.prepared_runs.proofs.ShapeFacts.{as_order_plan, as_tree_plan, mapped_ok}
 
 pub if_ok : {A E P : Type 0} (r : Result A E) → P → OnOk r P
 if_ok (Ok x) is = is
@@ -57,7 +57,7 @@ own_sizes query lists count full =
     ext_get_or 0 (map capacity lists) (list_sizes query (lists_of lists)) (length-map lists capacity ∙ count ∙ sym (size_count query (lists_of lists)))
     (λ k low.
     let there : k < length lists = omega (arith, low, length-map lists capacity) in
-    let rows : rows_listed (lists_of lists) k ≡ length (get_or lists k no_rows).items = ap (λ (rows : List ℕ). length rows) (list_in lists k) in
+    let rows : listed_row_count (lists_of lists) k ≡ length (get_or lists k no_rows).items = ap (λ (rows : List ℕ). length rows) (list_in lists k) in
     get_or-map capacity lists k no_rows 0 there ∙ omega (arith, full k no_rows there, rows, size_at query (lists_of lists) k (omega (arith, there, count))))
 
 pub own_bytes : (query : Query) (tables : Tables) (family : List (List ℕ)) (lists : List (Rows ℕ)) (held : ℕ) → AreOfScans query tables family → lists_of lists ≡ family → held ≡ length query.from → HaveNoSpare lists
@@ -77,10 +77,10 @@ order_scans sets scans budget plan made =
 module _ (query : Query) (tables : Tables) (lists : List (List ℕ)) (sets scans : List ℕ) (budget : ℕ) (bound : BoundLists query tables lists scans) (some : 1 ≤ length query.from) (few : length query.from ≤ 12) where
   answer_scans : (shape : Shape) (plan : AnyPlan) → answer_of shape sets scans budget ≡ Ok plan → scan_bounds plan ≡ scans
   answer_scans shapes.Order plan made =
-      let it = seen_ok along (plan_answer sets scans budget) plan made in
+      let it = mapped_ok as_order_plan (plan_answer sets scans budget) plan made in
       subst (λ (p : AnyPlan). scan_bounds p ≡ scans) it.2 (order_scans sets scans budget it.0 it.1)
   answer_scans shapes.Tree plan made =
-      let it = seen_ok over (tree_answer sets scans budget) plan made in
+      let it = mapped_ok as_tree_plan (tree_answer sets scans budget) plan made in
       subst (λ (p : AnyPlan). scan_bounds p ≡ scans) it.2 (stages.scans_kept query tables lists sets scans budget it.0 bound some few it.1)
 
 pub scans_given : (query : Query) (tables : Tables) (given : Sourced) (accuracy budget : ℕ) → BoundLists query tables given.lists (given.scans accuracy) → 1 ≤ length query.from → length query.from ≤ 12
@@ -102,7 +102,7 @@ module _ (query : Query) (db : Database) (lists : List (List ℕ)) where
   counts_are (joined.Levels plan own reserved) is = counts_of_levels (list_levels query (tables_of db) lists plan.order) plan.order reserved.levels is.choices is.count
   counts_are (joined.Nodes plan done) is = counts_of_nodes query (tables_of db) plan is.plan_of.for_each_entry lists done.nodes is.count is.choices
 
-  parts_are : (it : Joined) → IsJoined query db lists it → (k : ℕ) → k < part_count (plan_joined it) → rows_in it k ≡ part_rows query (tables_of db) lists (plan_joined it) k
+  parts_are : (it : Joined) → IsJoined query db lists it → (k : ℕ) → k < part_count (plan_joined it) → part_rows_in it k ≡ part_rows query (tables_of db) lists (plan_joined it) k
   parts_are (joined.Levels plan own reserved) is k low = is.choices k low
   parts_are (joined.Nodes plan done) is k low = is.choices (length plan.scans + k) (omega (arith, low))
 
@@ -110,25 +110,25 @@ module _ (query : Query) (db : Database) (lists : List (List ℕ)) where
   has_parts (joined.Levels plan own reserved) is = (is.plan_of.for_each_entry, is.count)
   has_parts (joined.Nodes plan done) is = (is.plan_of.for_each_entry, is.count)
 
-pub are_done : (query : Query) (db : Database) (joins : Joins) (it : Joined) → plan_joined it ≡ plan_in joins.room → IsJoined query db (lists_of joins.lists.items) it → bytes_in it ≡ bytes_held joins → AreDone query db joins it
+pub are_done : (query : Query) (db : Database) (joins : Joins) (it : Joined) → plan_joined it ≡ plan_in joins.room → IsJoined query db (lists_of joins.lists.items) it → joined_bytes it ≡ room_and_list_bytes joins → AreDone query db joins it
 are_done query db joins it same is bytes = record {
   plan = same;
-  parts = subst (λ (plan : AnyPlan). (k : ℕ) → k < part_count plan → rows_in it k ≡ part_rows query (tables_of db) (lists_of joins.lists.items) plan k) same
+  parts = subst (λ (plan : AnyPlan). (k : ℕ) → k < part_count plan → part_rows_in it k ≡ part_rows query (tables_of db) (lists_of joins.lists.items) plan k) same
       (parts_are query db (lists_of joins.lists.items) it is);
   bytes = bytes;
 }
 
 -- after the joins, the buffers that were prepared for them are the buffers that the run keeps
 module _ (query : Query) (db : Database) (source : ListSource) (lists : List (List ℕ)) (memory : Option ℕ) (same : tables_in (entry_rows db) ≡ tables_of db) where
-  kept_joins : (joins : Joins) (bytes : ℕ) (it : Joined) → lists_of joins.lists.items ≡ lists → bytes_held joins ≡ bytes → bytes ≡ shape_bytes (plan_in joins.room) → AreDone query db joins it
-      → (k : ℕ) → k < part_count (plan_in joins.room) → rows_in it k ≡ part_rows query (tables_in (entry_rows db)) lists (plan_in joins.room) k
+  kept_joins : (joins : Joins) (bytes : ℕ) (it : Joined) → lists_of joins.lists.items ≡ lists → room_and_list_bytes joins ≡ bytes → bytes ≡ shape_bytes (plan_in joins.room) → AreDone query db joins it
+      → (k : ℕ) → k < part_count (plan_in joins.room) → part_rows_in it k ≡ part_rows query (tables_in (entry_rows db)) lists (plan_in joins.room) k
   kept_joins joins bytes it are holds is done k low =
       done.parts k low
       ∙ ap (λ (l : List (List ℕ)). part_rows query (tables_of db) l (plan_in joins.room) k) are
       ∙ ap (λ (t : Tables). part_rows query t lists (plan_in joins.room) k) (sym same)
 
-  pub kept_is : (bytes : ℕ) (left : PendingOutput) (kept : Option Joined) → AreOverLists lists left → HoldsBytes bytes left → bytes ≡ shape_bytes (plan_left left) → IsLeft query db left kept
-      → IsKept (Planned (record { query = query; rows = entry_rows db; plan = plan_left left; source = source; lists = lists; memory = memory; out = text_left left })) kept
+  pub kept_is : (bytes : ℕ) (left : PendingOutput) (kept : Option Joined) → AreOverLists lists left → HoldsBytes bytes left → bytes ≡ shape_bytes (pending_plan left) → KeepsPending query db left kept
+      → HasBuffersOf (Planned (record { query = query; rows = entry_rows db; plan = pending_plan left; source = source; lists = lists; memory = memory; out = pending_text left })) kept
   kept_is bytes (rest.Rows joins) (Some it) are holds is done =
       record { plan = done.plan; parts = kept_joins joins bytes it are holds is done; bytes = done.bytes ∙ holds ∙ is }
   kept_is bytes (rest.Rows joins) None are holds is done = done
@@ -140,17 +140,17 @@ module _ (query : Query) (db : Database) (source : ListSource) (lists : List (Li
 -- ---- the buffers of a run over the files of a store
 
 pub keeps_so : (ask : Command) {first : Reading} (after : Option Files) (schema : Schema) (kept : Option Joined) → Reads first (schema_stage ask.schema_file) (AtFile file.Schema) (Ok schema)
-    → first.files_after ≡ after → ((files : Files) → after ≡ Some files → IsOkAnd (aim_run ask.aim schema files) (λ outcome. IsKept outcome kept))
-    → (files : Files) → first.files ≡ Some files → IsOkAnd (command_run ask files) (λ outcome. IsKept outcome kept)
+    → first.files_after ≡ after → ((files : Files) → after ≡ Some files → IsOkAnd (aim_run ask.aim schema files) (λ outcome. HasBuffersOf outcome kept))
+    → (files : Files) → first.files ≡ Some files → IsOkAnd (command_run ask files) (λ outcome. HasBuffersOf outcome kept)
 unfolding command_run
 keeps_so ask {first} after schema kept reads meets keeps files told =
     let stage : (schema_stage ask.schema_file files >>= (λ (s : Schema). aim_run ask.aim s files)) ≡ aim_run ask.aim schema files = rw (reads.gives files told) refl in
-    subst (λ (r : Result RunOutcome Refusal). IsOkAnd r (λ outcome. IsKept outcome kept)) (sym stage) (keeps files (sym meets ∙ reads.same ∙ told))
+    subst (λ (r : Result RunOutcome Refusal). IsOkAnd r (λ outcome. HasBuffersOf outcome kept)) (sym stage) (keeps files (sym meets ∙ reads.same ∙ told))
 
 pub keeps_verdict : (words : List (List ℕ)) (ask : Command) → command_stage words ≡ Ok ask → (handed_in : Reading) (shop : Option ℕ) (kept : Option Joined) → shop_of words ≡ shop
     → KeepsItsBuffers (store_read shop handed_in) (command_run ask) kept → KeepsItsBuffers (store_read (shop_of words) handed_in) (verdict words) kept
 unfolding verdict
 keeps_verdict words ask command handed_in shop kept is keeps files told =
     let stage : (command_stage words >>= (λ (a : Command). command_run a files)) ≡ command_run ask files = rw command refl in
-    subst (λ (r : Result RunOutcome Refusal). IsOkAnd r (λ outcome. IsKept outcome kept)) (sym stage)
+    subst (λ (r : Result RunOutcome Refusal). IsOkAnd r (λ outcome. HasBuffersOf outcome kept)) (sym stage)
     (keeps files (ap (λ (s : Option ℕ). (store_read s handed_in).files) (sym is) ∙ told))

@@ -21,7 +21,7 @@ use Rattle.join_graph.specs.Conjuncts.{equalities_of}
 use Rattle.sql_meaning.specs.Tables.{Tables, row_counts}
 use Rattle.level_bounds.specs.Keys.{value_at}
 use Rattle.level_bounds.proofs.Lists.{all_from}
-use Rattle.key_carriers.specs.Carriers.{is_just, is_declared_key, no_source, table_at, table_of}
+use Rattle.key_carriers.specs.Carriers.{is_only_column, is_declared_key, no_source, table_at, table_of}
 use Rattle.key_carriers.specs.DeclaredKeys.{HaveUniqueValues, DeclaredKeysHold}
 use Rattle.table_files.specs.EntryTables.{AreOfAFile, AreOfFiles, tables_in}
 use Rattle.table_files.specs.Stage.{numbers_of, tables_stage}
@@ -29,21 +29,21 @@ use Rattle.table_files.proofs.FileKeys.{KeepsKeys, file_keeps, rows_apart}
 use Rattle.table_files.proofs.StagedFiles.{staged_files}
 use Rattle.join_graph.proofs.FromEntries.{names_its_entries}
 use Rattle.stats_file_bounds.proofs.Telling.{place_low}
-use Rattle.prepared_runs.specs.Sources.{Needs}
+use Rattle.prepared_runs.specs.Sources.{SourceNeeds}
 use Rattle.safebound_words.specs.declared.command.ListSource.{ListSource}
 use Rattle.safebound_words.specs.declared.command.ListSource.TheVariants as sources
 
-just_one : (column : ℕ) (key : List ℕ) → is_just column key ≡ true → key ≡ column ∷ []
+just_one : (column : ℕ) (key : List ℕ) → is_only_column column key ≡ true → key ≡ column ∷ []
 just_one column [] h = absurd (false≢true h)
 just_one column (first ∷ []) h = ap (λ (c : ℕ). c ∷ []) (eqb-true first column h)
 just_one column (first ∷ second ∷ rest) h = absurd (false≢true h)
 
-key_without : (column : ℕ) (keys : List (List ℕ)) (rows : List Row) → AllByRecursion (λ key. first_repeat key rows ≡ None) keys → list_any (is_just column) keys ≡ true
+key_without : (column : ℕ) (keys : List (List ℕ)) (rows : List Row) → AllByRecursion (λ key. first_repeat key rows ≡ None) keys → list_any (is_only_column column) keys ≡ true
     → first_repeat (column ∷ []) rows ≡ None
 key_without column [] rows kept h = absurd (false≢true h)
-key_without column (key ∷ keys) rows kept h = elim (cases_Bool (is_just column key)) [
+key_without column (key ∷ keys) rows kept h = elim (cases_Bool (is_only_column column key)) [
   | inl just ↦ subst (λ (k : List ℕ). first_repeat k rows ≡ None) (just_one column key just) kept.0
-  | inr other ↦ (let later : list_any (is_just column) keys ≡ true = rw other at h in key_without column keys rows kept.1 later)
+  | inr other ↦ (let later : list_any (is_only_column column) keys ≡ true = rw other at h in key_without column keys rows kept.1 later)
 ]
 
 module _ (schema : Schema) (query : Query) (tables : Tables) (own : NamesItsEntries query) (of_files : AreOfFiles schema query.from tables) where
@@ -67,12 +67,12 @@ read_keys_hold schema query files rows of staged = keys_hold schema query (table
 
 -- ---- if the declared keys hold, every source has what it needs
 
-pub needs_met : (source : ListSource) (schema : Schema) (query : Query) (tables : Tables) → DeclaredKeysHold schema query tables → Needs source schema query tables
+pub needs_met : (source : ListSource) (schema : Schema) (query : Query) (tables : Tables) → DeclaredKeysHold schema query tables → SourceNeeds source schema query tables
 needs_met sources.Columns schema query tables holds = tt
 needs_met sources.Keyed schema query tables holds = holds
 needs_met sources.Reduced schema query tables holds = tt
 needs_met sources.Counted schema query tables holds = tt
 
 pub needs_read : (source : ListSource) (schema : Schema) (query : Query) (files : Files) (rows : List (List Row)) → IsOf schema query
-    → tables_stage schema query.from files ≡ Ok rows → Needs source schema query (tables_in rows)
+    → tables_stage schema query.from files ≡ Ok rows → SourceNeeds source schema query (tables_in rows)
 needs_read source schema query files rows of staged = needs_met source schema query (tables_in rows) (read_keys_hold schema query files rows of staged)

@@ -8,7 +8,7 @@
 --   other by `subst` and `ap`. No lemma is needed to say that a query asks only for its own entries' tables.
 -- - The facts about an accepted verdict are one induction over its stages (`Runs`): each stage is a `>>=`, and `then_ok` carries a predicate
 --   through it. The two sentences of the headline on bounds and rows are then one line each, about plain tables, and need no code.
--- - What is left to do is an enum that owns its memory (`PendingOutput`): it determines which text goes to out (`text_left`), so no invariant has to
+-- - What is left to do is an enum that owns its memory (`PendingOutput`): it determines which text goes to out (`pending_text`), so no invariant has to
 --   connect a command with a reservation.
 -- - A function can be proved before the functions that it calls, with stand-ins that have the same contracts. If the stand-in always refuses,
 --   each law about plans is true (`absurd`), and a call with `requires ⊥` needs no body.
@@ -35,7 +35,7 @@
 --   opened where the headline says what each source's scans are (`of_columns`, `of_keyed`, `of_reduced` in Runs). `sourced` itself is
 --   transparent, so that its lists are `lists_by` without a lemma. A prepared run keeps no schema, since lists and scan bounds don't depend
 --   on it.
--- - What a source needs of the tables (`Needs`) is a condition for its bounds of sets alone: its lists lose no row, and its bounds of scans
+-- - What a source needs of the tables (`SourceNeeds`) is a condition for its bounds of sets alone: its lists lose no row, and its bounds of scans
 --   hold, whatever the tables are. That declared keys hold follows from reading the files (KeyFacts): each entry's rows are those in some
 --   file of its table (`AreOfFiles` of table_files). This is a clause of reading and a law of the stage. One lemma goes from there to keys,
 --   for the code and for the verdict.
@@ -56,7 +56,7 @@
 -- - No node of a tree has more rows than its bound, whatever the sizes of the tables (`nodes_fit` of bushy_planning). So the verdict's law
 --   has no condition on sizes. Joins over a tree also require that tables are small, which the code knows about tables that it read
 --   (`plan_over`).
--- - The answer of a shape is made from the answer of its search by `seen`, which changes the value of an answer. `seen_ok` takes the plan out again.
+-- - The answer of a shape is made from the answer of its search by `mapped`, which changes the value of an answer. `mapped_ok` takes the plan out again.
 
 pub mod AllowedFacts
 pub mod Answered

@@ -3,7 +3,7 @@ use Rattle.std.proofs.Common.{◌≡◌, ◌≤◌, ℕ, Bool, true, false, Opti
 use Rattle.std.specs.Prelude.{nat_le, if◌then◌else◌, IfOk}
 use Rattle.std.proofs.lemmas.Bool.Decides.{nat_tests}
 use Rattle.outcomes.specs.Reads.{MissesNothing, StopsBy}
-use Rattle.outcomes.specs.declared.ending.Ending.TheVariants as ending
+use Rattle.outcomes.specs.declared.failure.Failure.TheVariants as failure
 use Rattle.outcomes.specs.declared.refusal.Refusal.{Refusal}
 use Rattle.outcomes.specs.declared.refusal.Refusal.TheVariants as refusal
 use Rattle.prepared_runs.specs.Limits.{IsWithinLimit, limit_test, within_limit}
@@ -28,7 +28,7 @@ unfolding tested
 test_kept true bytes x e = refl
 test_kept false bytes x e = absurd (cc)
 
-test_stops : {A : Type 0} (test : Bool) (bytes : ℕ) (x : A) (r : Refusal) → tested {A = Unit {0}} test bytes tt ≡ Err r → StopsBy (tested test bytes x) (ending.Refused r)
+test_stops : {A : Type 0} (test : Bool) (bytes : ℕ) (x : A) (r : Refusal) → tested {A = Unit {0}} test bytes tt ≡ Err r → StopsBy (tested test bytes x) (failure.Refused r)
 unfolding tested
 test_stops true bytes x r e = absurd (cc)
 test_stops false bytes x r e =
@@ -64,7 +64,7 @@ module _ {A : Type 0} where
   kept None bytes x e = refl
   kept (Some limit) bytes x e = test_kept (nat_le bytes limit) bytes x e
 
-  pub stops : (limit : Option ℕ) (bytes : ℕ) (x : A) (r : Refusal) → limit_test limit bytes ≡ Err r → StopsBy (within_limit limit bytes x) (ending.Refused r)
+  pub stops : (limit : Option ℕ) (bytes : ℕ) (x : A) (r : Refusal) → limit_test limit bytes ≡ Err r → StopsBy (within_limit limit bytes x) (failure.Refused r)
   unfolding tested
   stops None bytes x r e = absurd (cc)
   stops (Some limit) bytes x r e = test_stops (nat_le bytes limit) bytes x r e

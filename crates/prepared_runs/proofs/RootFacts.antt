@@ -23,7 +23,7 @@ use Rattle.join_steps.specs.Lists.{list_at, IsOrderOf}
 use Rattle.hash_join.specs.Levels.{query_level}
 use Rattle.bushy_join.specs.Trees.{chosen_rows, is_joined_leaf, node_rows}
 use Rattle.bushy_join.proofs.Running.{are_choices}
-use Rattle.joined_texts.specs.Listed.{root_of}
+use Rattle.joined_texts.specs.JoinedRows.{root_of}
 use Rattle.joined_texts.specs.Printed.{node_counts, printed_rows, selected_rows}
 use Rattle.joined_texts.proofs.AuditLines.{node_count_at, node_count_long}
 use Rattle.prepared_runs.specs.Shapes.{part_sizes}

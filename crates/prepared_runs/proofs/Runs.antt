@@ -20,7 +20,7 @@ use Rattle.text_answers.specs.SchemaTexts.{schema_answer}
 use Rattle.text_answers.proofs.QueryAnswers as queries
 use Rattle.text_answers.proofs.SchemaAnswers as schemas
 use Rattle.outcomes.specs.Errors.{plan_refusal, query_refusal, schema_refusal}
-use Rattle.outcomes.specs.Reads.{◌>>=◌, told}
+use Rattle.outcomes.specs.Reads.{◌>>=◌, with_refusal}
 use Rattle.outcomes.specs.declared.names.FileId.TheVariants as file
 use Rattle.outcomes.specs.declared.refusal.Refusal.{Refusal}
 use Rattle.table_files.specs.EntryTables.{tables_in}
@@ -40,7 +40,7 @@ use Rattle.prepared_runs.specs.StatsFiles.{stats_stage}
 use Rattle.prepared_runs.specs.Limits.{IsWithinLimit}
 use Rattle.prepared_runs.specs.RunOutcome.{Appended, StatsMade, KeepsItsLimit, NoBoundIsTooLow, RunOutcome, Planned, PlannedFromStats, PrintsTheAnswer}
 use Rattle.prepared_runs.specs.Shapes.{joined_entries, part_rows, scan_bounds, shape_bytes}
-use Rattle.prepared_runs.specs.Sources.{Needs, Sourced, lists_by, scans_by, sourced}
+use Rattle.prepared_runs.specs.Sources.{SourceNeeds, Sourced, lists_by, scans_by, sourced}
 use Rattle.prepared_runs.specs.Standing.{IsSource, LoseNoRow}
 use Rattle.safebound_words.specs.declared.command.ListSource.{ListSource}
 use Rattle.safebound_words.specs.declared.command.ListSource.TheVariants as sources
@@ -60,21 +60,21 @@ is_ok : {A : Type 0} (r : Result A Refusal) → IfOk r (λ x. r ≡ Ok x)
 is_ok (Ok x) = refl
 is_ok (Err s) = tt
 
-ok_so : {A E : Type 0} (P : A → Type 0) (f : E → Refusal) (r : Result A E) → ((x : A) → r ≡ Ok x → P x) → IfOk (told f r) P
-ok_so P f (Ok x) h = h x refl
-ok_so P f (Err e) h = tt
+ok_with_refusal : {A E : Type 0} (P : A → Type 0) (f : E → Refusal) (r : Result A E) → ((x : A) → r ≡ Ok x → P x) → IfOk (with_refusal f r) P
+ok_with_refusal P f (Ok x) h = h x refl
+ok_with_refusal P f (Err e) h = tt
 
 query_ok : (name : List ℕ) (schema : Schema) (files : Files) → IfOk (query_stage name schema files) (IsOf schema)
 unfolding query_stage
 query_ok name schema files =
     any_ok (IsOf schema) (read file.Query 1048576 name files) (query_of_text schema)
-    (λ text. ok_so (IsOf schema) query_refusal (query_answer schema text) (λ query e. queries.of_schema schema text query e))
+    (λ text. ok_with_refusal (IsOf schema) query_refusal (query_answer schema text) (λ query e. queries.of_schema schema text query e))
 
 pub schema_ok : (name : List ℕ) (files : Files) → IfOk (schema_stage name files) IsValid
 unfolding schema_stage
 schema_ok name files =
     any_ok IsValid (read file.Schema 1048576 name files) schema_of_text
-    (λ text. ok_so IsValid schema_refusal (schema_answer text) (λ schema e. schemas.valid text schema e))
+    (λ text. ok_with_refusal IsValid schema_refusal (schema_answer text) (λ schema e. schemas.valid text schema e))
 
 pub record IsRun (run : AcceptedQuery) : Type 0 where
   pub own : NamesItsEntries run.query
@@ -90,11 +90,11 @@ IsSound (StatsMade made_stats) = NoBoundIsTooLow (StatsMade made_stats)
 IsSound (PlannedFromStats made) = NoBoundIsTooLow (PlannedFromStats made) × KeepsItsLimit (PlannedFromStats made)
 IsSound (Appended made) = NoBoundIsTooLow (Appended made)
 
-plan_ok : (task : PlanWork) (schema : Schema) (query : Query) (rows : List (List Row)) → Needs task.source schema query (tables_in rows) → IsInRange task → 1 ≤ length query.from → length query.from ≤ 12 → NamesItsEntries query → IfOk (plan_stage task schema query rows) IsSound
+plan_ok : (task : PlanWork) (schema : Schema) (query : Query) (rows : List (List Row)) → SourceNeeds task.source schema query (tables_in rows) → IsInRange task → 1 ≤ length query.from → length query.from ≤ 12 → NamesItsEntries query → IfOk (plan_stage task schema query rows) IsSound
 unfolding plan_stage
 plan_ok task schema query rows needs range some few own =
-    then_ok IsMade IsSound (told plan_refusal (plan_asked task schema query (tables_in rows))) _
-    (ok_so IsMade plan_refusal (plan_asked task schema query (tables_in rows)) made_ok)
+    then_ok IsMade IsSound (with_refusal plan_refusal (plan_asked task schema query (tables_in rows))) _
+    (ok_with_refusal IsMade plan_refusal (plan_asked task schema query (tables_in rows)) made_ok)
     (λ plan is. within_so IsSound task.terms.memory (shape_bytes plan) (Planned (run_asked task query rows plan)) is)
   where
     IsMade : AnyPlan → Type 0

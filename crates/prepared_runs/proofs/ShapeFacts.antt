@@ -8,10 +8,10 @@ use Rattle.plans.specs.declared.left_deep.Plan.{Plan}
 use Rattle.order_search.specs.declared.refusal.PlanError.{PlanError}
 use Rattle.order_search.specs.declared.refusal.PlanError.TheVariants as error
 use Rattle.plan_answers.specs.PlanAnswer.{plan_answer}
-use Rattle.plan_answers.proofs.OneChoice as orders
+use Rattle.plan_answers.proofs.OneAnswer as orders
 use Rattle.tree_answers.specs.Promised.{IsPromised}
 use Rattle.tree_answers.specs.TreeAnswer.{tree_answer}
-use Rattle.tree_answers.proofs.OneChoice as trees
+use Rattle.tree_answers.proofs.OneAnswer as trees
 use Rattle.tree_plans.specs.TreePlans.{IsTreePlan}
 use Rattle.tree_plans.specs.declared.bushy.BushyPlan.{BushyPlan}
 use Rattle.tree_rows.specs.Trees.{node_count}
@@ -22,20 +22,20 @@ use Rattle.sql_meaning.specs.Answers.{entries_of}
 use Rattle.sql_meaning.specs.Databases.{IsDatabaseOf}
 use Rattle.sql_meaning.specs.Tables.{Tables, tables_of}
 use Rattle.sql_meaning.proofs.AnswerFacts.{own_entries}
-use Rattle.join_steps.specs.Lists.{list_levels, rows_listed, scans_of, IsOrderOf}
+use Rattle.join_steps.specs.Lists.{list_levels, listed_row_count, scans_of, IsOrderOf}
 use Rattle.join_steps.specs.Plans.{IsPlanOf}
 use Rattle.hash_join.specs.Levels.{query_level}
 use Rattle.bushy_join.proofs.Scans.{whole_is}
 use Rattle.level_bounds.specs.Orders.{IsOrderOfSet}
 use Rattle.level_bounds.proofs.SetNumbers.{order_of_all}
 use Rattle.planned_joins.specs.PlansOf.{HaveFewRows}
-use Rattle.outcomes.specs.Reads.{seen}
-use Rattle.planning.specs.declared.known.Known.{Known}
+use Rattle.outcomes.specs.Reads.{mapped}
+use Rattle.planning.specs.declared.known.QueryBounds.{QueryBounds}
 use Rattle.planning.specs.HasBounds.{HasBounds}
 use Rattle.planning.specs.Standing.{BoundLevels}
 use Rattle.planning.proofs.FromLists.{is_plan_from, plan_over_lists, scan_kept}
 use Rattle.planning.proofs.ReducedPlans.{levels_of_scans}
-use Rattle.bushy_planning.proofs.Stages as stages
+use Rattle.bushy_planning.proofs.ChosenTrees as stages
 use Rattle.prepared_runs.specs.Shapes.{IsPlanOver, IsShapedPlan, answer_of, joined_entries, part_bound, part_count, part_rows, planned_by, scan_bounds, whole_parts}
 use Rattle.safebound_words.specs.Commands.{most_budget_of}
 use Rattle.prepared_runs.specs.Sources.{Sourced}
@@ -47,29 +47,29 @@ use Rattle.safebound_words.specs.declared.command.Shape.TheVariants as shapes
 
 -- ---- an answer whose value was changed by a function
 
-pub seen_ok : {A B E : Type 0} (f : A → B) (r : Result A E) (y : B) → seen f r ≡ Ok y → (x : A) × (r ≡ Ok x) × (f x ≡ y)
-seen_ok f (Ok x) y is = (x, refl, cc)
-seen_ok f (Err e) y is = absurd (cc)
+pub mapped_ok : {A B E : Type 0} (f : A → B) (r : Result A E) (y : B) → mapped f r ≡ Ok y → (x : A) × (r ≡ Ok x) × (f x ≡ y)
+mapped_ok f (Ok x) y is = (x, refl, cc)
+mapped_ok f (Err e) y is = absurd (cc)
 
-never_seen : {A B E : Type 0} (f : A → B) (r : Result A E) (e : E) → r ≢ Err e → seen f r ≢ Err e
-never_seen f (Ok x) e never is = cc
-never_seen f (Err other) e never is = let same : other ≡ e = cc in never (ap (λ (x : _). Err x) same)
+mapped_never_err : {A B E : Type 0} (f : A → B) (r : Result A E) (e : E) → r ≢ Err e → mapped f r ≢ Err e
+mapped_never_err f (Ok x) e never is = cc
+mapped_never_err f (Err other) e never is = let same : other ≡ e = cc in never (ap (λ (x : _). Err x) same)
 
-abbrev pub along : Plan → AnyPlan
-along plan = shaped.OrderPlan plan
+abbrev pub as_order_plan : Plan → AnyPlan
+as_order_plan plan = shaped.OrderPlan plan
 
-abbrev pub over : BushyPlan → AnyPlan
-over plan = shaped.TreePlan plan
+abbrev pub as_tree_plan : BushyPlan → AnyPlan
+as_tree_plan plan = shaped.TreePlan plan
 
-pub no_want : (shape : Shape) (sets scans : List ℕ) (budget : ℕ) → answer_of shape sets scans budget ≢ Err error.NoMemory
-no_want shapes.Order sets scans budget = never_seen along (plan_answer sets scans budget) error.NoMemory (orders.never_memory sets scans budget)
-no_want shapes.Tree sets scans budget = never_seen over (tree_answer sets scans budget) error.NoMemory (trees.never_memory sets scans budget)
+pub never_no_memory : (shape : Shape) (sets scans : List ℕ) (budget : ℕ) → answer_of shape sets scans budget ≢ Err error.NoMemory
+never_no_memory shapes.Order sets scans budget = mapped_never_err as_order_plan (plan_answer sets scans budget) error.NoMemory (orders.never_memory sets scans budget)
+never_no_memory shapes.Tree sets scans budget = mapped_never_err as_tree_plan (tree_answer sets scans budget) error.NoMemory (trees.never_memory sets scans budget)
 
 pub never_wants_memory : (shape : Shape) (given : Sourced) (accuracy budget : ℕ) → planned_by shape given accuracy budget ≢ Err error.NoMemory
 unfolding planned_by
-never_wants_memory shape given accuracy budget = no_want shape (given.sets accuracy) (given.scans accuracy) budget
+never_wants_memory shape given accuracy budget = never_no_memory shape (given.sets accuracy) (given.scans accuracy) budget
 
-pub planned_known : (shape : Shape) (given : Sourced) (accuracy budget : ℕ) (known : Known) → HasBounds (given.sets accuracy) (given.scans accuracy) known
+pub planned_known : (shape : Shape) (given : Sourced) (accuracy budget : ℕ) (known : QueryBounds) → HasBounds (given.sets accuracy) (given.scans accuracy) known
     → answer_of shape known.sets known.scans budget ≡ planned_by shape given accuracy budget
 unfolding planned_by
 planned_known shape given accuracy budget known gives =
@@ -79,10 +79,10 @@ planned_known shape given accuracy budget known gives =
 pub answer_is_plan : (shape : Shape) (sets scans : List ℕ) (n budget : ℕ) → length scans ≡ n → 1 ≤ n → n ≤ 12 → (plan : AnyPlan)
     → answer_of shape sets scans budget ≡ Ok plan → IsShapedPlan n plan
 answer_is_plan shapes.Order sets scans n budget long some few plan made =
-    let it = seen_ok along (plan_answer sets scans budget) plan made in
+    let it = mapped_ok as_order_plan (plan_answer sets scans budget) plan made in
     subst (IsShapedPlan n) it.2 (is_plan_from sets scans n budget long it.0 it.1)
 answer_is_plan shapes.Tree sets scans n budget long some few plan made =
-    let it = seen_ok over (tree_answer sets scans budget) plan made in
+    let it = mapped_ok as_tree_plan (tree_answer sets scans budget) plan made in
     let P : Result BushyPlan PlanError → Type 0 = IsPromised sets scans budget in
     let its : IsTreePlan (length scans) it.0 = (subst P it.1 (trees.allowed sets scans budget (omega (arith, some, long)) (omega (arith, few, long)))).plan in
     subst (IsShapedPlan n) it.2 (subst (λ (m : ℕ). IsTreePlan m it.0) long its)
@@ -91,17 +91,17 @@ answer_is_plan shapes.Tree sets scans n budget long some few plan made =
 
 pub record Fits (query : Query) (tables : Tables) (lists : List (List ℕ)) (made : AnyPlan) : Type 0 where
   pub plan : IsShapedPlan (length query.from) made
-  pub scans : (entry : ℕ) → entry < length query.from → rows_listed lists entry ≤ get_or (scan_bounds made) entry 0
+  pub scans : (entry : ℕ) → entry < length query.from → listed_row_count lists entry ≤ get_or (scan_bounds made) entry 0
   pub parts : (k : ℕ) → k < part_count made → length (part_rows query tables lists made k) ≤ part_bound made k
 
 -- each plan over the lists fits them
-pub over_so : (query : Query) (tables : Tables) (lists : List (List ℕ)) (plan : AnyPlan) → IsPlanOver query tables lists plan → Fits query tables lists plan
-over_so query tables lists (shaped.OrderPlan plan) of = record {
+pub plan_over_fits : (query : Query) (tables : Tables) (lists : List (List ℕ)) (plan : AnyPlan) → IsPlanOver query tables lists plan → Fits query tables lists plan
+plan_over_fits query tables lists (shaped.OrderPlan plan) of = record {
   plan = of.for_each_entry;
   scans = of.scans;
   parts = λ k low. of.levels k (omega (arith, low, of.for_each_entry.order.all));
 }
-over_so query tables lists (shaped.TreePlan plan) of = record {
+plan_over_fits query tables lists (shaped.TreePlan plan) of = record {
   plan = of.for_each_entry;
   scans = of.scans;
   parts = λ k low. of.nodes (length plan.scans + k) (omega arith);
@@ -133,29 +133,29 @@ module _ (query : Query) (tables : Tables) (given : Sourced) (is : IsSource quer
 
   answer_fits : (shape : Shape) (plan : AnyPlan) → budget ≤ most_budget_of shape → answer_of shape sets scans budget ≡ Ok plan → Fits query tables given.lists plan
   answer_fits shapes.Order plan small made =
-      let it = seen_ok along (plan_answer sets scans budget) plan made in
-      subst (Fits query tables given.lists) it.2 (over_so query tables given.lists (shaped.OrderPlan it.0) (order_over it.0 small it.1))
+      let it = mapped_ok as_order_plan (plan_answer sets scans budget) plan made in
+      subst (Fits query tables given.lists) it.2 (plan_over_fits query tables given.lists (shaped.OrderPlan it.0) (order_over it.0 small it.1))
   answer_fits shapes.Tree plan small made =
-      let it = seen_ok over (tree_answer sets scans budget) plan made in
+      let it = mapped_ok as_tree_plan (tree_answer sets scans budget) plan made in
       subst (Fits query tables given.lists) it.2 (tree_fits it.0 small it.1)
 
   pub answer_over : (shape : Shape) (plan : AnyPlan) → budget ≤ most_budget_of shape → HaveFewRows tables (length query.from) → answer_of shape sets scans budget ≡ Ok plan
       → IsPlanOver query tables given.lists plan
   answer_over shapes.Order plan small rows made =
-      let it = seen_ok along (plan_answer sets scans budget) plan made in
+      let it = mapped_ok as_order_plan (plan_answer sets scans budget) plan made in
       subst (IsPlanOver query tables given.lists) it.2 (order_over it.0 small it.1)
   answer_over shapes.Tree plan small rows made =
-      let it = seen_ok over (tree_answer sets scans budget) plan made in
+      let it = mapped_ok as_tree_plan (tree_answer sets scans budget) plan made in
       subst (IsPlanOver query tables given.lists) it.2
       (stages.over_lists query tables given.lists sets scans budget it.0 (is.of_scans accuracy) some few it.1 levels small rows)
 
   answer_keeps : (shape : Shape) (plan : AnyPlan) → answer_of shape sets scans budget ≡ Ok plan → (entry : ℕ) → get_or (scan_bounds plan) entry 0 ≡ get_or scans entry 0
   answer_keeps shapes.Order plan made entry =
-      let it = seen_ok along (plan_answer sets scans budget) plan made in
+      let it = mapped_ok as_order_plan (plan_answer sets scans budget) plan made in
       subst (λ (p : AnyPlan). get_or (scan_bounds p) entry 0 ≡ get_or scans entry 0) it.2
       (scan_kept sets scans (length query.from) budget (is.of_scans accuracy).one_each it.0 it.1 entry)
   answer_keeps shapes.Tree plan made entry =
-      let it = seen_ok over (tree_answer sets scans budget) plan made in
+      let it = mapped_ok as_tree_plan (tree_answer sets scans budget) plan made in
       subst (λ (p : AnyPlan). get_or (scan_bounds p) entry 0 ≡ get_or scans entry 0) it.2
       (ap (λ (s : List ℕ). get_or s entry 0) (stages.scans_kept query tables given.lists sets scans budget it.0 (is.of_scans accuracy) some few it.1))
 
@@ -174,7 +174,7 @@ module _ (query : Query) (tables : Tables) (given : Sourced) (is : IsSource quer
 
 pub over_fits : (query : Query) (tables : Tables) (lists : List (List ℕ)) (plan : AnyPlan) → IsPlanOver query tables lists plan
     → IsShapedPlan (length query.from) plan × (length (scan_bounds plan) ≡ length query.from)
-    × ((entry : ℕ) → entry < length query.from → rows_listed lists entry ≤ get_or (scan_bounds plan) entry 0)
+    × ((entry : ℕ) → entry < length query.from → listed_row_count lists entry ≤ get_or (scan_bounds plan) entry 0)
 over_fits query tables lists (shaped.OrderPlan plan) is = (is.for_each_entry, is.for_each_entry.scans, is.scans)
 over_fits query tables lists (shaped.TreePlan plan) is = (is.for_each_entry, is.for_each_entry.scans, is.scans)
 

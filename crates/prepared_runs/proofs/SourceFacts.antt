@@ -12,7 +12,7 @@ use Rattle.sql_meaning.specs.Tables.{Tables, row_counts}
 use Rattle.join_steps.specs.Lists.{list_at, scans_of}
 use Rattle.join_steps.proofs.WholeScans.{whole_of_scans}
 use Rattle.tree_bounds.specs.TreeBounds.{EntryBounds}
-use Rattle.set_bounds.specs.AllSets.{bound_told, bounds_in_sets, in_every_set}
+use Rattle.set_bounds.specs.AllSets.{bound_in_128_bits, bounds_in_sets, in_every_set}
 use Rattle.query_bounds.specs.Bounds.{entry_bounds}
 use Rattle.gathered_stats.specs.Statistics.{statistics_of}
 use Rattle.reduced_scans.specs.Rounds.{reduced_of}
@@ -21,21 +21,21 @@ use Rattle.reduced_scans.proofs.SameLevel.{same_level}
 use Rattle.planning.specs.ListedBounds.{entry_bounds_over}
 use Rattle.planning.proofs.ListBounds.{sizes_bound}
 use Rattle.planning.proofs.ListedPlans.{level_never_under_over}
-use Rattle.planning.proofs.NeverUnder.{told_bound, told_levels}
+use Rattle.planning.proofs.NeverUnder.{scans_are_bounded, levels_are_bounded}
 use Rattle.planning.proofs.ReducedPlans.{levels_of_scans, reduced_of_scans}
 use Rattle.planning.specs.Standing.{BoundLevels, BoundLists}
 use Rattle.key_bounds.specs.Bounds.{bounds_by_keys}
 use Rattle.key_bounds.proofs.Plans.{levels_by_keys}
 use Rattle.counted_bounds.specs.Bounds.{counted_bound}
-use Rattle.counted_factors.specs.Limits.{counted_of}
+use Rattle.counted_factors.specs.Limits.{counts_made}
 use Rattle.counted_planning.specs.Bounds.{set_bounds_by_counts}
 use Rattle.counted_planning.proofs.InSets.{bound_levels}
 use Rattle.stats_file.specs.declared.types.StatsFile.{StatsFile}
 use Rattle.stats_file_of_query.specs.Standing.{StandsFor}
-use Rattle.stats_file_bounds.specs.Entries.{IsFile}
+use Rattle.stats_file_bounds.specs.Entries.{KeepsRulesOfSome}
 use Rattle.stats_file_bounds.specs.Found.{first_missing}
 use Rattle.stats_file_bounds.proofs.FromFiles.{all_sets as file_sets, levels_fit, scans_fit}
-use Rattle.prepared_runs.specs.Sources.{Needs, sets_by, lists_by, scans_by, sourced, sourced_of_file}
+use Rattle.prepared_runs.specs.Sources.{SourceNeeds, sets_by, lists_by, scans_by, sourced, sourced_of_file}
 use Rattle.prepared_runs.specs.Standing.{IsSource, LoseNoRow}
 use Rattle.safebound_words.specs.declared.command.ListSource.{ListSource}
 use Rattle.safebound_words.specs.declared.command.ListSource.TheVariants as sources
@@ -64,28 +64,28 @@ module _ (query : Query) (tables : Tables) where
 
   pub scans_bound : (source : ListSource) (accuracy : ℕ) → BoundLists query tables (lists_by source query tables) (scans_by source query tables accuracy)
   unfolding lists_by scans_by
-  scans_bound sources.Columns accuracy = told_bound query tables accuracy
-  scans_bound sources.Keyed accuracy = told_bound query tables accuracy
+  scans_bound sources.Columns accuracy = scans_are_bounded query tables accuracy
+  scans_bound sources.Keyed accuracy = scans_are_bounded query tables accuracy
   scans_bound sources.Reduced accuracy = sizes_bound query tables (reduced_of query tables) (reduced_of_scans query tables)
   scans_bound sources.Counted accuracy = sizes_bound query tables (reduced_of query tables) (reduced_of_scans query tables)
 
   many : (bounds : ℕ → EntryBounds) → length (bounds_in_sets bounds (equalities_of query) (length query.from)) ≡ 2 ^ length query.from
-  many bounds = length-map-range_with_len (λ subset. bound_told (bounds subset) (equalities_of query) subset) 0 (2 ^ length query.from)
+  many bounds = length-map-range_with_len (λ subset. bound_in_128_bits (bounds subset) (equalities_of query) subset) 0 (2 ^ length query.from)
 
   counted_levels : BoundLevels query tables (reduced_of query tables) (set_bounds_by_counts query tables (reduced_of query tables))
   unfolding set_bounds_by_counts
-  counted_levels = bound_levels (counted_of query tables (reduced_of query tables)) query tables (reduced_of query tables)
+  counted_levels = bound_levels (counts_made query tables (reduced_of query tables)) query tables (reduced_of query tables)
 
   counted_sets : length (set_bounds_by_counts query tables (reduced_of query tables)) ≡ 2 ^ length query.from
   unfolding set_bounds_by_counts
   counted_sets =
-      length-map-range_with_len (counted_bound (counted_of query tables (reduced_of query tables)) query tables (reduced_of query tables)) 0 (2 ^ length query.from)
+      length-map-range_with_len (counted_bound (counts_made query tables (reduced_of query tables)) query tables (reduced_of query tables)) 0 (2 ^ length query.from)
 
   module _ (schema : Schema) where
-    levels_bound : (source : ListSource) → Needs source schema query tables → (accuracy : ℕ)
+    levels_bound : (source : ListSource) → SourceNeeds source schema query tables → (accuracy : ℕ)
         → BoundLevels query tables (lists_by source query tables) (sets_by source schema query tables accuracy)
     unfolding sets_by lists_by
-    levels_bound sources.Columns needs accuracy = told_levels query tables accuracy
+    levels_bound sources.Columns needs accuracy = levels_are_bounded query tables accuracy
     levels_bound sources.Keyed needs accuracy = levels_by_keys schema query tables accuracy needs
     levels_bound sources.Reduced needs accuracy =
         λ subset order fits o. level_never_under_over query tables (reduced_of query tables) accuracy subset order (reduced_of_scans query tables) fits o
@@ -98,12 +98,12 @@ module _ (query : Query) (tables : Tables) where
     all_sets sources.Reduced accuracy = many (in_every_set (entry_bounds_over tables (reduced_of query tables) accuracy))
     all_sets sources.Counted accuracy = counted_sets
 
-    pub stand : (source : ListSource) → Needs source schema query tables → IsSource query tables (sourced source schema query tables)
+    pub stand : (source : ListSource) → SourceNeeds source schema query tables → IsSource query tables (sourced source schema query tables)
     stand source needs = record { rows = rows_kept source; of_scans = scans_bound source; of_sets = levels_bound source needs; of_all_sets = all_sets source }
 
 -- ---- what a statistics file gives, for tables for which it stands
 
-pub file_is_source : (query : Query) (file : StatsFile) → NamesItsEntries query → IsFile file → first_missing query file ≡ None → (tables : Tables) → StandsFor query file tables
+pub file_is_source : (query : Query) (file : StatsFile) → NamesItsEntries query → KeepsRulesOfSome file → first_missing query file ≡ None → (tables : Tables) → StandsFor query file tables
     → IsSource query tables (sourced_of_file query file tables)
 file_is_source query file own is none tables stands = record {
   rows = whole_rows query tables;

@@ -9,8 +9,8 @@ use Rattle.text_answers.specs.QueryTexts.{query_answer}
 use Rattle.text_answers.specs.SchemaTexts.{schema_answer}
 use Rattle.base_io.specs.Devices.{Reading}
 use Rattle.outcomes.specs.Errors.{query_refusal, schema_refusal}
-use Rattle.outcomes.specs.Reads.{◌>>=◌, AtFile, Reads, StopsBy, seen, told}
-use Rattle.outcomes.specs.declared.ending.Ending.{Ending}
+use Rattle.outcomes.specs.Reads.{◌>>=◌, AtFile, Reads, StopsBy, mapped, with_refusal}
+use Rattle.outcomes.specs.declared.failure.Failure.{Failure}
 use Rattle.outcomes.specs.declared.names.FileId.{FileId}
 use Rattle.outcomes.specs.declared.names.FileId.TheVariants as file
 use Rattle.outcomes.specs.declared.refusal.Refusal.{Refusal}
@@ -30,7 +30,7 @@ use Rattle.safebound_words.specs.declared.command.PlanWork.{PlanWork}
 -- ---- the schema, from its file's bytes
 
 module _ {store : Reading} (name : List ℕ) where
-  pub schema_stops : (e : Ending) → Reads store (read file.Schema 1048576 name) (AtFile file.Schema) (Err e) → Reads store (schema_stage name) (AtFile file.Schema) (Err e)
+  pub schema_stops : (e : Failure) → Reads store (read file.Schema 1048576 name) (AtFile file.Schema) (Err e) → Reads store (schema_stage name) (AtFile file.Schema) (Err e)
   unfolding schema_stage
   schema_stops e h = then_stops (read file.Schema 1048576 name) (λ text files. schema_of_text text) store (AtFile file.Schema) (AtFile file.Schema) e (λ files id at. at) h
 
@@ -39,9 +39,9 @@ module _ {store : Reading} (name : List ℕ) where
   unfolding schema_stage
   schema_spelled text slice schema same answer h =
       then_gives store (read file.Schema 1048576 name) schema_of_text (AtFile file.Schema) (AtFile file.Schema) text schema
-      (ap schema_of_text (sym same) ∙ ap (told schema_refusal) answer) h
+      (ap schema_of_text (sym same) ∙ ap (with_refusal schema_refusal) answer) h
 
-  pub schema_refused : (text slice : List ℕ) (e : Ending) → slice ≡ text → StopsBy (told schema_refusal (schema_answer slice)) e
+  pub schema_refused : (text slice : List ℕ) (e : Failure) → slice ≡ text → StopsBy (with_refusal schema_refusal (schema_answer slice)) e
       → Reads store (read file.Schema 1048576 name) (AtFile file.Schema) (Ok text) → Reads store (schema_stage name) (AtFile file.Schema) (Err e)
   unfolding schema_stage
   schema_refused text slice e same tells h =
@@ -51,7 +51,7 @@ module _ {store : Reading} (name : List ℕ) where
 -- ---- the query, from its file's bytes
 
 module _ {store : Reading} (name : List ℕ) (schema : Schema) where
-  pub query_stops : (e : Ending) → Reads store (read file.Query 1048576 name) (AtFile file.Query) (Err e) → Reads store (query_stage name schema) (AtFile file.Query) (Err e)
+  pub query_stops : (e : Failure) → Reads store (read file.Query 1048576 name) (AtFile file.Query) (Err e) → Reads store (query_stage name schema) (AtFile file.Query) (Err e)
   unfolding query_stage
   query_stops e h = then_stops (read file.Query 1048576 name) (λ text files. query_of_text schema text) store (AtFile file.Query) (AtFile file.Query) e (λ files id at. at) h
 
@@ -60,9 +60,9 @@ module _ {store : Reading} (name : List ℕ) (schema : Schema) where
   unfolding query_stage
   query_spelled text slice query same answer h =
       then_gives store (read file.Query 1048576 name) (query_of_text schema) (AtFile file.Query) (AtFile file.Query) text query
-      (ap (query_of_text schema) (sym same) ∙ ap (told query_refusal) answer) h
+      (ap (query_of_text schema) (sym same) ∙ ap (with_refusal query_refusal) answer) h
 
-  pub query_refused : (text slice : List ℕ) (e : Ending) → slice ≡ text → StopsBy (told query_refusal (query_answer schema slice)) e
+  pub query_refused : (text slice : List ℕ) (e : Failure) → slice ≡ text → StopsBy (with_refusal query_refusal (query_answer schema slice)) e
       → Reads store (read file.Query 1048576 name) (AtFile file.Query) (Ok text) → Reads store (query_stage name schema) (AtFile file.Query) (Err e)
   unfolding query_stage
   query_refused text slice e same tells h =
@@ -72,16 +72,16 @@ module _ {store : Reading} (name : List ℕ) (schema : Schema) where
 -- ---- the stages from the tables on
 
 module _ {store : Reading} (task : PlanWork) (schema : Schema) (query : Query) (C : Files → FileId → Type 0) where
-  pub tables_stop : (e : Ending) → Reads store (tables_stage schema query.from) C (Err e) → Reads store (work_run (works.Plan task) schema query) C (Err e)
+  pub tables_stop : (e : Failure) → Reads store (tables_stage schema query.from) C (Err e) → Reads store (work_run (works.Plan task) schema query) C (Err e)
   tables_stop e h = then_stops (tables_stage schema query.from) (λ rows files. plan_stage task schema query rows) store C C e (λ files id at. at) h
 
-  pub tables_ran : (rows : List (List Row)) (result : Result PreparedQuery Ending) → IfOk result (λ p. plan_stage task schema query rows ≡ Ok (planned_outcome p))
+  pub tables_ran : (rows : List (List Row)) (result : Result PreparedQuery Failure) → IfOk result (λ p. plan_stage task schema query rows ≡ Ok (planned_outcome p))
       → IfErr result (StopsBy (plan_stage task schema query rows)) → Reads store (tables_stage schema query.from) C (Ok rows)
-      → Reads store (work_run (works.Plan task) schema query) C (seen planned_outcome result)
+      → Reads store (work_run (works.Plan task) schema query) C (mapped planned_outcome result)
   tables_ran rows (Ok p) is tells h = then_gives store (tables_stage schema query.from) (plan_stage task schema query) C C rows (planned_outcome p) is h
   tables_ran rows (Err e) is tells h = then_tells store (tables_stage schema query.from) (plan_stage task schema query) C C rows e tells h
 
-pub work_done : {store : Reading} (asked work : Work) (schema : Schema) (query : Query) (answer : Result RunOutcome Ending) → asked ≡ work
+pub work_done : {store : Reading} (asked work : Work) (schema : Schema) (query : Query) (answer : Result RunOutcome Failure) → asked ≡ work
     → Reads store (work_run work schema query) (IsWorkFile work schema query) answer
     → Reads store (work_run asked schema query) (IsWorkFile asked schema query) answer
 work_done {store} asked work schema query answer is h =
@@ -93,12 +93,12 @@ module _ (name : List ℕ) (work : Work) (schema : Schema) where
   abbrev AtQueryOrFile : Files → FileId → Type 0
   AtQueryOrFile = IsAimFile (aims.Query name work) schema
 
-  pub query_not_run : {store : Reading} (e : Ending) → Reads store (query_stage name schema) (AtFile file.Query) (Err e)
+  pub query_not_run : {store : Reading} (e : Failure) → Reads store (query_stage name schema) (AtFile file.Query) (Err e)
       → Reads store (aim_run (aims.Query name work) schema) AtQueryOrFile (Err e)
   query_not_run {store} e h =
       then_stops (query_stage name schema) (work_run work schema) store (AtFile file.Query) AtQueryOrFile e (λ files id at'. inl at') h
 
-  pub query_ran : (first second : Reading) (query : Query) (answer : Result RunOutcome Ending) → Meets first second
+  pub query_ran : (first second : Reading) (query : Query) (answer : Result RunOutcome Failure) → Meets first second
       → Reads first (query_stage name schema) (AtFile file.Query) (Ok query)
       → Reads second (work_run work schema query) (IsWorkFile work schema query) answer
       → Reads (joined first second) (aim_run (aims.Query name work) schema) AtQueryOrFile answer
@@ -107,7 +107,7 @@ module _ (name : List ℕ) (work : Work) (schema : Schema) where
       AtQueryOrFile query answer meets
       (λ files id is at'. inr (subst (λ (r : Result Query Refusal). IsOkAnd r (λ q. IsWorkFile work schema q files id)) (sym is) at')) h k
 
-pub aim_done : {store : Reading} (asked aim : Aim) (schema : Schema) (answer : Result RunOutcome Ending) → asked ≡ aim
+pub aim_done : {store : Reading} (asked aim : Aim) (schema : Schema) (answer : Result RunOutcome Failure) → asked ≡ aim
     → Reads store (aim_run aim schema) (IsAimFile aim schema) answer → Reads store (aim_run asked schema) (IsAimFile asked schema) answer
 aim_done {store} asked aim schema answer is h =
     subst (λ (a : Aim). Reads store (aim_run a schema) (IsAimFile a schema) answer) (sym is) h

@@ -7,12 +7,12 @@ use Rattle.base_io.specs.Files.{Files}
 use Rattle.csv_tables.specs.Rows.{Row}
 use Rattle.join_graph.proofs.FromEntries.{names_its_entries}
 use Rattle.order_search.specs.declared.refusal.PlanError.{PlanError}
-use Rattle.stats_file_bounds.specs.Entries.{IsFile}
+use Rattle.stats_file_bounds.specs.Entries.{KeepsRulesOfSome}
 use Rattle.stats_file_bounds.specs.Found.{first_missing}
 use Rattle.stats_file_bounds.proofs.FromFiles.{few_rows}
 use Rattle.stats_file_of_query.specs.Standing.{ShareRows}
 use Rattle.stats_file_of_query.proofs.Standing.{file_stands}
-use Rattle.outcomes.specs.Reads.{◌>>=◌, told}
+use Rattle.outcomes.specs.Reads.{◌>>=◌, with_refusal}
 use Rattle.outcomes.specs.Errors.{stats_refusal}
 use Rattle.outcomes.specs.declared.names.FileId.TheVariants as file
 use Rattle.outcomes.specs.declared.refusal.Refusal.{Refusal}
@@ -28,11 +28,11 @@ use Rattle.stats_file.specs.Rules.{KeepsRules}
 use Rattle.stats_file.specs.declared.types.StatsError.{StatsError}
 use Rattle.stats_file.specs.declared.types.StatsFile.{StatsFile}
 use Rattle.table_files.specs.EntryTables.{tables_in}
-use Rattle.table_files.specs.Stage.{numbers_of, place_of, rows_by_entry, rows_of_each, tables_of_query, tables_stage}
+use Rattle.table_files.specs.Stage.{numbers_of, index_of, rows_by_entry, rows_of_each, tables_of_query, tables_stage}
 use Rattle.table_files.specs.TableFile.{read}
 use Rattle.prepared_runs.specs.StatsFiles.{made_from_file, plan_from_file_asked, stats_file_plan_stage, stats_of_text, stats_stage, stats_file_of_tables, unless_missing}
 use Rattle.prepared_runs.specs.Limits.{IsWithinLimit}
-use Rattle.prepared_runs.specs.RunOutcome.{PlanFromStatsFile, HoldsWhereItStands, NoBoundIsTooLow, RunOutcome, PlannedFromStats}
+use Rattle.prepared_runs.specs.RunOutcome.{PlanFromStatsFile, BoundsHoldForItsTables, NoBoundIsTooLow, RunOutcome, PlannedFromStats}
 use Rattle.prepared_runs.specs.Shapes.{planned_within, shape_bytes}
 use Rattle.prepared_runs.specs.Sources.{sourced_of_file}
 use Rattle.prepared_runs.specs.declared.shapes.AnyPlan.{AnyPlan}
@@ -45,15 +45,15 @@ use Rattle.prepared_runs.proofs.SourceFacts.{file_is_source}
 -- ---- a file of tables
 
 row_of_entry : (from : List Source) (rows : List (List Row)) (entry : ℕ) → entry < length from
-    → tables_in (rows_by_entry from rows) entry ≡ get_or rows (place_of (tables_of_query from) (get_or (numbers_of from) entry 0)) []
+    → tables_in (rows_by_entry from rows) entry ≡ get_or rows (index_of (tables_of_query from) (get_or (numbers_of from) entry 0)) []
 row_of_entry from rows entry low =
-    get_or-map (λ number. get_or rows (place_of (tables_of_query from) number) []) (numbers_of from) entry 0 (get_or (rows_by_entry from rows) 0 [])
+    get_or-map (λ number. get_or rows (index_of (tables_of_query from) number) []) (numbers_of from) entry 0 (get_or (rows_by_entry from rows) 0 [])
     (subst (λ (n : ℕ). entry < n) (sym (length-map from (λ (source : Source). source.table))) low)
 
 rows_shared : (query : Query) (rows : List (List Row)) → ShareRows query (tables_in (rows_by_entry query.from rows))
 rows_shared query rows entry other low also same =
     row_of_entry query.from rows entry low
-    ∙ ap (λ number. get_or rows (place_of (tables_of_query query.from) number) []) same
+    ∙ ap (λ number. get_or rows (index_of (tables_of_query query.from) number) []) same
     ∙ sym (row_of_entry query.from rows other also)
 
 stage_shared : (query : Query) (each : Result (List (List Row)) Refusal) (rows : List (List Row)) → (each >>= λ r. Ok (rows_by_entry query.from r)) ≡ Ok rows → ShareRows query (tables_in rows)
@@ -69,7 +69,7 @@ filed_stands schema query files accuracy rows is =
 
 -- ---- a file that is read
 
-keeps_told : (schema : Schema) (text : List ℕ) → IsValid schema → (answer : Result StatsFile StatsError) → stats_answer schema text ≡ answer → IfOk (told stats_refusal answer) (KeepsRules schema)
+keeps_told : (schema : Schema) (text : List ℕ) → IsValid schema → (answer : Result StatsFile StatsError) → stats_answer schema text ≡ answer → IfOk (with_refusal stats_refusal answer) (KeepsRules schema)
 keeps_told schema text valid (Ok stats) is = (texts.keeps schema text stats valid is).0
 keeps_told schema text valid (Err e) is = tt
 
@@ -91,16 +91,16 @@ module _ (schema : Schema) (query : Query) (of : IsOf schema query) (stats : Sta
   own : NamesItsEntries query
   own = names_its_entries schema query of
 
-  its : IsFile stats
+  its : KeepsRulesOfSome stats
   its = record { schema = schema; keeps = keeps }
 
   -- no bound of the plan is too low for tables for which the file stands
-  holds : first_missing query stats ≡ None → (plan : AnyPlan) → plan_from_file_asked terms query stats ≡ Ok plan → HoldsWhereItStands (made_of plan)
+  holds : first_missing query stats ≡ None → (plan : AnyPlan) → plan_from_file_asked terms query stats ≡ Ok plan → BoundsHoldForItsTables (made_of plan)
   holds none plan made tables stands =
       answer_over query tables (sourced_of_file query stats tables) (file_is_source query stats own its none tables stands) 1 terms.budget
       (omega (arith, of.some)) of.few terms.shape plan small (few_rows query stats own its none tables stands) made
 
-  module _ (Q : RunOutcome → Type 0) (so : (plan : AnyPlan) → HoldsWhereItStands (made_of plan) → IsWithinLimit terms.memory (shape_bytes plan) → Q (PlannedFromStats (made_of plan))) where
+  module _ (Q : RunOutcome → Type 0) (so : (plan : AnyPlan) → BoundsHoldForItsTables (made_of plan) → IsWithinLimit terms.memory (shape_bytes plan) → Q (PlannedFromStats (made_of plan))) where
     planned_so : first_missing query stats ≡ None → (answer : Result AnyPlan PlanError) → plan_from_file_asked terms query stats ≡ answer
         → IfOk (planned_within terms.memory (made_from_file terms query stats) answer) Q
     planned_so none (Ok plan) made = within_so Q terms.memory (shape_bytes plan) (PlannedFromStats (made_of plan)) (so plan (holds none plan made))

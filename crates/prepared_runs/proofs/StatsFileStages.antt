@@ -10,11 +10,11 @@ use Rattle.stats_file_bounds.specs.Found.{first_missing}
 use Rattle.stats_file_bounds.specs.declared.errors.NeedError.{NeedError}
 use Rattle.stats_file_bounds.specs.declared.errors.NeedError.TheVariants as need
 use Rattle.planning.specs.HasBounds.{HasBounds}
-use Rattle.planning.specs.declared.known.Known.{Known}
-use Rattle.outcomes.specs.Errors.{stats_ending, stats_refusal}
-use Rattle.outcomes.specs.Reads.{◌>>=◌, AtFile, Reads, StopsBy, seen, told}
-use Rattle.outcomes.specs.declared.ending.Ending.{Ending}
-use Rattle.outcomes.specs.declared.ending.Ending.TheVariants as ending
+use Rattle.planning.specs.declared.known.QueryBounds.{QueryBounds}
+use Rattle.outcomes.specs.Errors.{stats_failure, stats_refusal}
+use Rattle.outcomes.specs.Reads.{◌>>=◌, AtFile, Reads, StopsBy, mapped, with_refusal}
+use Rattle.outcomes.specs.declared.failure.Failure.{Failure}
+use Rattle.outcomes.specs.declared.failure.Failure.TheVariants as failure
 use Rattle.outcomes.specs.declared.names.FileId.{FileId}
 use Rattle.outcomes.specs.declared.names.FileId.TheVariants as file
 use Rattle.outcomes.proofs.ReadFacts.{then_gives, then_stops, then_tells}
@@ -32,7 +32,7 @@ use Rattle.stats_reading.specs.Names.{HasByteColumns}
 use Rattle.table_files.specs.Stage.{tables_stage}
 use Rattle.table_files.specs.TableFile.{read}
 use Rattle.safebound_words.specs.declared.command.Work.TheVariants as works
-use Rattle.prepared_runs.specs.StatsFiles.{made_from_file, need_ending, plan_from_file_asked, stats_file_plan_stage, stats_of_text, stats_stage, stats_file_of_tables, unless_missing}
+use Rattle.prepared_runs.specs.StatsFiles.{made_from_file, need_failure, plan_from_file_asked, stats_file_plan_stage, stats_of_text, stats_stage, stats_file_of_tables, unless_missing}
 use Rattle.prepared_runs.specs.RunOutcome.{RunOutcome}
 use Rattle.prepared_runs.specs.Shapes.{answer_of, planned_within}
 use Rattle.prepared_runs.specs.PreparedRun.{plan_from}
@@ -44,7 +44,7 @@ use Rattle.safebound_words.specs.declared.command.PlanTerms.{PlanTerms}
 -- ---- the file, from its bytes
 
 module _ {store : Reading} (name : List ℕ) (schema : Schema) where
-  pub stats_stops : (e : Ending) → Reads store (read file.Stats 67108864 name) (AtFile file.Stats) (Err e) → Reads store (stats_stage name schema) (AtFile file.Stats) (Err e)
+  pub stats_stops : (e : Failure) → Reads store (read file.Stats 67108864 name) (AtFile file.Stats) (Err e) → Reads store (stats_stage name schema) (AtFile file.Stats) (Err e)
   unfolding stats_stage
   stats_stops e h = then_stops (read file.Stats 67108864 name) (λ text files. stats_of_text schema text) store (AtFile file.Stats) (AtFile file.Stats) e (λ files id at. at) h
 
@@ -53,9 +53,9 @@ module _ {store : Reading} (name : List ℕ) (schema : Schema) where
   unfolding stats_stage
   stats_spelled text slice stats same answer h =
       then_gives store (read file.Stats 67108864 name) (stats_of_text schema) (AtFile file.Stats) (AtFile file.Stats) text stats
-      (ap (stats_of_text schema) (sym same) ∙ ap (told stats_refusal) answer) h
+      (ap (stats_of_text schema) (sym same) ∙ ap (with_refusal stats_refusal) answer) h
 
-  pub stats_refused : (text slice : List ℕ) (e : Ending) → slice ≡ text → StopsBy (told stats_refusal (stats_answer schema slice)) e
+  pub stats_refused : (text slice : List ℕ) (e : Failure) → slice ≡ text → StopsBy (with_refusal stats_refusal (stats_answer schema slice)) e
       → Reads store (read file.Stats 67108864 name) (AtFile file.Stats) (Ok text) → Reads store (stats_stage name schema) (AtFile file.Stats) (Err e)
   unfolding stats_stage
   stats_refused text slice e same tells h =
@@ -69,15 +69,15 @@ module _ (schema : Schema) (text : List ℕ) (is : IsValid schema) (bytes : HasB
   stats_read x answers = same_value stats_error.NoMemory (stats_answer schema text) x (stats.only schema text (Ok x) is bytes answers)
 
   tells : (answer : Result StatsFile StatsError) (e : StatsError) → (◌≡◌ {A = Result StatsFile StatsError} (Err e) (Err stats_error.NoMemory)) ⊎ (Err e ≡ answer)
-      → StopsBy (told stats_refusal answer) (stats_ending e)
+      → StopsBy (with_refusal stats_refusal answer) (stats_failure e)
   tells answer stats_error.NoMemory h = tt
   tells answer (stats_error.Syntax line) (inl e) = cc
-  tells answer (stats_error.Syntax line) (inr e) = (ap (told stats_refusal) (sym e), (λ file h. cc), (λ h. cc))
+  tells answer (stats_error.Syntax line) (inr e) = (ap (with_refusal stats_refusal) (sym e), (λ file h. cc), (λ h. cc))
   tells answer (stats_error.Rule line) (inl e) = cc
-  tells answer (stats_error.Rule line) (inr e) = (ap (told stats_refusal) (sym e), (λ file h. cc), (λ h. cc))
+  tells answer (stats_error.Rule line) (inr e) = (ap (with_refusal stats_refusal) (sym e), (λ file h. cc), (λ h. cc))
 
-  pub stats_told : (e : StatsError) → Answers schema text (Err e) → StopsBy (told stats_refusal (stats_answer schema text)) (stats_ending e)
-  stats_told e answers = tells (stats_answer schema text) e (stats.only schema text (Err e) is bytes answers)
+  pub stats_stops_by : (e : StatsError) → Answers schema text (Err e) → StopsBy (with_refusal stats_refusal (stats_answer schema text)) (stats_failure e)
+  stats_stops_by e answers = tells (stats_answer schema text) e (stats.only schema text (Err e) is bytes answers)
 
 -- ---- the plan from a file
 
@@ -91,14 +91,14 @@ module _ (terms : PlanTerms) (query : Query) (stats : StatsFile) where
   unfolding stats_file_plan_stage
   all_there none = ap (λ (o : Option ℕ). unless_missing o >>= λ there. plan_of) none
 
-  -- if the file lacks something that the query needs, or memory runs out, `need_ending` is an ending of this stage
-  pub need_told : (e : NeedError) → IsNeedCause query stats e → StopsBy (stats_file_plan_stage terms query stats) (need_ending e)
+  -- if the file lacks something that the query needs, or memory runs out, `need_failure` is an ending of this stage
+  pub need_stops_by : (e : NeedError) → IsNeedCause query stats e → StopsBy (stats_file_plan_stage terms query stats) (need_failure e)
   unfolding stats_file_plan_stage
-  need_told (need.Missing from) is = (ap (λ (o : Option ℕ). unless_missing o >>= λ there. plan_of) is, (λ file h. cc), (λ h. cc))
-  need_told need.NoMemory is = tt
+  need_stops_by (need.Missing from) is = (ap (λ (o : Option ℕ). unless_missing o >>= λ there. plan_of) is, (λ file h. cc), (λ h. cc))
+  need_stops_by need.NoMemory is = tt
 
   -- the plan by known bounds is the one that is asked for, if these are the file's bounds
-  pub asked_known : (known : Known) → HasBounds (set_bounds_of_file query stats) (scan_bounds_of_file query stats) known
+  pub asked_known : (known : QueryBounds) → HasBounds (set_bounds_of_file query stats) (scan_bounds_of_file query stats) known
       → answer_of terms.shape known.sets known.scans terms.budget ≡ plan_from_file_asked terms query stats
   asked_known known gives =
       ap (λ (s : List ℕ). answer_of terms.shape s known.scans terms.budget) gives.sets
@@ -107,11 +107,11 @@ module _ (terms : PlanTerms) (query : Query) (stats : StatsFile) where
 -- ---- the file of a query's tables
 
 module _ {store : Reading} (accuracy : ℕ) (schema : Schema) (query : Query) (C : Files → FileId → Type 0) where
-  pub file_stops : (e : Ending) → Reads store (tables_stage schema query.from) C (Err e) → Reads store (work_run (works.WriteStats accuracy) schema query) C (Err e)
+  pub file_stops : (e : Failure) → Reads store (tables_stage schema query.from) C (Err e) → Reads store (work_run (works.WriteStats accuracy) schema query) C (Err e)
   file_stops e h = then_stops (tables_stage schema query.from) (λ rows files. Ok (stats_file_of_tables schema query rows accuracy)) store C C e (λ files id at. at) h
 
-  pub file_wants : (rows : List (List Row)) → Reads store (tables_stage schema query.from) C (Ok rows) → Reads store (work_run (works.WriteStats accuracy) schema query) C (Err ending.NoMemory)
-  file_wants rows h = then_tells store (tables_stage schema query.from) (λ rows. Ok (stats_file_of_tables schema query rows accuracy)) C C rows ending.NoMemory tt h
+  pub file_wants : (rows : List (List Row)) → Reads store (tables_stage schema query.from) C (Ok rows) → Reads store (work_run (works.WriteStats accuracy) schema query) C (Err failure.NoMemory)
+  file_wants rows h = then_tells store (tables_stage schema query.from) (λ rows. Ok (stats_file_of_tables schema query rows accuracy)) C C rows failure.NoMemory tt h
 
   pub file_made : (rows : List (List Row)) (outcome : RunOutcome) → outcome ≡ stats_file_of_tables schema query rows accuracy → Reads store (tables_stage schema query.from) C (Ok rows)
       → Reads store (work_run (works.WriteStats accuracy) schema query) C (Ok outcome)
@@ -121,11 +121,11 @@ module _ {store : Reading} (accuracy : ℕ) (schema : Schema) (query : Query) (C
 -- ---- a plan from a statistics file
 
 module _ {store : Reading} (name : List ℕ) (terms : PlanTerms) (schema : Schema) (query : Query) (C : Files → FileId → Type 0) where
-  pub plan_stops : (e : Ending) → Reads store (stats_stage name schema) C (Err e) → Reads store (work_run (works.PlanFromStats name terms) schema query) C (Err e)
+  pub plan_stops : (e : Failure) → Reads store (stats_stage name schema) C (Err e) → Reads store (work_run (works.PlanFromStats name terms) schema query) C (Err e)
   plan_stops e h = then_stops (stats_stage name schema) (λ stats files. stats_file_plan_stage terms query stats) store C C e (λ files id at. at) h
 
-  pub plan_ran : (stats : StatsFile) (result : Result PreparedStatsFilePlan Ending) → IfOk result (λ made. stats_file_plan_stage terms query stats ≡ Ok (plan_from made))
+  pub plan_ran : (stats : StatsFile) (result : Result PreparedStatsFilePlan Failure) → IfOk result (λ made. stats_file_plan_stage terms query stats ≡ Ok (plan_from made))
       → IfErr result (StopsBy (stats_file_plan_stage terms query stats)) → Reads store (stats_stage name schema) C (Ok stats)
-      → Reads store (work_run (works.PlanFromStats name terms) schema query) C (seen plan_from result)
+      → Reads store (work_run (works.PlanFromStats name terms) schema query) C (mapped plan_from result)
   plan_ran stats (Ok made) is tells h = then_gives store (stats_stage name schema) (stats_file_plan_stage terms query) C C stats (plan_from made) is h
   plan_ran stats (Err e) is tells h = then_tells store (stats_stage name schema) (stats_file_plan_stage terms query) C C stats e tells h

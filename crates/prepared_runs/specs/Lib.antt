@@ -1,9 +1,9 @@
 pub mod AcceptedQuery
 pub mod Allowed
 pub mod Appending
-pub mod Counted
+pub mod SectionRows
 pub mod StatsFiles
-pub mod Kept
+pub mod KeptBuffers
 pub mod Limits
 pub mod RunOutcome
 pub mod PreparedQuery

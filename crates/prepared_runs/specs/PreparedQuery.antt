@@ -32,10 +32,10 @@ use Rattle.safebound_words.specs.declared.command.OutText.{OutText}
 use Rattle.safebound_words.specs.declared.command.OutText.TheVariants as out_text
 
 -- the text that is left to write to out
-abbrev pub text_left : PendingOutput → OutText
-text_left (rest.Rows joins) = out_text.Rows
-text_left (rest.Audit joins) = out_text.Audit
-text_left (rest.Nothing plan) = out_text.Nothing
+abbrev pub pending_text : PendingOutput → OutText
+pending_text (rest.Rows joins) = out_text.Rows
+pending_text (rest.Audit joins) = out_text.Audit
+pending_text (rest.Nothing plan) = out_text.Nothing
 
 -- for each entry the rows that are joined: the rows of its whole scan, or the listed rows
 abbrev pub lists_in : Scans → Query → Tables → List (List ℕ)
@@ -48,13 +48,13 @@ plan_in (room.Levels plan reserved) = shaped.OrderPlan plan
 plan_in (room.Nodes plan reserved) = shaped.TreePlan plan
 
 -- how many bytes the buffers for the plan's parts hold
-abbrev pub held_bytes : Room → ℕ
-held_bytes (room.Levels plan reserved) = reserved_bytes reserved
-held_bytes (room.Nodes plan reserved) = tree_reserved_bytes reserved
+abbrev pub room_bytes : Room → ℕ
+room_bytes (room.Levels plan reserved) = reserved_bytes reserved
+room_bytes (room.Nodes plan reserved) = tree_reserved_bytes reserved
 
 -- how many bytes the buffers for the plan's parts and the lists that are joined hold
-abbrev pub bytes_held : Joins → ℕ
-bytes_held joins = buffers_bytes joins.lists + held_bytes joins.room
+abbrev pub room_and_list_bytes : Joins → ℕ
+room_and_list_bytes joins = buffers_bytes joins.lists + room_bytes joins.room
 
 -- if the lists were made before the plan, they hold exactly the bytes of lists that have room for as many rows as `bounds` says
 abbrev pub HoldExactly : Scans → List ℕ → Type 0
@@ -85,15 +85,15 @@ AreOverLists lists (rest.Nothing plan) = ⊤
 
 -- the lists and buffers for the joins that are left to do, if any, hold exactly `bytes` bytes
 abbrev pub HoldsBytes : ℕ → PendingOutput → Type 0
-HoldsBytes bytes (rest.Rows joins) = bytes_held joins ≡ bytes
-HoldsBytes bytes (rest.Audit joins) = bytes_held joins ≡ bytes
+HoldsBytes bytes (rest.Rows joins) = room_and_list_bytes joins ≡ bytes
+HoldsBytes bytes (rest.Audit joins) = room_and_list_bytes joins ≡ bytes
 HoldsBytes bytes (rest.Nothing plan) = ⊤
 
 -- the plan that is part of what is left to do
-abbrev pub plan_left : PendingOutput → AnyPlan
-plan_left (rest.Rows joins) = plan_in joins.room
-plan_left (rest.Audit joins) = plan_in joins.room
-plan_left (rest.Nothing plan) = plan
+abbrev pub pending_plan : PendingOutput → AnyPlan
+pending_plan (rest.Rows joins) = plan_in joins.room
+pending_plan (rest.Audit joins) = plan_in joins.room
+pending_plan (rest.Nothing plan) = plan
 
 -- the two texts that can be written after the joins: the rows, and the audit
 abbrev pub rows_from : Joins → Query → Database → List ℕ
@@ -113,19 +113,19 @@ abbrev pub accepted_of : PreparedQuery → AcceptedQuery
 accepted_of prepared = record {
   query = prepared.query;
   rows = entry_rows prepared.db;
-  plan = plan_left prepared.rest;
+  plan = pending_plan prepared.rest;
   source = prepared.source;
   lists = lists_by prepared.source prepared.query (tables_in (entry_rows prepared.db));
   memory = prepared.memory;
-  out = text_left prepared.rest;
+  out = pending_text prepared.rest;
 }
 
 -- the database has the query's tables, and the plan is for the query's entries. There is room for what is left to do, and this room takes
 -- exactly the bytes of the plan
 pub record IsPrepared (prepared : PreparedQuery) : Type 0 where
   pub database : IsDatabaseOf prepared.query prepared.db
-  pub plan : IsShapedPlan (length prepared.query.from) (plan_left prepared.rest)
-  pub bytes : prepared.bytes ≡ shape_bytes (plan_left prepared.rest)
+  pub plan : IsShapedPlan (length prepared.query.from) (pending_plan prepared.rest)
+  pub bytes : prepared.bytes ≡ shape_bytes (pending_plan prepared.rest)
   pub tables : tables_in (entry_rows prepared.db) ≡ tables_of prepared.db
   pub room : HasRoom prepared.query prepared.db prepared.rest
   pub lists : AreOverLists (accepted_of prepared).lists prepared.rest

@@ -46,13 +46,13 @@ pub data RunOutcome : Type 0 where
 
 -- for all tables for which the statistics file stands: no scan has more rows than the plan says, and no level or inner node of the plan has
 -- more rows than the plan says
-abbrev pub HoldsWhereItStands : PlanFromStatsFile → Type 0
-HoldsWhereItStands made = (tables : Tables) → StandsFor made.query made.file tables
+abbrev pub BoundsHoldForItsTables : PlanFromStatsFile → Type 0
+BoundsHoldForItsTables made = (tables : Tables) → StandsFor made.query made.file tables
     → IsPlanOver made.query tables (scans_of made.query tables) made.plan
 
 -- The file is an earlier statistics file with the new rows added. If the earlier file stood for some tables, then the new file stands for
 -- these tables with the new rows at the end of their table.
-pub record StandsForMore (made : AppendedRows) : Type 0 where
+pub record StandsAfterAppend (made : AppendedRows) : Type 0 where
   pub before : StatsFile
   pub keeps : KeepsRules made.schema before
   pub grown : made.file ≡ file_after before made.table made.rows
@@ -65,8 +65,8 @@ pub record StandsForMore (made : AppendedRows) : Type 0 where
 abbrev pub NoBoundIsTooLow : RunOutcome → Type 0
 NoBoundIsTooLow (Planned run) = BoundsHold run
 NoBoundIsTooLow (StatsMade made_stats) = StandsFor made_stats.query made_stats.file (tables_in made_stats.rows)
-NoBoundIsTooLow (PlannedFromStats made) = HoldsWhereItStands made
-NoBoundIsTooLow (Appended made) = StandsForMore made
+NoBoundIsTooLow (PlannedFromStats made) = BoundsHoldForItsTables made
+NoBoundIsTooLow (Appended made) = StandsAfterAppend made
 
 -- the rows that are printed, if any, are the answer of the query
 abbrev pub PrintsTheAnswer : RunOutcome → Type 0

@@ -22,7 +22,7 @@ use Rattle.join_steps.specs.Lists.{list_levels}
 use Rattle.join_steps.specs.Plans.{IsPlanOf}
 use Rattle.bushy_join.specs.Trees.{node_rows, whole_rows, IsTreePlanOf}
 use Rattle.outcomes.specs.Errors.{plan_refusal}
-use Rattle.outcomes.specs.Reads.{◌>>=◌, seen, told}
+use Rattle.outcomes.specs.Reads.{◌>>=◌, mapped, with_refusal}
 use Rattle.outcomes.specs.declared.refusal.Refusal.{Refusal}
 use Rattle.printed_texts.specs.Plans.{audit_lines, plan_lines}
 use Rattle.printed_texts.specs.TreePlans.{tree_audits, tree_lines}
@@ -37,8 +37,8 @@ use Rattle.safebound_words.specs.declared.command.Shape.TheVariants as shapes
 
 -- the best plan by a bound for each set of entries and one for each scan, or why no plan is within the budget
 abbrev pub answer_of : Shape → List ℕ → List ℕ → ℕ → Result AnyPlan PlanError
-answer_of shapes.Order sets scans budget = seen (λ plan. shaped.OrderPlan plan) (plan_answer sets scans budget)
-answer_of shapes.Tree sets scans budget = seen (λ plan. shaped.TreePlan plan) (tree_answer sets scans budget)
+answer_of shapes.Order sets scans budget = mapped (λ plan. shaped.OrderPlan plan) (plan_answer sets scans budget)
+answer_of shapes.Tree sets scans budget = mapped (λ plan. shaped.TreePlan plan) (tree_answer sets scans budget)
 
 -- the plan by the bounds that a source gives at an accuracy: the best plan of the shape, or PastBits, or Budget with the least cost
 unfoldable pub planned_by : Shape → Sourced → ℕ → ℕ → Result AnyPlan PlanError
@@ -82,7 +82,7 @@ parts_bytes (shaped.TreePlan plan) = tree_rooms_bytes plan
 -- what `made` makes of a plan, or a refusal: why there is no plan, or MemoryLimit with the bytes of the plan
 abbrev pub planned_within : {A : Type 0} → Option ℕ → (AnyPlan → A) → Result AnyPlan PlanError → Result A Refusal
 planned_within limit made answer = do
-  plan ← told plan_refusal answer
+  plan ← with_refusal plan_refusal answer
   within_limit limit (shape_bytes plan) (made plan)
 
 -- no list has more rows than its bound, no part over these lists has more rows than its bound, and no bound is more than joins can take

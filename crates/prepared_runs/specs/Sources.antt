@@ -65,8 +65,8 @@ sourced_of_file query file tables = record {
 
 -- what a source needs of the tables: the source Keyed carries conditions along declared keys, so the declared keys must hold. They hold in
 -- all tables that were read from files
-abbrev pub Needs : ListSource → Schema → Query → Tables → Type 0
-Needs sources.Columns schema query tables = ⊤
-Needs sources.Keyed schema query tables = DeclaredKeysHold schema query tables
-Needs sources.Reduced schema query tables = ⊤
-Needs sources.Counted schema query tables = ⊤
+abbrev pub SourceNeeds : ListSource → Schema → Query → Tables → Type 0
+SourceNeeds sources.Columns schema query tables = ⊤
+SourceNeeds sources.Keyed schema query tables = DeclaredKeysHold schema query tables
+SourceNeeds sources.Reduced schema query tables = ⊤
+SourceNeeds sources.Counted schema query tables = ⊤

@@ -1,4 +1,4 @@
--- What is proved about the bounds and lists of each source (law `sources_stand` of safebound_laws).
+-- What is proved about the bounds and lists of each source (law `sources_are_sound` of safebound_laws).
 use Rattle.std.specs.Prelude.{◌≡◌, ℕ, ◌^◌, List, length}
 use Rattle.query_types.specs.Named.{NamesItsEntries}
 use Rattle.query_types.specs.declared.types.Query.{Query}

@@ -10,9 +10,9 @@ use Rattle.stats_file_bounds.specs.declared.errors.NeedError.{NeedError}
 use Rattle.stats_file_bounds.specs.declared.errors.NeedError.TheVariants as need
 use Rattle.stats_file_of_query.specs.Files.{file_of_query}
 use Rattle.outcomes.specs.Errors.{stats_refusal}
-use Rattle.outcomes.specs.Reads.{◌>>=◌, told}
-use Rattle.outcomes.specs.declared.ending.Ending.{Ending}
-use Rattle.outcomes.specs.declared.ending.Ending.TheVariants as ending
+use Rattle.outcomes.specs.Reads.{◌>>=◌, with_refusal}
+use Rattle.outcomes.specs.declared.failure.Failure.{Failure}
+use Rattle.outcomes.specs.declared.failure.Failure.TheVariants as failure
 use Rattle.outcomes.specs.declared.names.FileId.TheVariants as file
 use Rattle.outcomes.specs.declared.refusal.Refusal.{Refusal}
 use Rattle.outcomes.specs.declared.refusal.Refusal.TheVariants as refusal
@@ -30,17 +30,17 @@ use Rattle.safebound_words.specs.declared.command.PlanTerms.{PlanTerms}
 
 -- the statistics file that a text spells over a schema; `stats_stage` reads the text from the file `name`
 abbrev pub stats_of_text : Schema → List ℕ → Result StatsFile Refusal
-stats_of_text schema text = told stats_refusal (stats_answer schema text)
+stats_of_text schema text = with_refusal stats_refusal (stats_answer schema text)
 
 unfoldable pub stats_stage : List ℕ → Schema → Files → Result StatsFile Refusal
 stats_stage name schema files = do
   text ← read file.Stats most_file name files
   stats_of_text schema text
 
--- the ending of a run for which a statistics file gives no bounds
-abbrev pub need_ending : NeedError → Ending
-need_ending (need.Missing from) = ending.Refused (refusal.Stats cause.Missing from)
-need_ending need.NoMemory = ending.NoMemory
+-- the failure of a run for which a statistics file gives no bounds
+abbrev pub need_failure : NeedError → Failure
+need_failure (need.Missing from) = failure.Refused (refusal.Stats cause.Missing from)
+need_failure need.NoMemory = failure.NoMemory
 
 -- the refusal Missing with the first entry for which the file has no statistics, if there is such an entry
 abbrev pub unless_missing : Option ℕ → Result (Unit {0}) Refusal

@@ -11,7 +11,7 @@ use Rattle.query_types.specs.declared.types.Query.{Query}
 use Rattle.sql_meaning.specs.Tables.{Tables}
 use Rattle.order_search.specs.declared.refusal.PlanError.{PlanError}
 use Rattle.outcomes.specs.Errors.{query_refusal, schema_refusal}
-use Rattle.outcomes.specs.Reads.{◌>>=◌, told}
+use Rattle.outcomes.specs.Reads.{◌>>=◌, with_refusal}
 use Rattle.outcomes.specs.declared.names.FileId.{FileId}
 use Rattle.outcomes.specs.declared.names.FileId.TheVariants as file
 use Rattle.outcomes.specs.declared.refusal.Refusal.{Refusal}
@@ -45,7 +45,7 @@ command_stage words = or_usage (command_of words)
 
 -- the schema that a text declares; `schema_stage` reads the text from the file `name`
 abbrev pub schema_of_text : List ℕ → Result Schema Refusal
-schema_of_text text = told schema_refusal (schema_answer text)
+schema_of_text text = with_refusal schema_refusal (schema_answer text)
 
 unfoldable pub schema_stage : List ℕ → Files → Result Schema Refusal
 schema_stage name files = do
@@ -54,7 +54,7 @@ schema_stage name files = do
 
 -- the query that a text asks; `query_stage` reads the text from the file `name`
 abbrev pub query_of_text : Schema → List ℕ → Result Query Refusal
-query_of_text schema text = told query_refusal (query_answer schema text)
+query_of_text schema text = with_refusal query_refusal (query_answer schema text)
 
 unfoldable pub query_stage : List ℕ → Schema → Files → Result Query Refusal
 query_stage name schema files = do

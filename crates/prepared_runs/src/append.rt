@@ -4,7 +4,7 @@ ghost use Rattle.std.specs.Str.{str_eq_ignore_ascii_case};
 ghost use Rattle.limits.specs.Profile.{most_rows};
 ghost use Rattle.base_io.specs.Devices.{reading};
 ghost use Rattle.csv_tables.specs.Cells.{AreCellsOf};
-ghost use Rattle.outcomes.specs.Reads.{AtFile, Reads, StopsBy, seen};
+ghost use Rattle.outcomes.specs.Reads.{AtFile, Reads, StopsBy, mapped};
 ghost use Rattle.schema_types.specs.Validity.{IsValid};
 ghost use Rattle.stats_file.specs.Rules.{KeepsRules};
 ghost use Rattle.stats_reading.specs.Names.{HasByteColumns};
@@ -12,7 +12,7 @@ ghost use Rattle.table_files.specs.EntryTables.{rows_of_read};
 ghost use Rattle.table_files.specs.Stage.{table_at};
 ghost use Rattle.prepared_runs.specs.Appending.{append_run, grown_stage, is_of_table, rows_run, section_stage, stats_run};
 ghost use Rattle.safebound_words.specs.declared.command.Aim.TheVariants as aims;
-ghost use Rattle.prepared_runs.specs.Counted.{HasAsMany, counted};
+ghost use Rattle.prepared_runs.specs.SectionRows.{HasAsMany, section_rows};
 ghost use Rattle.prepared_runs.specs.PreparedRun.{appended_from};
 ghost use Rattle.prepared_runs.specs.Verdict.{IsAimFile};
 
@@ -21,7 +21,7 @@ use appended_stats::append_rows;
 use base_io::Store;
 use gathered_stats::characters_differ;
 use limits::MOST_ROWS;
-use outcomes::{Ending, FileId, Refusal, StatsCause};
+use outcomes::{Failure, FileId, Refusal, StatsCause};
 use safebound_words::{NewRows, Word};
 use schema_types::{LimitKind, Schema};
 use stats_file::{StatsFile, TableStats};
@@ -38,7 +38,7 @@ pub struct PreparedAppend {
 
 /// The number of a table in the schema, and how many rows the table's section of a statistics file counts.
 #[derive(Clone, Copy)]
-pub struct Counted {
+pub struct SectionRows {
     pub table: u32,
     pub rows: u32,
 }
@@ -73,14 +73,14 @@ fn section_named<'a>(name: &Word, schema: &Schema, stats: &'a StatsFile) -> Opti
 }
 
 // The table `name` and the number of rows in its section, or Missing if the file has no section of this table.
-fn count_section(name: &Word, schema: &Schema, stats: &StatsFile) -> Result<Counted, Refusal>
+fn count_section(name: &Word, schema: &Schema, stats: &StatsFile) -> Result<SectionRows, Refusal>
     requires { KeepsRules schema.now stats.now }
-    ensures counted { seen counted (section_stage name.now schema.now stats.now) ≡ result }
+    ensures section_rows { mapped section_rows (section_stage name.now schema.now stats.now) ≡ result }
     ensures there { IfOk result (λ found. found.table < length schema.now.tables) }
     ensures alone { IfOk result (λ found. All (HasAsMany found) stats.now.tables) }
 {
     match section_named(name, schema, stats) {
-        Some(section) => Ok(Counted {
+        Some(section) => Ok(SectionRows {
             table: section.table,
             rows: section.rows,
         }),
@@ -103,9 +103,9 @@ fn grow(
     alloc: Global,
     schema: &Schema,
     stats: StatsFile,
-    found: Counted,
+    found: SectionRows,
     rows: TableRows,
-) -> Result<PreparedAppend, Ending>
+) -> Result<PreparedAppend, Failure>
     requires file { KeepsRules schema.now stats }
     requires alone { All (HasAsMany found) stats.tables }
     requires cells { AreCellsOf (table_at schema.now found.table) rows.pool rows.cells }
@@ -114,7 +114,7 @@ fn grow(
     ensures refused { IfErr result (StopsBy (grown_stage schema.now stats found.table found.rows (rows_of_read rows))) }
 {
     if !are_few(found.rows, rows.cells.rows) {
-        return Err(Ending::Refused(Refusal::Limit {
+        return Err(Failure::Refused(Refusal::Limit {
             which: LimitKind::Rows,
             file: FileId::Table(found.table),
             found: u64::from(MOST_ROWS) + 1,
@@ -138,15 +138,15 @@ fn append_read<S: Store>(
     name: &Word,
     schema: &Schema,
     stats: StatsFile,
-    found: Counted,
-) -> Result<PreparedAppend, Ending>
+    found: SectionRows,
+) -> Result<PreparedAppend, Failure>
     requires valid { IsValid schema.now }
     requires file { KeepsRules schema.now stats }
     requires there { found.table < length schema.now.tables }
     requires alone { All (HasAsMany found) stats.tables }
     ensures rules { IfOk result (λ made. KeepsRules schema.now made.file) }
     ensures reads { Reads (reading S.files S.faults S.misses store.old store.new) (rows_run name.now schema.now stats found.table found.rows)
-        (AtFile (FileId.Table found.table)) (seen (appended_from schema.now) result) }
+        (AtFile (FileId.Table found.table)) (mapped (appended_from schema.now) result) }
 {
     let rows = read_rows(alloc, store, schema, found.table, name.get())?;
     grow(alloc, schema, stats, found, rows)
@@ -159,13 +159,13 @@ fn append_to<S: Store>(
     append: &NewRows,
     schema: &Schema,
     stats: StatsFile,
-) -> Result<PreparedAppend, Ending>
+) -> Result<PreparedAppend, Failure>
     requires valid { IsValid schema.now }
     requires file { KeepsRules schema.now stats }
     ensures rules { IfOk result (λ made. KeepsRules schema.now made.file) }
     ensures reads { Reads (reading S.files S.faults S.misses store.old store.new) (stats_run append.now schema.now stats)
         (λ files file. IsOkAnd (section_stage append.now.table schema.now stats) (λ section. file ≡ FileId.Table section.table))
-        (seen (appended_from schema.now) result) }
+        (mapped (appended_from schema.now) result) }
 {
     let found = count_section(&append.table, schema, &stats)?;
     append_read(alloc, store, &append.rows_file, schema, stats, found)
@@ -178,12 +178,12 @@ pub fn prepare_append<S: Store>(
     store: &mut S,
     append: &NewRows,
     schema: &Schema,
-) -> Result<PreparedAppend, Ending>
+) -> Result<PreparedAppend, Failure>
     requires valid { IsValid schema.now }
     requires bytes { HasByteColumns schema.now }
     ensures rules { IfOk result (λ made. KeepsRules schema.now made.file) }
     ensures reads { Reads (reading S.files S.faults S.misses store.old store.new) (append_run append.now schema.now)
-        (IsAimFile (aims.Append append.now) schema.now) (seen (appended_from schema.now) result) }
+        (IsAimFile (aims.Append append.now) schema.now) (mapped (appended_from schema.now) result) }
 {
     let stats = load_stats(alloc, store, &append.stats_file, schema)?;
     append_to(alloc, store, append, schema, stats)

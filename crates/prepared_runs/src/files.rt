@@ -9,7 +9,7 @@ ghost use Rattle.prepared_runs.specs.Verdict.{query_stage, schema_stage};
 
 use base_io::Store;
 use limits::MOST_TEXT;
-use outcomes::{Ending, FileId};
+use outcomes::{Failure, FileId};
 use query_types::Query;
 use safebound_words::Word;
 use schema_types::{Schema, read_schema};
@@ -18,7 +18,7 @@ use std::alloc::Global;
 use table_files::load_file;
 
 /// Reads the schema in the file of this name.
-pub fn load_schema<S: Store>(alloc: Global, store: &mut S, name: &Word) -> Result<Schema, Ending>
+pub fn load_schema<S: Store>(alloc: Global, store: &mut S, name: &Word) -> Result<Schema, Failure>
     ensures valid { IfOk result IsValid }
     ensures bytes { IfOk result HasByteColumns }
     ensures reads { Reads (reading S.files S.faults S.misses store.old store.new) (schema_stage name.now) (AtFile FileId.Schema) result }
@@ -34,7 +34,7 @@ pub fn load_query<S: Store>(
     store: &mut S,
     name: &Word,
     schema: &Schema,
-) -> Result<Query, Ending>
+) -> Result<Query, Failure>
     requires { IsValid schema.now }
     ensures of_schema { IfOk result (IsOf schema.now) }
     ensures reads { Reads (reading S.files S.faults S.misses store.old store.new) (query_stage name.now schema.now)

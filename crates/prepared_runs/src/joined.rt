@@ -9,8 +9,8 @@ ghost use Rattle.join_steps.specs.Plans.{IsPlanOf};
 ghost use Rattle.bushy_join.specs.Trees.{IsTreePlanOf};
 ghost use Rattle.tree_rows.specs.Memory.{tree_reserved_bytes};
 ghost use Rattle.tree_rows.specs.Rooms.{HasTreeRooms};
-ghost use Rattle.prepared_runs.specs.Kept.{IsJoined, bytes_in, plan_joined};
-ghost use Rattle.prepared_runs.specs.PreparedQuery.{CanJoin, bytes_held, plan_in};
+ghost use Rattle.prepared_runs.specs.KeptBuffers.{IsJoined, joined_bytes, plan_joined};
+ghost use Rattle.prepared_runs.specs.PreparedQuery.{CanJoin, room_and_list_bytes, plan_in};
 ghost use Rattle.prepared_runs.specs.Standing.{LoseNoRow};
 ghost use Rattle.prepared_runs.specs.declared.shapes.AnyPlan.TheVariants as shaped;
 
@@ -24,7 +24,7 @@ use query_types::Query;
 use reserve_plan::Reserved;
 use row_buf::RowBuf;
 use tree_plans::BushyPlan;
-use tree_rows::{BushyDone, BushyReserved};
+use tree_rows::{BushyReserved, BushyResult};
 
 /// A plan whose joins are done, with the rows of its levels or nodes.
 #[derive(Drop)]
@@ -32,7 +32,7 @@ pub enum Joined {
     /// An order, the scanned rows of each entry, and the rows of each level.
     Levels(Plan, Vec<RowBuf<u32>>, Reserved),
     /// A join tree, and the rows of each node.
-    Nodes(BushyPlan, BushyDone),
+    Nodes(BushyPlan, BushyResult),
 }
 
 // Lists the rows of each level of an order.
@@ -49,7 +49,7 @@ fn join_levels(
     requires ready { IsReadyFor query.now (tables_of db.now) (lists_of lists.items) plan.order reserved }
     ensures plan { plan_joined result ≡ shaped.OrderPlan plan }
     ensures joined { IsJoined query.now db.now (lists_of lists.items) result }
-    ensures bytes { bytes_in result ≡ buffers_bytes lists + reserved_bytes reserved }
+    ensures bytes { joined_bytes result ≡ buffers_bytes lists + reserved_bytes reserved }
 {
     let filled = execute_plan(reserved, &plan, query, db, lists.as_slice());
     Joined::Levels(plan, lists, filled)
@@ -69,7 +69,7 @@ fn join_nodes(
     requires ready { HasTreeRooms plan reserved }
     ensures plan { plan_joined result ≡ shaped.TreePlan plan }
     ensures joined { IsJoined query.now db.now (lists_of lists.items) result }
-    ensures bytes { bytes_in result ≡ buffers_bytes lists + tree_reserved_bytes reserved }
+    ensures bytes { joined_bytes result ≡ buffers_bytes lists + tree_reserved_bytes reserved }
 {
     let done = execute_bushy(reserved, lists, &plan, query, db);
     Joined::Nodes(plan, done)
@@ -82,7 +82,7 @@ pub fn join(joins: Joins, query: &Query, db: &Database) -> Joined
     requires joins { CanJoin query.now db.now joins }
     ensures plan { plan_joined result ≡ plan_in joins.room }
     ensures joined { IsJoined query.now db.now (lists_of joins.lists.items) result }
-    ensures bytes { bytes_in result ≡ bytes_held joins }
+    ensures bytes { joined_bytes result ≡ room_and_list_bytes joins }
 {
     let Joins { lists, room } = joins;
     match room {

@@ -36,7 +36,7 @@ pub fn memory_of(plan: &AnyPlan) -> u128
 }
 
 /// Refuses a plan of `bytes` bytes if there is a limit and `bytes` is above it.
-pub fn keep_limit(limit: Option<u64>, bytes: u128) -> Result<(), Refusal>
+pub fn check_limit(limit: Option<u64>, bytes: u128) -> Result<(), Refusal>
     ensures { result ≡ limit_test limit bytes }
 {
     let Some(limit) = limit else {

@@ -2,7 +2,7 @@
 ghost use Rattle.std.specs.Prelude.{◌≡◌, ◌≤◌, IfErr, IfOk, Ok};
 ghost use Rattle.base_io.specs.Devices.{reading};
 ghost use Rattle.key_carriers.specs.DeclaredKeys.{DeclaredKeysHold};
-ghost use Rattle.outcomes.specs.Reads.{Reads, StopsBy, seen};
+ghost use Rattle.outcomes.specs.Reads.{Reads, StopsBy, mapped};
 ghost use Rattle.query_types.specs.Validity.{IsOf};
 ghost use Rattle.schema_types.specs.Validity.{IsValid};
 ghost use Rattle.stats_reading.specs.Names.{HasByteColumns};
@@ -15,7 +15,7 @@ ghost use Rattle.safebound_words.specs.declared.command.Aim.TheVariants as aims;
 ghost use Rattle.safebound_words.specs.declared.command.Work.TheVariants as works;
 ghost use Rattle.prepared_runs.specs.Allowed.{shape_cost};
 ghost use Rattle.prepared_runs.specs.Limits.{IsWithinLimit};
-ghost use Rattle.prepared_runs.specs.PreparedQuery.{AreOverLists, HasRoom, HoldExactly, HoldsBytes, IsPrepared, lists_in, plan_left, text_left};
+ghost use Rattle.prepared_runs.specs.PreparedQuery.{AreOverLists, HasRoom, HoldExactly, HoldsBytes, IsPrepared, lists_in, pending_plan, pending_text};
 ghost use Rattle.prepared_runs.specs.PreparedRun.{CanBeWritten, outcome_of, planned_outcome};
 ghost use Rattle.prepared_runs.specs.Shapes.{IsPlanOver, scan_bounds, shape_bytes};
 ghost use Rattle.prepared_runs.specs.Standing.{LoseNoRow};
@@ -23,7 +23,7 @@ ghost use Rattle.prepared_runs.specs.Verdict.{IsAimFile, IsWorkFile, aim_run, pl
 
 use crate::append::{PreparedAppend, prepare_append};
 use crate::files::load_query;
-use crate::limit::{keep_limit, memory_of};
+use crate::limit::{check_limit, memory_of};
 use crate::scans::{Joins, PlanWithScans, plan_task, prepare_joins};
 use crate::shapes::AnyPlan;
 use crate::stats_files::{
@@ -32,7 +32,7 @@ use crate::stats_files::{
 use base_io::{NoMemory, Store};
 use csv_tables::Database;
 use limits::Accuracy;
-use outcomes::Ending;
+use outcomes::Failure;
 use query_types::Query;
 use safebound_words::{Aim, ListSource, OutText, PlanWork, Word, Work};
 use schema_types::Schema;
@@ -83,10 +83,10 @@ fn make_room(
     requires plan { IsPlanOver query.now (tables_of db.now) (lists_in planned.scans query.now (tables_of db.now)) planned.plan }
     requires rows { LoseNoRow query.now (tables_of db.now) (lists_in planned.scans query.now (tables_of db.now)) }
     requires exact { HoldExactly planned.scans (scan_bounds planned.plan) }
-    ensures plan { IfOk result (λ rest. plan_left rest ≡ planned.plan) }
+    ensures plan { IfOk result (λ rest. pending_plan rest ≡ planned.plan) }
     ensures room { IfOk result (HasRoom query.now db.now) }
     ensures lists { IfOk result (AreOverLists (lists_in planned.scans query.now (tables_of db.now))) }
-    ensures out { IfOk result (λ rest. text_left rest ≡ task.now.out) }
+    ensures out { IfOk result (λ rest. pending_text rest ≡ task.now.out) }
     ensures bytes { IfOk result (HoldsBytes (shape_bytes planned.plan)) }
 {
     match task.out {
@@ -116,7 +116,7 @@ fn prepare_plan(
     schema: &Schema,
     query: Query,
     db: Database,
-) -> Result<PreparedQuery, Ending>
+) -> Result<PreparedQuery, Failure>
     requires database { IsDatabaseOf query db }
     requires tables { tables_in (entry_rows db) ≡ tables_of db }
     requires keys { DeclaredKeysHold schema.now query (tables_of db) }
@@ -127,7 +127,7 @@ fn prepare_plan(
 {
     let planned = plan_task(alloc, task, schema, &query, &db)?;
     let bytes = memory_of(&planned.plan);
-    keep_limit(task.terms.memory, bytes)?;
+    check_limit(task.terms.memory, bytes)?;
     let rest = make_room(alloc, task, planned, &query, &db)?;
     Ok(PreparedQuery {
         query,
@@ -146,13 +146,13 @@ fn prepare_tables<S: Store>(
     task: &PlanWork,
     schema: &Schema,
     query: Query,
-) -> Result<PreparedQuery, Ending>
+) -> Result<PreparedQuery, Failure>
     requires schema { IsValid schema.now }
     requires query { IsOf schema.now query }
     requires ranges { IsInRange task.now }
     ensures ready { IfOk result IsPrepared }
     ensures reads { Reads (reading S.files S.faults S.misses store.old store.new) (work_run (works.Plan task.now) schema.now query)
-        (IsReached schema.now (tables_of_query query.from)) (seen planned_outcome result) }
+        (IsReached schema.now (tables_of_query query.from)) (mapped planned_outcome result) }
 {
     let db = read_tables(alloc, store, schema, &query)?;
     prepare_plan(alloc, task, schema, query, db)
@@ -165,14 +165,14 @@ fn prepare_query<S: Store>(
     work: &Work,
     schema: &Schema,
     query: Query,
-) -> Result<PreparedRun, Ending>
+) -> Result<PreparedRun, Failure>
     requires schema { IsValid schema.now }
     requires bytes { HasByteColumns schema.now }
     requires query { IsOf schema.now query }
     requires ranges { WorkHasRanges work.now }
     ensures ready { IfOk result (CanBeWritten schema.now) }
     ensures reads { Reads (reading S.files S.faults S.misses store.old store.new) (work_run work.now schema.now query)
-        (IsWorkFile work.now schema.now query) (seen (outcome_of schema.now) result) }
+        (IsWorkFile work.now schema.now query) (mapped (outcome_of schema.now) result) }
 {
     match work {
         Work::Plan(plan) => {
@@ -203,13 +203,13 @@ fn prepare_work<S: Store>(
     file: &Word,
     work: &Work,
     schema: &Schema,
-) -> Result<PreparedRun, Ending>
+) -> Result<PreparedRun, Failure>
     requires schema { IsValid schema.now }
     requires bytes { HasByteColumns schema.now }
     requires ranges { WorkHasRanges work.now }
     ensures ready { IfOk result (CanBeWritten schema.now) }
     ensures reads { Reads (reading S.files S.faults S.misses store.old store.new) (aim_run (aims.Query file.now work.now) schema.now)
-        (IsAimFile (aims.Query file.now work.now) schema.now) (seen (outcome_of schema.now) result) }
+        (IsAimFile (aims.Query file.now work.now) schema.now) (mapped (outcome_of schema.now) result) }
 {
     let query = load_query(alloc, store, file, schema)?;
     prepare_query(alloc, store, work, schema, query)
@@ -222,13 +222,13 @@ pub fn prepare_run<S: Store>(
     store: &mut S,
     aim: &Aim,
     schema: &Schema,
-) -> Result<PreparedRun, Ending>
+) -> Result<PreparedRun, Failure>
     requires schema { IsValid schema.now }
     requires bytes { HasByteColumns schema.now }
     requires ranges { HasRanges aim.now }
     ensures ready { IfOk result (CanBeWritten schema.now) }
     ensures reads { Reads (reading S.files S.faults S.misses store.old store.new) (aim_run aim.now schema.now)
-        (IsAimFile aim.now schema.now) (seen (outcome_of schema.now) result) }
+        (IsAimFile aim.now schema.now) (mapped (outcome_of schema.now) result) }
 {
     match aim {
         Aim::Query { file, work } => prepare_work(alloc, store, file, work, schema),

@@ -4,11 +4,11 @@ ghost use Rattle.order_search.specs.declared.refusal.PlanError.TheVariants as er
 ghost use Rattle.reserve_plan.specs.Memory.{buffers_bytes, lists_bytes};
 ghost use Rattle.sql_meaning.specs.Databases.{IsDatabaseOf};
 ghost use Rattle.sql_meaning.specs.Tables.{tables_of};
-ghost use Rattle.join_steps.specs.Lists.{lists_of, rows_listed, scans_of};
+ghost use Rattle.join_steps.specs.Lists.{lists_of, listed_row_count, scans_of};
 ghost use Rattle.planning.specs.HasBounds.{HasBounds};
 ghost use Rattle.safebound_words.specs.InRange.{IsInRange};
 ghost use Rattle.prepared_runs.specs.Allowed.{MayJoin, shape_cost};
-ghost use Rattle.prepared_runs.specs.PreparedQuery.{CanJoin, HoldExactly, bytes_held, lists_in, plan_in};
+ghost use Rattle.prepared_runs.specs.PreparedQuery.{CanJoin, HoldExactly, room_and_list_bytes, lists_in, plan_in};
 ghost use Rattle.prepared_runs.specs.Shapes.{IsPlanOver, scan_bounds, shape_bytes};
 ghost use Rattle.prepared_runs.specs.Sources.{lists_by, scans_by, sourced};
 ghost use Rattle.prepared_runs.specs.Standing.{LoseNoRow};
@@ -16,14 +16,14 @@ ghost use Rattle.prepared_runs.specs.Verdict.{plan_asked};
 
 use crate::shapes::{AnyPlan, Room, bounds_of_scans, plan_by, reserve_room};
 use base_io::NoMemory;
-use counted_planning::from_counted;
+use counted_planning::from_counts;
 use csv_tables::Database;
 use join_steps::scan_all;
 use key_bounds::from_keys;
 use limits::Accuracy;
 use order_search::PlanError;
 use planned_joins::reserve_scans;
-use planning::{Known, from_reduced, from_statistics};
+use planning::{QueryBounds, from_reduced, from_statistics};
 use query_types::Query;
 use row_buf::RowBuf;
 use safebound_words::{ListSource, PlanWork};
@@ -42,7 +42,7 @@ pub enum Scans {
 // What a source gives: the bounds of all sets of entries and of their scans, and the rows that are joined.
 #[derive(Drop)]
 struct Given {
-    known: Known,
+    known: QueryBounds,
     scans: Scans,
 }
 
@@ -99,7 +99,7 @@ fn given_by(
             })
         }
         ListSource::Counted => {
-            let counted = from_counted(alloc, query, db)?;
+            let counted = from_counts(alloc, query, db)?;
             Ok(Given {
                 known: counted.known,
                 scans: Scans::Listed(counted.lists),
@@ -149,7 +149,7 @@ fn list_scans(
     requires database { IsDatabaseOf query.now db.now }
     requires count { length (scan_bounds plan.now) ≡ length query.now.from }
     requires fit { (entry : ℕ) → entry < length query.now.from
-        → rows_listed (scans_of query.now (tables_of db.now)) entry ≤ slice_index (scan_bounds plan.now) entry }
+        → listed_row_count (scans_of query.now (tables_of db.now)) entry ≤ slice_index (scan_bounds plan.now) entry }
     ensures lists { IfOk result (λ lists. lists_of lists.items ≡ scans_of query.now (tables_of db.now)) }
     ensures bytes { IfOk result (λ lists. buffers_bytes lists ≡ lists_bytes (scan_bounds plan.now)) }
 {
@@ -171,7 +171,7 @@ fn list_rows(
     requires database { IsDatabaseOf query.now db.now }
     requires count { length (scan_bounds plan.now) ≡ length query.now.from }
     requires fit { (entry : ℕ) → entry < length query.now.from
-        → rows_listed (lists_in scans query.now (tables_of db.now)) entry ≤ slice_index (scan_bounds plan.now) entry }
+        → listed_row_count (lists_in scans query.now (tables_of db.now)) entry ≤ slice_index (scan_bounds plan.now) entry }
     requires exact { HoldExactly scans (scan_bounds plan.now) }
     ensures lists { IfOk result (λ lists. lists_of lists.items ≡ lists_in scans query.now (tables_of db.now)) }
     ensures bytes { IfOk result (λ lists. buffers_bytes lists ≡ lists_bytes (scan_bounds plan.now)) }
@@ -197,7 +197,7 @@ pub fn prepare_joins(
     requires rows { LoseNoRow query.now (tables_of db.now) (lists_in planned.scans query.now (tables_of db.now)) }
     requires exact { HoldExactly planned.scans (scan_bounds planned.plan) }
     ensures plan { IfOk result (λ joins. plan_in joins.room ≡ planned.plan) }
-    ensures bytes { IfOk result (λ joins. bytes_held joins ≡ shape_bytes planned.plan) }
+    ensures bytes { IfOk result (λ joins. room_and_list_bytes joins ≡ shape_bytes planned.plan) }
     ensures room { IfOk result (CanJoin query.now db.now) }
     ensures lists { IfOk result (λ joins. lists_of joins.lists.items ≡ lists_in planned.scans query.now (tables_of db.now)) }
 {

@@ -5,7 +5,7 @@ ghost use Rattle.order_search.specs.declared.refusal.PlanError.TheVariants as er
 ghost use Rattle.sql_meaning.specs.Databases.{IsDatabaseOf};
 ghost use Rattle.sql_meaning.specs.Tables.{tables_of};
 ghost use Rattle.prepared_runs.specs.Allowed.{MayJoin};
-ghost use Rattle.prepared_runs.specs.PreparedQuery.{IsRoomOver, held_bytes, plan_in};
+ghost use Rattle.prepared_runs.specs.PreparedQuery.{IsRoomOver, room_bytes, plan_in};
 ghost use Rattle.prepared_runs.specs.Shapes.{IsPlanOver, answer_of, parts_bytes, scan_bounds};
 ghost use Rattle.safebound_words.specs.Commands.{most_budget_of};
 
@@ -14,7 +14,7 @@ use bushy_planning::plan_tree_from;
 use csv_tables::Database;
 use order_search::PlanError;
 use planned_joins::reserve_plan;
-use planning::{Known, plan_from};
+use planning::{QueryBounds, plan_from};
 use plans::Plan;
 use query_types::Query;
 use reserve_plan::Reserved;
@@ -45,7 +45,7 @@ pub enum Room {
 pub fn plan_by(
     alloc: Global,
     shape: Shape,
-    known: &Known,
+    known: &QueryBounds,
     budget: u64,
 ) -> Result<AnyPlan, PlanError>
     requires some { 1 ≤ length known.now.scans }
@@ -89,7 +89,7 @@ pub fn reserve_room(
     requires database { IsDatabaseOf query.now db.now }
     requires plan { (lists : List (List ℕ)) × IsPlanOver query.now (tables_of db.now) lists plan }
     ensures plan { IfOk result (λ room. plan_in room ≡ plan) }
-    ensures bytes { IfOk result (λ room. held_bytes room ≡ parts_bytes plan) }
+    ensures bytes { IfOk result (λ room. room_bytes room ≡ parts_bytes plan) }
     ensures ready { IfOk result (λ room. (lists : List (List ℕ)) → IsPlanOver query.now (tables_of db.now) lists plan
         → IsRoomOver query.now (tables_of db.now) lists room) }
 {

@@ -2,8 +2,8 @@
 ghost use Rattle.std.specs.Prelude.{◌≡◌, ◌≤◌, IfErr, IfOk, Ok, length};
 ghost use Rattle.limits.specs.Profile.{most_entries};
 ghost use Rattle.base_io.specs.Devices.{reading};
-ghost use Rattle.stats_file_of_query.specs.Databases.{IsReadOver};
-ghost use Rattle.outcomes.specs.Reads.{AtFile, Reads, StopsBy, seen};
+ghost use Rattle.stats_file_of_query.specs.Databases.{FitsQuery};
+ghost use Rattle.outcomes.specs.Reads.{AtFile, Reads, StopsBy, mapped};
 ghost use Rattle.planning.specs.HasBounds.{HasBounds};
 ghost use Rattle.query_types.specs.Validity.{IsOf};
 ghost use Rattle.schema_types.specs.Validity.{IsValid};
@@ -16,17 +16,17 @@ ghost use Rattle.safebound_words.specs.declared.command.Work.TheVariants as work
 ghost use Rattle.stats_file_bounds.specs.Bounds.{scan_bounds_of_file, set_bounds_of_file};
 ghost use Rattle.safebound_words.specs.Commands.{most_budget_of};
 ghost use Rattle.prepared_runs.specs.Shapes.{planned_within};
-ghost use Rattle.prepared_runs.specs.StatsFiles.{made_from_file, need_ending, plan_from_file_asked, stats_file_plan_stage, stats_stage, stats_file_of_tables};
+ghost use Rattle.prepared_runs.specs.StatsFiles.{made_from_file, need_failure, plan_from_file_asked, stats_file_plan_stage, stats_stage, stats_file_of_tables};
 ghost use Rattle.prepared_runs.specs.PreparedRun.{IsPlanned, file_from, plan_from};
 ghost use Rattle.prepared_runs.specs.Verdict.{work_run};
 
-use crate::limit::{keep_limit, memory_of};
+use crate::limit::{check_limit, memory_of};
 use crate::shapes::{AnyPlan, plan_by};
 use base_io::{NoMemory, Store};
 use csv_tables::Database;
 use limits::{Accuracy, MOST_FILE};
-use outcomes::{Ending, FileId, Refusal, StatsCause};
-use planning::Known;
+use outcomes::{Failure, FileId, Refusal, StatsCause};
+use planning::QueryBounds;
 use query_types::Query;
 use safebound_words::{PlanTerms, Word};
 use schema_types::Schema;
@@ -61,7 +61,7 @@ pub(crate) fn load_stats<S: Store>(
     store: &mut S,
     name: &Word,
     schema: &Schema,
-) -> Result<StatsFile, Ending>
+) -> Result<StatsFile, Failure>
     requires valid { IsValid schema.now }
     requires bytes { HasByteColumns schema.now }
     ensures rules { IfOk result (KeepsRules schema.now) }
@@ -73,16 +73,16 @@ pub(crate) fn load_stats<S: Store>(
     Ok(file)
 }
 
-// The ending of a run for which the statistics file gives no bounds.
-fn ending_of(error: NeedError) -> Ending
-    ensures { result ≡ need_ending error }
+// The failure of a run for which the statistics file gives no bounds.
+fn failure_of(error: NeedError) -> Failure
+    ensures { result ≡ need_failure error }
 {
     match error {
-        NeedError::Missing { from } => Ending::Refused(Refusal::Stats {
+        NeedError::Missing { from } => Failure::Refused(Refusal::Stats {
             cause: StatsCause::Missing,
             at: u32::from(from),
         }),
-        NeedError::NoMemory => Ending::NoMemory,
+        NeedError::NoMemory => Failure::NoMemory,
     }
 }
 
@@ -91,9 +91,9 @@ fn plan_known(
     alloc: Global,
     query: Query,
     file: StatsFile,
-    known: &Known,
+    known: &QueryBounds,
     terms: &PlanTerms,
-) -> Result<PreparedStatsFilePlan, Ending>
+) -> Result<PreparedStatsFilePlan, Failure>
     requires some { 1 ≤ length query.from }
     requires few { length query.from ≤ most_entries }
     requires known { HasBounds (set_bounds_of_file query file) (scan_bounds_of_file query file) known.now }
@@ -106,7 +106,7 @@ fn plan_known(
 {
     let plan = plan_by(alloc, terms.shape, known, terms.budget)?;
     let bytes = memory_of(&plan);
-    keep_limit(terms.memory, bytes)?;
+    check_limit(terms.memory, bytes)?;
     Ok(PreparedStatsFilePlan {
         query,
         file,
@@ -123,7 +123,7 @@ fn plan_from_stats_file(
     query: Query,
     file: StatsFile,
     terms: &PlanTerms,
-) -> Result<PreparedStatsFilePlan, Ending>
+) -> Result<PreparedStatsFilePlan, Failure>
     requires query { IsOf schema.now query }
     requires file { KeepsRules schema.now file }
     requires budget { terms.now.budget ≤ most_budget_of terms.now.shape }
@@ -133,19 +133,19 @@ fn plan_from_stats_file(
 {
     match from_file(alloc, &query, &file) {
         Ok(known) => plan_known(alloc, query, file, &known, terms),
-        Err(error) => Err(ending_of(error)),
+        Err(error) => Err(failure_of(error)),
     }
 }
 
 // Makes the statistics file of a query's tables, compressed at an accuracy.
-fn file_tables(
+fn stats_file_of_tables(
     alloc: Global,
     schema: &Schema,
     query: Query,
     db: Database,
     accuracy: Accuracy,
 ) -> Result<PreparedStatsFile, NoMemory>
-    requires over { IsReadOver schema.now query db }
+    requires over { FitsQuery schema.now query db }
     requires tables { tables_in (entry_rows db) ≡ tables_of db }
     ensures rules { IfOk result (λ made_stats. KeepsRules schema.now made_stats.file) }
     ensures made_stats { IfOk result (λ made_stats. file_from schema.now made_stats ≡ stats_file_of_tables schema.now query (entry_rows db) accuracy) }
@@ -161,15 +161,15 @@ pub fn prepare_stats_file<S: Store>(
     schema: &Schema,
     query: Query,
     accuracy: Accuracy,
-) -> Result<PreparedStatsFile, Ending>
+) -> Result<PreparedStatsFile, Failure>
     requires schema { IsValid schema.now }
     requires query { IsOf schema.now query }
     ensures rules { IfOk result (λ made_stats. KeepsRules schema.now made_stats.file) }
     ensures reads { Reads (reading S.files S.faults S.misses store.old store.new) (work_run (works.WriteStats accuracy) schema.now query)
-        (IsReached schema.now (tables_of_query query.from)) (seen (file_from schema.now) result) }
+        (IsReached schema.now (tables_of_query query.from)) (mapped (file_from schema.now) result) }
 {
     let db = read_tables(alloc, store, schema, &query)?;
-    let made_stats = file_tables(alloc, schema, query, db, accuracy)?;
+    let made_stats = stats_file_of_tables(alloc, schema, query, db, accuracy)?;
     Ok(made_stats)
 }
 
@@ -181,14 +181,14 @@ pub fn prepare_stats_file_plan<S: Store>(
     query: Query,
     file: &Word,
     terms: &PlanTerms,
-) -> Result<PreparedStatsFilePlan, Ending>
+) -> Result<PreparedStatsFilePlan, Failure>
     requires schema { IsValid schema.now }
     requires bytes { HasByteColumns schema.now }
     requires query { IsOf schema.now query }
     requires budget { terms.now.budget ≤ most_budget_of terms.now.shape }
     ensures plan { IfOk result IsPlanned }
     ensures reads { Reads (reading S.files S.faults S.misses store.old store.new) (work_run (works.PlanFromStats file.now terms.now) schema.now query)
-        (AtFile FileId.Stats) (seen plan_from result) }
+        (AtFile FileId.Stats) (mapped plan_from result) }
 {
     let stats = load_stats(alloc, store, file, schema)?;
     plan_from_stats_file(alloc, schema, query, stats, terms)

@@ -6,25 +6,25 @@ use Rattle.std.proofs.lemmas.Grind.{flat_map-append}
 use Rattle.std.proofs.lemmas.List.Concat.{flat_map-cons}
 use Rattle.std.proofs.lemmas.List.Folds.{flat_map-map}
 use denote.Bor.{Bor}
-use Rattle.printed_texts.specs.Faults.{behind_blank, error_line}
+use Rattle.printed_texts.specs.Faults.{after_blank, error_line}
 
-pub line_is : (words : List (List ℕ)) (parts : List ℕ) → parts ≡ flat_map behind_blank words → codes "error" ++ (parts ++ codes "\n") ≡ error_line words
+pub line_is : (words : List (List ℕ)) (parts : List ℕ) → parts ≡ flat_map after_blank words → codes "error" ++ (parts ++ codes "\n") ≡ error_line words
 unfolding error_line
 line_is words parts e = ap (λ x. codes "error" ++ (x ++ codes "\n")) e
 
-abbrev pub seen_words : List (Bor (List ℕ)) → List (List ℕ)
-seen_words words = map (λ w. w.now) words
+abbrev pub words_now : List (Bor (List ℕ)) → List (List ℕ)
+words_now words = map (λ w. w.now) words
 
 abbrev pub word_parts : List (Bor (List ℕ)) → List ℕ
-word_parts words = flat_map (λ w. behind_blank w.now) words
+word_parts words = flat_map (λ w. after_blank w.now) words
 
-pub words_are : (words : List (Bor (List ℕ))) → word_parts words ≡ flat_map behind_blank (seen_words words)
-words_are words = sym (flat_map-map behind_blank (λ (w : Bor (List ℕ)). w.now) words)
+pub words_are : (words : List (Bor (List ℕ))) → word_parts words ≡ flat_map after_blank (words_now words)
+words_are words = sym (flat_map-map after_blank (λ (w : Bor (List ℕ)). w.now) words)
 
 pub about_are : (words more : List (Bor (List ℕ))) (file : List ℕ)
-    → word_parts words ++ (behind_blank file ++ word_parts more) ≡ flat_map behind_blank (seen_words words ++ (file ∷ seen_words more))
+    → word_parts words ++ (after_blank file ++ word_parts more) ≡ flat_map after_blank (words_now words ++ (file ∷ words_now more))
 about_are words more file =
-    ap (λ x. x ++ (behind_blank file ++ word_parts more)) (words_are words)
-    ∙ ap (λ x. flat_map behind_blank (seen_words words) ++ (behind_blank file ++ x)) (words_are more)
-    ∙ ap (λ x. flat_map behind_blank (seen_words words) ++ x) (sym (flat_map-cons behind_blank file (seen_words more)))
-    ∙ sym (flat_map-append behind_blank (seen_words words) (file ∷ seen_words more))
+    ap (λ x. x ++ (after_blank file ++ word_parts more)) (words_are words)
+    ∙ ap (λ x. flat_map after_blank (words_now words) ++ (after_blank file ++ x)) (words_are more)
+    ∙ ap (λ x. flat_map after_blank (words_now words) ++ x) (sym (flat_map-cons after_blank file (words_now more)))
+    ∙ sym (flat_map-append after_blank (words_now words) (file ∷ words_now more))

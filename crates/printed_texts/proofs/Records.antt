@@ -7,7 +7,7 @@ use Rattle.row_printer.specs.Fields.{field_text}
 use Rattle.sql_meaning.specs.Tables.{Tables}
 use Rattle.query_types.specs.declared.types.Out.{Out}
 use Rattle.printed_texts.specs.Lines.{field_at, fields_at, next_field}
-use Rattle.printed_texts.specs.declared.rows.Line.{Line}
+use Rattle.printed_texts.specs.declared.rows.RowsRecord.{RowsRecord}
 
 to_the_end : {X : Type 0} (a : ℕ) (xs : List X) → take (length xs - a) (drop a xs) ≡ drop a xs
 to_the_end a xs = grind (arith, common_steps)
@@ -20,7 +20,7 @@ tails : (field : Out → List ℕ) (b : Out) (rest : List Out)
 tails field b [] = sym (flat_map-cons (behind_comma field) b [] ∙ append-nil (44 ∷ field_text (field b)))
 tails field b (c ∷ rest) = ap (λ x. (44 ∷ field_text (field b)) ++ x) (tails field c rest) ∙ sym (flat_map-cons (behind_comma field) b (c ∷ rest))
 
-pub several : (outs : List Out) (x : Out) (tables : Tables) (l : Line) → 2 ≤ length outs → x ≡ get_or outs 0 x
+pub several : (outs : List Out) (x : Out) (tables : Tables) (l : RowsRecord) → 2 ≤ length outs → x ≡ get_or outs 0 x
     → field_text (field_at tables l x) ++ flat_map (next_field tables l) (take (length outs - 1) (drop 1 outs)) ≡ fields_at outs tables l
 several [] x tables l many first = absurd (omega arith)
 several (a ∷ []) x tables l many first = absurd (omega arith)

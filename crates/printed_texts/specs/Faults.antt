@@ -26,7 +26,7 @@ use Rattle.outcomes.specs.declared.status.Status.TheVariants as status
 
 -- the names that a line may need: the command's words for the schema file, the query file, the statistics file and, if there is one, the file
 -- of new rows. If the schema was read, the line may also name the schema's tables
-pub record Names : Type 0 where
+pub record NamesInLine : Type 0 where
   pub schema_file : List ℕ
   pub query_file : List ℕ
   pub stats_file : List ℕ
@@ -60,7 +60,7 @@ column_in None number = []
 column_in (Some table) number = name_of_column (slice_get table.columns number)
 
 -- the name of a file in a line: the command's word, or the name of a table's own file
-abbrev pub file_name : FileId → Names → List ℕ
+abbrev pub file_name : FileId → NamesInLine → List ℕ
 file_name file.Schema names = names.schema_file
 file_name file.Query names = names.query_file
 file_name (file.Table number) names = file_of_rows names.rows_file (table_in names.schema number)
@@ -126,11 +126,11 @@ sink_name sink.Out = codes "out"
 sink_name sink.Notes = codes "notes"
 
 -- the words for a read that failed, and also for a file that isn't there
-abbrev pub read_words : FileId → Names → List (List ℕ)
+abbrev pub read_words : FileId → NamesInLine → List (List ℕ)
 read_words id names = codes "read" ∷ (file_name id names ∷ [])
 
 -- the words for a refusal
-abbrev pub refusal_words : Refusal → Names → List (List ℕ)
+abbrev pub refusal_words : Refusal → NamesInLine → List (List ℕ)
 refusal_words refusal.Usage names = codes "usage" ∷ []
 refusal_words (refusal.Missing id) names = read_words id names
 refusal_words (refusal.Schema cause at) names = codes "schema" ∷ (schema_cause cause ∷ (decimal at ∷ []))
@@ -143,7 +143,7 @@ refusal_words (refusal.MemoryLimit bytes) names = codes "memory-limit" ∷ (deci
 refusal_words refusal.PastBits names = codes "past-bits" ∷ []
 
 -- the words for a status
-abbrev pub fault : Status → Names → List (List ℕ)
+abbrev pub fault : Status → NamesInLine → List (List ℕ)
 fault status.Done names = []
 fault (status.Refused r) names = refusal_words r names
 fault (status.ReadFault id) names = read_words id names
@@ -151,12 +151,12 @@ fault (status.WriteFault cut) names = codes "write" ∷ (sink_name cut ∷ [])
 fault status.NoMemory names = codes "memory" ∷ []
 
 -- a word with a blank before it
-abbrev pub behind_blank : List ℕ → List ℕ
-behind_blank word = 32 ∷ word
+abbrev pub after_blank : List ℕ → List ℕ
+after_blank word = 32 ∷ word
 
 -- `error`, the words, and the line's end
 unfoldable pub error_line : List (List ℕ) → List ℕ
-error_line words = codes "error" ++ (flat_map behind_blank words ++ codes "\n")
+error_line words = codes "error" ++ (flat_map after_blank words ++ codes "\n")
 
-abbrev pub fault_line : Status → Names → List ℕ
+abbrev pub fault_line : Status → NamesInLine → List ℕ
 fault_line s names = error_line (fault s names)

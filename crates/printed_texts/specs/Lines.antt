@@ -6,8 +6,8 @@ use Rattle.sql_meaning.specs.Conditions.{column_value}
 use Rattle.sql_meaning.specs.Tables.{Tables, cells_of}
 use Rattle.query_types.specs.declared.types.Out.{Out}
 use Rattle.printed_texts.specs.Texts.{value_text}
-use Rattle.printed_texts.specs.declared.rows.Line.{Line}
-use Rattle.printed_texts.specs.declared.rows.Line.TheVariants as line
+use Rattle.printed_texts.specs.declared.rows.RowsRecord.{RowsRecord}
+use Rattle.printed_texts.specs.declared.rows.RowsRecord.TheVariants as line
 
 -- a choice has for each FROM entry, in FROM order, the number of a row of its table
 pub record IsChoice (db : Database) (rows : List ℕ) : Type 0 where
@@ -15,7 +15,7 @@ pub record IsChoice (db : Database) (rows : List ℕ) : Type 0 where
   pub exists : (entry : ℕ) → entry < length db.slots → slice_index rows entry < (cells_of db entry).rows
 
 -- the line is the header, or its rows are a choice
-abbrev pub IsLineOf : Database → Line → Type 0
+abbrev pub IsLineOf : Database → RowsRecord → Type 0
 IsLineOf db line.Header = ⊤
 IsLineOf db (line.Rows rows) = IsChoice db rows.now
 
@@ -24,20 +24,20 @@ abbrev pub field_of : Tables → List ℕ → Out → List ℕ
 field_of tables rows out = value_text (column_value tables (slice_index rows) out.column)
 
 -- an output's field in a line: its name in the header, otherwise its value
-abbrev pub field_at : Tables → Line → Out → List ℕ
+abbrev pub field_at : Tables → RowsRecord → Out → List ℕ
 field_at tables line.Header out = out.name
 field_at tables (line.Rows rows) out = field_of tables rows.now out
 
 -- a comma and the field
-abbrev pub next_field : Tables → Line → Out → List ℕ
+abbrev pub next_field : Tables → RowsRecord → Out → List ℕ
 next_field tables l out = 44 ∷ field_text (field_at tables l out)
 
 -- the fields of a line, with commas between them
-abbrev pub fields_at : List Out → Tables → Line → List ℕ
+abbrev pub fields_at : List Out → Tables → RowsRecord → List ℕ
 fields_at outs tables l = fields_text (map (field_at tables l) outs)
 
 -- a line as a CSV record, with CR and LF
-abbrev pub line_at : List Out → Tables → Line → List ℕ
+abbrev pub line_at : List Out → Tables → RowsRecord → List ℕ
 line_at outs tables l = record_text (map (field_at tables l) outs)
 
 -- the record of a choice: the values of the outputs, and CR and LF

@@ -1,7 +1,7 @@
--- The texts of a `FileWord` and of `Named`, which a line is made of.
+-- The texts of a `FileWord` and of `LineNames`, which a line is made of.
 use Rattle.std.specs.Prelude.{ℕ, List, option_copied, option_map}
-use Rattle.printed_texts.specs.Faults.{Names, table_file}
-use Rattle.printed_texts.specs.declared.fault_lines.Named.{Named}
+use Rattle.printed_texts.specs.Faults.{NamesInLine, table_file}
+use Rattle.printed_texts.specs.declared.fault_lines.LineNames.{LineNames}
 use Rattle.printed_texts.specs.declared.lines.FileWord.{FileWord}
 use Rattle.printed_texts.specs.declared.lines.FileWord.TheVariants as word
 
@@ -9,8 +9,8 @@ abbrev pub file_text : FileWord → List ℕ
 file_text (word.Given name) = name.now
 file_text (word.OfTable table) = table_file table.now
 
-abbrev pub named : Named → Names
-named names = record {
+abbrev pub names_of_line : LineNames → NamesInLine
+names_of_line names = record {
   schema_file = names.schema_file.now;
   query_file = names.query_file.now;
   stats_file = names.stats_file.now;

@@ -3,7 +3,7 @@ ghost use Rattle.std.specs.Prelude.{◌≡◌, ◌≢◌, ◌∷◌, [], codes, 
 ghost use Rattle.base_io.specs.Devices.{growth};
 ghost use Rattle.base_io.specs.Writes.{Wrote};
 ghost use Rattle.printed_texts.specs.Faults.{column_in, error_line, fault_line, file_name, file_of_rows, file_of_table, is_of_file as of_file, limit_word as word_of_limit, limit_words, query_cause, read_words, refusal_words, schema_cause, sink_name, stats_cause, table_cause, table_in, table_words};
-ghost use Rattle.printed_texts.specs.Words.{file_text, named};
+ghost use Rattle.printed_texts.specs.Words.{file_text, names_of_line};
 
 use crate::lines::{FileWord, write_error_line, write_words_about};
 use base_io::{Failed, Sink};
@@ -13,7 +13,7 @@ use schema_types::{LimitKind, Schema, Table};
 /// The names that a line may need: the command's words for the schema file, the query file, the statistics file and, if there is one, the
 /// file of new rows. If the schema was read, the line may also name the schema's tables.
 #[derive(Clone, Copy)]
-pub struct Named<'a> {
+pub struct LineNames<'a> {
     pub schema_file: &'a str,
     pub query_file: &'a str,
     pub stats_file: &'a str,
@@ -68,8 +68,8 @@ fn column_name<'a>(table: Option<&'a Table>, number: u32) -> &'a [u8]
 }
 
 // The name of `file` in a line.
-fn file_word<'a>(file: FileId, names: Named<'a>) -> FileWord<'a>
-    ensures { file_text result ≡ file_name file (named names.entry) }
+fn file_word<'a>(file: FileId, names: LineNames<'a>) -> FileWord<'a>
+    ensures { file_text result ≡ file_name file (names_of_line names.entry) }
 {
     match file {
         FileId::Schema => FileWord::Given(names.schema_file.as_bytes()),
@@ -177,7 +177,7 @@ const KEY: &[u8] = b"key";
 
 // Writes the line of a refused schema, query or statistics text: the word for the text, the cause, and a number that says where. The number
 // is an offset in the text, a line, or a FROM entry.
-fn write_place<N: Sink>(text: &[u8], cause: &[u8], at: u32, sink: &mut N) -> Result<(), Failed>
+fn write_cause_at<N: Sink>(text: &[u8], cause: &[u8], at: u32, sink: &mut N) -> Result<(), Failed>
     ensures { Wrote (growth N.taken N.faults sink.old sink.new) (error_line (text.now ∷ (cause.now ∷ (decimal at ∷ [])))) result }
 {
     let mut digits = itoa::Buffer::new();
@@ -261,22 +261,22 @@ fn write_memory_limit<N: Sink>(bytes: u128, sink: &mut N) -> Result<(), Failed>
 }
 
 // Writes the line of a file that isn't there, or that couldn't be read.
-fn write_read<N: Sink>(file: FileId, names: Named, sink: &mut N) -> Result<(), Failed>
-    ensures { Wrote (growth N.taken N.faults sink.old sink.new) (error_line (read_words file (named names.entry))) result }
+fn write_read<N: Sink>(file: FileId, names: LineNames, sink: &mut N) -> Result<(), Failed>
+    ensures { Wrote (growth N.taken N.faults sink.old sink.new) (error_line (read_words file (names_of_line names.entry))) result }
 {
     write_words_about(&[READ], file_word(file, names), &[], sink)
 }
 
 // Writes the line of a refusal.
-fn write_refusal<N: Sink>(refusal: Refusal, names: Named, sink: &mut N) -> Result<(), Failed>
-    ensures { Wrote (growth N.taken N.faults sink.old sink.new) (error_line (refusal_words refusal (named names.entry))) result }
+fn write_refusal<N: Sink>(refusal: Refusal, names: LineNames, sink: &mut N) -> Result<(), Failed>
+    ensures { Wrote (growth N.taken N.faults sink.old sink.new) (error_line (refusal_words refusal (names_of_line names.entry))) result }
 {
     match refusal {
         Refusal::Usage => write_error_line(&[USAGE], sink),
         Refusal::Missing { file } => write_read(file, names, sink),
-        Refusal::Schema { cause, at } => write_place(SCHEMA, schema_word(cause), at, sink),
-        Refusal::Query { cause, at } => write_place(QUERY, query_word(cause), at, sink),
-        Refusal::Stats { cause, at } => write_place(STATS, stats_word(cause), at, sink),
+        Refusal::Schema { cause, at } => write_cause_at(SCHEMA, schema_word(cause), at, sink),
+        Refusal::Query { cause, at } => write_cause_at(QUERY, query_word(cause), at, sink),
+        Refusal::Stats { cause, at } => write_cause_at(STATS, stats_word(cause), at, sink),
         Refusal::Table { table, cause } => {
             let file = file_word(FileId::Table(table), names);
             write_table_fault(file, table_at(names.schema, table), cause, sink)
@@ -291,9 +291,9 @@ fn write_refusal<N: Sink>(refusal: Refusal, names: Named, sink: &mut N) -> Resul
 }
 
 /// Writes the line of a status that is not `Done`. The line names a table by its file, and a column by its name.
-pub fn write_line<N: Sink>(status: Status, names: Named, sink: &mut N) -> Result<(), Failed>
+pub fn write_line<N: Sink>(status: Status, names: LineNames, sink: &mut N) -> Result<(), Failed>
     requires { status ≢ Status.Done }
-    ensures { Wrote (growth N.taken N.faults sink.old sink.new) (fault_line status (named names.entry)) result }
+    ensures { Wrote (growth N.taken N.faults sink.old sink.new) (fault_line status (names_of_line names.entry)) result }
 {
     match status {
         Status::Done => Ok(()),

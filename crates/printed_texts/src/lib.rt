@@ -18,8 +18,8 @@ mod plan;
 mod rows;
 mod tree;
 
-pub use fault_lines::{Named, write_line};
+pub use fault_lines::{LineNames, write_line};
 pub use memory::write_memory;
 pub use plan::{alias_at, put_level_bound, write_plan};
-pub use rows::{Line, put_line};
+pub use rows::{RowsRecord, put_line};
 pub use tree::{put_node_bound, write_tree};

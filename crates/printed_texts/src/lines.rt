@@ -4,8 +4,8 @@ ghost use Rattle.std.specs.Prelude.{◌≡◌, ◌≤◌, ◌++◌, ◌∷◌, m
 ghost use Rattle.std.specs.Char.{to_ascii_lowercase};
 ghost use Rattle.std.specs.List.{flat_map};
 ghost use Rattle.base_io.specs.Devices.{growth};
-ghost use Rattle.base_io.specs.Writes.{Put, Wrote};
-ghost use Rattle.printed_texts.specs.Faults.{behind_blank, error_line, table_file};
+ghost use Rattle.base_io.specs.Writes.{WroteBuffered, Wrote};
+ghost use Rattle.printed_texts.specs.Faults.{after_blank, error_line, table_file};
 ghost use Rattle.printed_texts.specs.Words.{file_text};
 
 use base_io::{Buffer, Failed, Sink};
@@ -28,7 +28,7 @@ pub enum FileWord<'a> {
 
 // Puts a name, with A to Z in lower case.
 fn put_lower<N: Sink>(name: &[u8], buffer: &mut Buffer, sink: &mut N) -> Result<(), Failed>
-    ensures { Put (growth N.taken N.faults sink.old sink.new) buffer.old buffer.new (map to_ascii_lowercase name.now) result }
+    ensures { WroteBuffered (growth N.taken N.faults sink.old sink.new) buffer.old buffer.new (map to_ascii_lowercase name.now) result }
 {
     'bytes: for byte in name {
         buffer.put(sink, &[byte.to_ascii_lowercase()])?;
@@ -37,14 +37,14 @@ fn put_lower<N: Sink>(name: &[u8], buffer: &mut Buffer, sink: &mut N) -> Result<
 }
 
 fn put_table_file<N: Sink>(table: &Table, buffer: &mut Buffer, sink: &mut N) -> Result<(), Failed>
-    ensures { Put (growth N.taken N.faults sink.old sink.new) buffer.old buffer.new (table_file table.now) result }
+    ensures { WroteBuffered (growth N.taken N.faults sink.old sink.new) buffer.old buffer.new (table_file table.now) result }
 {
     put_lower(table.name.as_str().as_bytes(), buffer, sink)?;
     buffer.put(sink, CSV)
 }
 
 fn put_file_name<N: Sink>(file: FileWord, buffer: &mut Buffer, sink: &mut N) -> Result<(), Failed>
-    ensures { Put (growth N.taken N.faults sink.old sink.new) buffer.old buffer.new (file_text file.entry) result }
+    ensures { WroteBuffered (growth N.taken N.faults sink.old sink.new) buffer.old buffer.new (file_text file.entry) result }
 {
     match file {
         FileWord::Given(name) => buffer.put(sink, name),
@@ -54,7 +54,7 @@ fn put_file_name<N: Sink>(file: FileWord, buffer: &mut Buffer, sink: &mut N) -> 
 
 // Puts a blank and the name of a file.
 fn put_file<N: Sink>(file: FileWord, buffer: &mut Buffer, sink: &mut N) -> Result<(), Failed>
-    ensures { Put (growth N.taken N.faults sink.old sink.new) buffer.old buffer.new (behind_blank (file_text file.entry)) result }
+    ensures { WroteBuffered (growth N.taken N.faults sink.old sink.new) buffer.old buffer.new (after_blank (file_text file.entry)) result }
 {
     buffer.put(sink, SPACE)?;
     put_file_name(file, buffer, sink)
@@ -62,13 +62,13 @@ fn put_file<N: Sink>(file: FileWord, buffer: &mut Buffer, sink: &mut N) -> Resul
 
 // Puts a blank and a word.
 fn put_word<N: Sink>(word: &[u8], buffer: &mut Buffer, sink: &mut N) -> Result<(), Failed>
-    ensures { Put (growth N.taken N.faults sink.old sink.new) buffer.old buffer.new (behind_blank word.now) result }
+    ensures { WroteBuffered (growth N.taken N.faults sink.old sink.new) buffer.old buffer.new (after_blank word.now) result }
 {
     buffer.put_parts(sink, &[SPACE, word])
 }
 
 fn put_words<N: Sink>(words: &[&[u8]], buffer: &mut Buffer, sink: &mut N) -> Result<(), Failed>
-    ensures { Put (growth N.taken N.faults sink.old sink.new) buffer.old buffer.new (flat_map (λ w. behind_blank w.now) words.now) result }
+    ensures { WroteBuffered (growth N.taken N.faults sink.old sink.new) buffer.old buffer.new (flat_map (λ w. after_blank w.now) words.now) result }
 {
     'words: for word in words {
         put_word(word, buffer, sink)?;
@@ -84,8 +84,8 @@ fn put_words_about<N: Sink>(
     buffer: &mut Buffer,
     sink: &mut N,
 ) -> Result<(), Failed>
-    ensures { Put (growth N.taken N.faults sink.old sink.new) buffer.old buffer.new
-        (flat_map behind_blank (map (λ w. w.now) words.now ++ (file_text file.entry ∷ map (λ w. w.now) more.now))) result }
+    ensures { WroteBuffered (growth N.taken N.faults sink.old sink.new) buffer.old buffer.new
+        (flat_map after_blank (map (λ w. w.now) words.now ++ (file_text file.entry ∷ map (λ w. w.now) more.now))) result }
 {
     put_words(words, buffer, sink)?;
     put_file(file, buffer, sink)?;

@@ -1,7 +1,7 @@
 //! Writes the line `memory BYTES`, which says how many bytes a plan takes. No function here allocates memory.
 ghost use Rattle.std.specs.Prelude.{◌≡◌};
 ghost use Rattle.base_io.specs.Devices.{growth};
-ghost use Rattle.base_io.specs.Writes.{Put, Wrote};
+ghost use Rattle.base_io.specs.Writes.{WroteBuffered, Wrote};
 ghost use Rattle.printed_texts.specs.Memory.{memory_line, memory_text};
 
 use base_io::{Buffer, Failed, Sink};
@@ -11,7 +11,7 @@ const MEMORY: &[u8] = b"memory ";
 const LINE_END: &[u8] = b"\n";
 
 fn put_bytes<N: Sink>(bytes: u128, buffer: &mut Buffer, sink: &mut N) -> Result<(), Failed>
-    ensures { Put (growth N.taken N.faults sink.old sink.new) buffer.old buffer.new (memory_line bytes) result }
+    ensures { WroteBuffered (growth N.taken N.faults sink.old sink.new) buffer.old buffer.new (memory_line bytes) result }
 {
     let mut digits = itoa::Buffer::new();
     let bytes = digits.format(bytes).as_bytes();

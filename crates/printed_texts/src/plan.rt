@@ -2,7 +2,7 @@
 ghost use Rattle.std.specs.Prelude.{ℕ, ◌≡◌, ◌≤◌, ◌<◌, ◌+◌, ◌++◌, length, slice_get};
 ghost use Rattle.std.specs.List.{AllByRecursion};
 ghost use Rattle.base_io.specs.Devices.{growth};
-ghost use Rattle.base_io.specs.Writes.{Put, Wrote};
+ghost use Rattle.base_io.specs.Writes.{WroteBuffered, Wrote};
 ghost use Rattle.plans.specs.LeftDeep.{IsPlan};
 ghost use Rattle.printed_texts.specs.Plans.{alias_of, level_text, level_line, level_lines, plan_lines, scan_line, scan_lines};
 
@@ -24,7 +24,7 @@ fn write_scan<N: Sink>(
     buffer: &mut Buffer,
     sink: &mut N,
 ) -> Result<(), Failed>
-    ensures { Put (growth N.taken N.faults sink.old sink.new) buffer.old buffer.new (scan_line alias.now bound) result }
+    ensures { WroteBuffered (growth N.taken N.faults sink.old sink.new) buffer.old buffer.new (scan_line alias.now bound) result }
 {
     let mut digits = itoa::Buffer::new();
     let bound = digits.format(bound).as_bytes();
@@ -39,7 +39,7 @@ pub(crate) fn write_scans<N: Sink>(
     sink: &mut N,
 ) -> Result<(), Failed>
     requires { length bounds.now ≡ length sources.now }
-    ensures { Put (growth N.taken N.faults sink.old sink.new) buffer.old buffer.new (scan_lines sources.now bounds.now) result }
+    ensures { WroteBuffered (growth N.taken N.faults sink.old sink.new) buffer.old buffer.new (scan_lines sources.now bounds.now) result }
 {
     'scans: for (i, source) in sources.iter().enumerate() {
         write_scan(source.alias.as_str(), bounds[i], buffer, sink)?;
@@ -55,12 +55,15 @@ pub fn put_level_bound<N: Sink>(
     buffer: &mut Buffer,
     sink: &mut N,
 ) -> Result<(), Failed>
-    ensures { Put (growth N.taken N.faults sink.old sink.new) buffer.old buffer.new (level_text k alias.now bound) result }
+    ensures { WroteBuffered (growth N.taken N.faults sink.old sink.new) buffer.old buffer.new (level_text k alias.now bound) result }
 {
-    let (mut place, mut digits) = (itoa::Buffer::new(), itoa::Buffer::new());
-    let place = place.format(k).as_bytes();
+    let (mut level_digits, mut digits) = (itoa::Buffer::new(), itoa::Buffer::new());
+    let level_digits = level_digits.format(k).as_bytes();
     let bound = digits.format(bound).as_bytes();
-    buffer.put_parts(sink, &[LEVEL, place, SPACE, alias.as_bytes(), SPACE, bound])
+    buffer.put_parts(
+        sink,
+        &[LEVEL, level_digits, SPACE, alias.as_bytes(), SPACE, bound],
+    )
 }
 
 fn write_level<N: Sink>(
@@ -70,7 +73,7 @@ fn write_level<N: Sink>(
     buffer: &mut Buffer,
     sink: &mut N,
 ) -> Result<(), Failed>
-    ensures { Put (growth N.taken N.faults sink.old sink.new) buffer.old buffer.new (level_line k alias.now bound) result }
+    ensures { WroteBuffered (growth N.taken N.faults sink.old sink.new) buffer.old buffer.new (level_line k alias.now bound) result }
 {
     put_level_bound(k, alias, bound, buffer, sink)?;
     buffer.put(sink, LINE_END)
@@ -94,7 +97,7 @@ fn write_levels<N: Sink>(
 ) -> Result<(), Failed>
     requires entries { AllByRecursion (λ entry. entry < length sources.now) order.now }
     requires bounds { length bounds.now ≡ length order.now }
-    ensures { Put (growth N.taken N.faults sink.old sink.new) buffer.old buffer.new
+    ensures { WroteBuffered (growth N.taken N.faults sink.old sink.new) buffer.old buffer.new
         (level_lines 1 sources.now order.now bounds.now) result }
 {
     'levels: for i in 0..order.len() {

@@ -2,7 +2,7 @@
 ghost use Rattle.std.specs.Prelude.{◌≡◌, ◌≤◌, All, length};
 ghost use Rattle.std.specs.List.{flat_map};
 ghost use Rattle.base_io.specs.Devices.{growth};
-ghost use Rattle.base_io.specs.Writes.{Put};
+ghost use Rattle.base_io.specs.Writes.{WroteBuffered};
 ghost use Rattle.row_printer.specs.Fields.{field_text, lone_field_text};
 ghost use Rattle.sql_meaning.specs.Databases.{AreTables, IsColumnOf};
 ghost use Rattle.sql_meaning.specs.ValueRefs.{value_of_ref};
@@ -13,31 +13,31 @@ ghost use Rattle.printed_texts.specs.Texts.{value_text};
 use base_io::{Buffer, Failed, Sink};
 use csv_tables::Database;
 use query_types::Out;
-use row_printer::{put_comma, put_field, put_lone_field, put_record_end};
+use row_printer::{put_comma, put_field, put_only_field, put_record_end};
 use sql_meaning::{ValueRef, value_of_column};
 
 /// A record of the rows text: the header, or the record of a choice. A choice has one row number for each FROM entry, in FROM order.
 #[derive(Clone, Copy, Debug)]
-pub enum Line<'a> {
+pub enum RowsRecord<'a> {
     Header,
     Rows(&'a [u32]),
 }
 
 // An output's field in a record: its name in the header, otherwise its value.
-fn field<'a>(out: &'a Out, line: Line, db: &'a Database) -> ValueRef<'a>
+fn field<'a>(out: &'a Out, line: RowsRecord, db: &'a Database) -> ValueRef<'a>
     requires tables { AreTables db.now }
     requires column { IsColumnOf db.now out.now.column }
     requires line { IsLineOf db.now line }
     ensures { value_text (value_of_ref result) ≡ field_at (tables_of db.now) line.entry out.now }
 {
     match line {
-        Line::Header => ValueRef::Text(out.name.as_str()),
-        Line::Rows(rows) => value_of_column(&out.column, db, rows),
+        RowsRecord::Header => ValueRef::Text(out.name.as_str()),
+        RowsRecord::Rows(rows) => value_of_column(&out.column, db, rows),
     }
 }
 
 fn put_value<N: Sink>(value: ValueRef, buffer: &mut Buffer, sink: &mut N) -> Result<(), Failed>
-    ensures { Put (growth N.taken N.faults sink.old sink.new) buffer.old buffer.new
+    ensures { WroteBuffered (growth N.taken N.faults sink.old sink.new) buffer.old buffer.new
         (field_text (value_text (value_of_ref value.entry))) result }
 {
     match value {
@@ -51,22 +51,22 @@ fn put_value<N: Sink>(value: ValueRef, buffer: &mut Buffer, sink: &mut N) -> Res
 
 // Puts the field of a record that has one field.
 fn put_lone_value<N: Sink>(value: ValueRef, buffer: &mut Buffer, sink: &mut N) -> Result<(), Failed>
-    ensures { Put (growth N.taken N.faults sink.old sink.new) buffer.old buffer.new
+    ensures { WroteBuffered (growth N.taken N.faults sink.old sink.new) buffer.old buffer.new
         (lone_field_text (value_text (value_of_ref value.entry))) result }
 {
     match value {
         ValueRef::Int(number) => {
             let mut digits = itoa::Buffer::new();
-            put_lone_field(digits.format(number).as_bytes(), buffer, sink)
+            put_only_field(digits.format(number).as_bytes(), buffer, sink)
         }
-        ValueRef::Text(text) => put_lone_field(text.as_bytes(), buffer, sink),
+        ValueRef::Text(text) => put_only_field(text.as_bytes(), buffer, sink),
     }
 }
 
 // Puts a comma, and then the field of an output.
 fn put_next<N: Sink>(
     out: &Out,
-    line: Line,
+    line: RowsRecord,
     db: &Database,
     buffer: &mut Buffer,
     sink: &mut N,
@@ -74,7 +74,7 @@ fn put_next<N: Sink>(
     requires tables { AreTables db.now }
     requires column { IsColumnOf db.now out.now.column }
     requires line { IsLineOf db.now line }
-    ensures { Put (growth N.taken N.faults sink.old sink.new) buffer.old buffer.new
+    ensures { WroteBuffered (growth N.taken N.faults sink.old sink.new) buffer.old buffer.new
         (next_field (tables_of db.now) line.entry out.now) result }
 {
     put_comma(buffer, sink)?;
@@ -84,7 +84,7 @@ fn put_next<N: Sink>(
 // Puts the fields of all outputs after the first, each with a comma before it.
 fn put_others<N: Sink>(
     outs: &[Out],
-    line: Line,
+    line: RowsRecord,
     db: &Database,
     buffer: &mut Buffer,
     sink: &mut N,
@@ -92,7 +92,7 @@ fn put_others<N: Sink>(
     requires tables { AreTables db.now }
     requires columns { All (λ out. IsColumnOf db.now out.column) outs.now }
     requires line { IsLineOf db.now line }
-    ensures { Put (growth N.taken N.faults sink.old sink.new) buffer.old buffer.new
+    ensures { WroteBuffered (growth N.taken N.faults sink.old sink.new) buffer.old buffer.new
         (flat_map (next_field (tables_of db.now) line.entry) outs.now) result }
 {
     'outs: for out in outs {
@@ -104,7 +104,7 @@ fn put_others<N: Sink>(
 // Puts the fields of two or more outputs.
 fn put_several<N: Sink>(
     outs: &[Out],
-    line: Line,
+    line: RowsRecord,
     db: &Database,
     buffer: &mut Buffer,
     sink: &mut N,
@@ -113,7 +113,7 @@ fn put_several<N: Sink>(
     requires tables { AreTables db.now }
     requires columns { All (λ out. IsColumnOf db.now out.column) outs.now }
     requires line { IsLineOf db.now line }
-    ensures { Put (growth N.taken N.faults sink.old sink.new) buffer.old buffer.new
+    ensures { WroteBuffered (growth N.taken N.faults sink.old sink.new) buffer.old buffer.new
         (fields_at outs.now (tables_of db.now) line.entry) result }
 {
     let first = &outs[0];
@@ -124,7 +124,7 @@ fn put_several<N: Sink>(
 // Puts the fields of a record.
 fn put_fields<N: Sink>(
     outs: &[Out],
-    line: Line,
+    line: RowsRecord,
     db: &Database,
     buffer: &mut Buffer,
     sink: &mut N,
@@ -132,7 +132,7 @@ fn put_fields<N: Sink>(
     requires tables { AreTables db.now }
     requires columns { All (λ out. IsColumnOf db.now out.column) outs.now }
     requires line { IsLineOf db.now line }
-    ensures { Put (growth N.taken N.faults sink.old sink.new) buffer.old buffer.new
+    ensures { WroteBuffered (growth N.taken N.faults sink.old sink.new) buffer.old buffer.new
         (fields_at outs.now (tables_of db.now) line.entry) result }
 {
     match outs.len() {
@@ -145,7 +145,7 @@ fn put_fields<N: Sink>(
 /// Puts a record of the rows text: the fields of the outputs, and the record's end (RFC 4180).
 pub fn put_line<N: Sink>(
     outs: &[Out],
-    line: Line,
+    line: RowsRecord,
     db: &Database,
     buffer: &mut Buffer,
     sink: &mut N,
@@ -153,7 +153,7 @@ pub fn put_line<N: Sink>(
     requires tables { AreTables db.now }
     requires columns { All (λ out. IsColumnOf db.now out.column) outs.now }
     requires line { IsLineOf db.now line }
-    ensures { Put (growth N.taken N.faults sink.old sink.new) buffer.old buffer.new
+    ensures { WroteBuffered (growth N.taken N.faults sink.old sink.new) buffer.old buffer.new
         (line_at outs.now (tables_of db.now) line.entry) result }
 {
     put_fields(outs, line, db, buffer, sink)?;

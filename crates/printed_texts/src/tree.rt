@@ -1,7 +1,7 @@
 //! Writes the plan text of a join tree. No function here allocates memory.
 ghost use Rattle.std.specs.Prelude.{◌≡◌, ◌<◌, ◌+◌, ◌^◌, length};
 ghost use Rattle.base_io.specs.Devices.{growth};
-ghost use Rattle.base_io.specs.Writes.{Put, Wrote};
+ghost use Rattle.base_io.specs.Writes.{WroteBuffered, Wrote};
 ghost use Rattle.tree_plans.specs.TreePlans.{IsTreePlan};
 ghost use Rattle.printed_texts.specs.TreePlans.{node_bound, node_line, node_lines, tree_lines};
 
@@ -23,7 +23,7 @@ pub fn put_node_bound<N: Sink>(
     buffer: &mut Buffer,
     sink: &mut N,
 ) -> Result<(), Failed>
-    ensures { Put (growth N.taken N.faults sink.old sink.new) buffer.old buffer.new (node_bound k join) result }
+    ensures { WroteBuffered (growth N.taken N.faults sink.old sink.new) buffer.old buffer.new (node_bound k join) result }
 {
     let (mut own, mut digits) = (itoa::Buffer::new(), itoa::Buffer::new());
     let (mut left, mut right) = (itoa::Buffer::new(), itoa::Buffer::new());
@@ -35,7 +35,7 @@ pub fn put_node_bound<N: Sink>(
 }
 
 fn write_node<N: Sink>(k: u64, join: Join, buffer: &mut Buffer, sink: &mut N) -> Result<(), Failed>
-    ensures { Put (growth N.taken N.faults sink.old sink.new) buffer.old buffer.new (node_line k join) result }
+    ensures { WroteBuffered (growth N.taken N.faults sink.old sink.new) buffer.old buffer.new (node_line k join) result }
 {
     put_node_bound(k, join, buffer, sink)?;
     buffer.put(sink, LINE_END)
@@ -49,7 +49,7 @@ fn write_nodes<N: Sink>(
     sink: &mut N,
 ) -> Result<(), Failed>
     requires few { first + length joins.now < 2 ^ 64 }
-    ensures { Put (growth N.taken N.faults sink.old sink.new) buffer.old buffer.new (node_lines first joins.now) result }
+    ensures { WroteBuffered (growth N.taken N.faults sink.old sink.new) buffer.old buffer.new (node_lines first joins.now) result }
 {
     'nodes: for i in 0..joins.len() {
         write_node(first + i as u64, joins[i], buffer, sink)?;

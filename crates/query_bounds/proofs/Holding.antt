@@ -21,10 +21,10 @@ use Rattle.filtered_lists.proofs.Lists.{sum-filtered}
 use Rattle.predicate_bounds.specs.declared.columns.ColumnSteps.{ColumnSteps}
 use Rattle.predicate_bounds.specs.declared.columns.EntryStats.{EntryStats}
 use Rattle.predicate_bounds.specs.declared.columns.QueryStats.{QueryStats}
-use Rattle.predicate_bounds.specs.Told.{HasLists, HasRowLists, asked_lists, column_steps, first_steps, no_columns}
+use Rattle.predicate_bounds.specs.StatsLists.{HasLists, HasRowLists, steps_with_lists, column_steps, first_steps, no_columns}
 use Rattle.query_bounds.specs.Adding.{MayAdd}
 use Rattle.query_bounds.specs.Bounds.{HoldsKnown, entry_bounds, is_among, is_at, scan_list, scan_rows}
-use Rattle.query_bounds.specs.Statistics.{Statistics, Tells, TellsColumn, TellsEntry}
+use Rattle.query_bounds.specs.Statistics.{Statistics, Tells, TellsColumn, TellsRowBound}
 
 pub is_some_of : {X : Type 0} (o : Option X) (x : X) → o ≡ Some x → IsSome o
 is_some_of o x e = rw e refl
@@ -37,7 +37,7 @@ no_more o x e f = cc
 pub known_entry : (query : Query) (stats : QueryStats) (entry column : ℕ) (lists : ColumnLists) → HasLists query stats entry column lists → entry < length stats.entries
 known_entry query stats entry column lists tells = elim (cases_lt entry (length stats.entries)) [
   | inl below ↦ below
-  | inr above ↦ absurd (no_more (column_steps stats entry column) (asked_lists query entry lists) (gone above) tells)
+  | inr above ↦ absurd (no_more (column_steps stats entry column) (steps_with_lists query entry lists) (gone above) tells)
 ]
   where
     gone : length stats.entries ≤ entry → column_steps stats entry column ≡ None
@@ -83,13 +83,13 @@ pub rows_told : (query : Query) (stats : QueryStats) (known : Statistics) (entry
     → ((q : Query) (lists : ColumnLists) (counts : RowCounts) → HasRowLists q stats entry lists → SumTo lists counts → rows ≡ row_bound counts entry q.conjuncts)
     → rows ≡ scan_rows query known entry
 rows_told query stats known entry rows tells low told =
-    let here : TellsEntry query stats known entry = tells.entries entry low in
+    let here : TellsRowBound query stats known entry = tells.entries entry low in
     told query (known.lists entry here.column) (known.counts entry) here.lists here.sums
 
 pub has_first : (query : Query) (stats : QueryStats) (known : Statistics) (entry : ℕ) → Tells query stats known → entry < length query.from → IsSome (first_steps stats entry)
 has_first query stats known entry tells low =
-    let here : TellsEntry query stats known entry = tells.entries entry low in
-    is_some_of (first_steps stats entry) (asked_lists query entry (known.lists entry here.column)) here.lists
+    let here : TellsRowBound query stats known entry = tells.entries entry low in
+    is_some_of (first_steps stats entry) (steps_with_lists query entry (known.lists entry here.column)) here.lists
 
 -- ---- adding the list of one column
 

@@ -7,8 +7,8 @@ use Rattle.std.proofs.lemmas.List.Elements.{All-from_recursion}
 use Rattle.std.proofs.Math.Nat.{mul-le-mul_left}
 use Rattle.degree_sequences.specs.Compression.{compressed, compressed_from, slope}
 use Rattle.degree_sequences.specs.Degrees.{degree_list}
-use Rattle.degree_sequences.specs.Falling.{IsFalling}
-use Rattle.degree_sequences.proofs.DegreeLists.{IsFalling-degree_list}
+use Rattle.degree_sequences.specs.Descending.{IsDescending}
+use Rattle.degree_sequences.proofs.DegreeLists.{IsDescending-degree_list}
 use Rattle.degree_sequences.proofs.FewRuns.{slope_pos}
 use Rattle.degree_sequences.proofs.Rearranged.{degree_list_positive}
 use Rattle.entry_sets.specs.Sets.{entries_of_set}
@@ -22,15 +22,15 @@ use Rattle.sql_meaning.specs.Tables.{Tables, row_counts}
 use Rattle.level_bounds.specs.Keys.{Keys}
 use Rattle.level_bounds.specs.Whole.{AreCompressed, keys_of, uncompressed}
 use Rattle.level_bounds.proofs.NearWhole.{near}
-use Rattle.set_bounds.proofs.Telling.{told_at}
+use Rattle.set_bounds.proofs.SetBySet.{told_at}
 use Rattle.filtered_lists.proofs.Lists.{unfiltered, unfiltered_rows}
 use Rattle.entry_sets.proofs.Listing.{entry_below}
 use Rattle.query_bounds.specs.Bounds.{entry_bounds, is_among, scan_list, scan_rows, set_bounds}
-use Rattle.query_bounds.specs.Statistics.{AreWhole, Statistics}
+use Rattle.query_bounds.specs.Statistics.{AreOfWholeTables, Statistics}
 use Rattle.query_bounds.proofs.Holding.{pair_at}
 use Rattle.query_bounds.proofs.Sets.{both_among}
 
-from_positive : (k : ℕ) (f : List ℕ) → IsFalling f → All (λ x. 0 < x) f → (n m : ℕ) → AllByRecursion (λ x. 0 < x) (compressed_from k f n m)
+from_positive : (k : ℕ) (f : List ℕ) → IsDescending f → All (λ x. 0 < x) f → (n m : ℕ) → AllByRecursion (λ x. 0 < x) (compressed_from k f n m)
 from_positive k f falls positive zero m = tt
 from_positive k f falls positive (suc n) m =
     let next : ℕ = min (slope k f m) (sum f - m) in
@@ -40,9 +40,9 @@ from_positive k f falls positive (suc n) m =
 
 list_positive : (k : ℕ) (keys : List ℕ) → All (λ x. 0 < x) (compressed k (degree_list keys))
 list_positive k keys =
-    All-from_recursion (λ x. 0 < x) (compressed k (degree_list keys)) (from_positive k (degree_list keys) (IsFalling-degree_list keys) (degree_list_positive keys) (length (degree_list keys)) 0)
+    All-from_recursion (λ x. 0 < x) (compressed k (degree_list keys)) (from_positive k (degree_list keys) (IsDescending-degree_list keys) (degree_list_positive keys) (length (degree_list keys)) 0)
 
-module _ (query : Query) (known : Statistics) (tables : Tables) (key : Keys) (accuracy : ℕ) (whole : AreWhole query known tables key accuracy) where
+module _ (query : Query) (known : Statistics) (tables : Tables) (key : Keys) (accuracy : ℕ) (whole : AreOfWholeTables query known tables key accuracy) where
   abbrev list_of : ℕ → ℕ → List ℕ
   list_of entry column = compressed accuracy (degree_list (keys_of tables key entry column))
 

@@ -15,10 +15,10 @@ use Rattle.tree_bounds.specs.TreeBounds.{EntryBounds}
 use Rattle.tree_bounds.proofs.SmallSets.{empty_is}
 use Rattle.bound_fold.specs.declared.lists.EntryLists.{EntryLists}
 use Rattle.bound_fold.specs.Lists.{list_of, rows_of}
-use Rattle.bound_fold.specs.Sets.{SetIsListed}
+use Rattle.bound_fold.specs.Sets.{SetHasBounds}
 use Rattle.bound_fold.proofs.TestedSets.{each_in_set, each_named}
-use Rattle.set_bounds.specs.AllSets.{bound_told, bounds_of_sets}
-use Rattle.set_bounds.proofs.Telling.{told_at}
+use Rattle.set_bounds.specs.AllSets.{bound_in_128_bits, bounds_of_sets}
+use Rattle.set_bounds.proofs.SetBySet.{told_at}
 use Rattle.entry_sets.proofs.Listing.{entry_below}
 use Rattle.query_bounds.specs.Bounds.{HoldsKnown, is_among, is_at, scan_list, scan_rows}
 use Rattle.query_bounds.specs.Statistics.{Statistics}
@@ -60,7 +60,7 @@ both_among (e ∷ es) (suc k) d low =
       or_more (is_at r.entry r.column e.left) (is_at r.entry r.column e.right) (is_among (places_of es) r.entry r.column) later.1,
     )
 
-pub all_listed : (query : Query) (known : Statistics) (n : ℕ) (es : List Edge) (lists : EntryLists) → HoldsKnown query known n (places_of es) lists → SetIsListed lists es (2 ^ n - 1)
+pub all_listed : (query : Query) (known : Statistics) (n : ℕ) (es : List Edge) (lists : EntryLists) → HoldsKnown query known n (places_of es) lists → SetHasBounds lists es (2 ^ n - 1)
 all_listed query known n es lists held = record {
   rows = each_in_set (λ k. IsSome (rows_of lists k)) (2 ^ n - 1) (λ k low has. is_some_of (rows_of lists k) (scan_rows query known k)
       (row_there query known n (places_of es) lists held k (entry_below n (2 ^ n - 1) k (omega (arith, pow_pos n)) has)));
@@ -81,7 +81,7 @@ scan_at query known n entry scans is low = ap (λ (s : List ℕ). get_or s entry
 -- ---- the bounds of sets
 
 pub set_count : (b : EntryBounds) (es : List Edge) (n : ℕ) → length (bounds_of_sets b es n) ≡ 2 ^ n
-set_count b es n = length-map (range_with_len 0 (2 ^ n)) (bound_told b es) ∙ length-range_with_len 0 (2 ^ n)
+set_count b es n = length-map (range_with_len 0 (2 ^ n)) (bound_in_128_bits b es) ∙ length-range_with_len 0 (2 ^ n)
 
 pub nothing_bound : (b : EntryBounds) (es : List Edge) (n : ℕ) → get_or (bounds_of_sets b es n) 0 0 ≡ 1
 nothing_bound b es n =

@@ -7,7 +7,7 @@ use Rattle.bound_fold.specs.declared.lists.EntryLists.{EntryLists}
 use Rattle.bound_fold.specs.Lists.{rows_of}
 use Rattle.filtered_lists.specs.Lists.{ColumnLists, filtered_list}
 use Rattle.predicate_bounds.specs.declared.columns.QueryStats.{QueryStats}
-use Rattle.predicate_bounds.specs.Told.{HasLists}
+use Rattle.predicate_bounds.specs.StatsLists.{HasLists}
 
 -- the list of the column `place` may be added: the statistics have the column's lists for some query, and the sum of its filtered list is
 -- the row bound of its entry

@@ -12,7 +12,7 @@ use Rattle.filtered_lists.specs.Filters.{own_conjuncts}
 use Rattle.filtered_lists.specs.Lists.{ColumnLists, RowCounts}
 use Rattle.filtered_lists.specs.Standing.{CountsStandFor, ListsStandFor, SumTo}
 use Rattle.predicate_bounds.specs.declared.columns.QueryStats.{QueryStats}
-use Rattle.predicate_bounds.specs.Told.{HasLists, HasRowLists}
+use Rattle.predicate_bounds.specs.StatsLists.{HasLists, HasRowLists}
 
 -- row counts for each FROM entry, and lists for each of its columns
 pub record Statistics : Type 0 where
@@ -23,7 +23,7 @@ pub record Statistics : Type 0 where
 
 -- for an entry's row bound `stats` has the lists of one of the entry's columns. The sum of each list is the entry's row count for the same
 -- filter, and the count of all rows is at most 2^32
-pub record TellsEntry (query : Query) (stats : QueryStats) (known : Statistics) (entry : ℕ) : Type 0 where
+pub record TellsRowBound (query : Query) (stats : QueryStats) (known : Statistics) (entry : ℕ) : Type 0 where
   pub column : ℕ
   pub lists : HasRowLists query stats entry (known.lists entry column)
   pub sums : SumTo (known.lists entry column) (known.counts entry)
@@ -37,11 +37,11 @@ pub record TellsColumn (query : Query) (stats : QueryStats) (known : Statistics)
 -- `stats` has what is known about all FROM entries, and about all columns that an equality joins
 pub record Tells (query : Query) (stats : QueryStats) (known : Statistics) : Type 0 where
   pub one_each : length stats.entries ≡ length query.from
-  pub entries : (entry : ℕ) → entry < length query.from → TellsEntry query stats known entry
+  pub entries : (entry : ℕ) → entry < length query.from → TellsRowBound query stats known entry
   pub columns : EachNamedColumn (TellsColumn query stats known) (equalities_of query)
 
 -- `stats` has the counts and lists of some `Statistics`, which are the field `known`
-pub record StatsAreTold (query : Query) (stats : QueryStats) : Type 0 where
+pub record TellsSomeStatistics (query : Query) (stats : QueryStats) : Type 0 where
   pub known : Statistics
   pub tells : Tells query stats known
 
@@ -57,7 +57,7 @@ pub record StandFor (query : Query) (known : Statistics) (tables : Tables) (key 
 
 -- no entry has own conjuncts, and whole tables are known: each entry's number of rows, and the degree list of each column that an equality
 -- joins, compressed at this accuracy
-pub record AreWhole (query : Query) (known : Statistics) (tables : Tables) (key : Keys) (accuracy : ℕ) : Type 0 where
+pub record AreOfWholeTables (query : Query) (known : Statistics) (tables : Tables) (key : Keys) (accuracy : ℕ) : Type 0 where
   pub unfiltered : (entry : ℕ) → own_conjuncts entry query.conjuncts ≡ []
   pub counts : (entry : ℕ) → entry < length query.from → (known.counts entry).whole ≡ row_counts tables entry
   pub lists : EachNamedColumn (λ entry column. (known.lists entry column).whole

@@ -8,14 +8,14 @@ ghost use Rattle.sql_meaning.specs.Tables.{Tables};
 ghost use Rattle.level_bounds.specs.Keys.{Keys};
 ghost use Rattle.level_bounds.specs.Whole.{uncompressed};
 ghost use Rattle.query_bounds.specs.Bounds.{set_bounds};
-ghost use Rattle.query_bounds.specs.Statistics.{AreWhole, Statistics};
+ghost use Rattle.query_bounds.specs.Statistics.{AreOfWholeTables, Statistics};
 
 /// Bounds from compressed lists are near those from degree lists, if no conjunct names just one entry. Take the bound of a set of n entries
 /// from compressed lists of whole columns, at accuracy K, and the bound of the set from the columns' degree lists. Then K^n times the first
 /// bound is at most (K + 1)^n times the second.
 pub fn unfiltered_bounds_are_near()
     ensures { (query : Query) (known : Statistics) (tables : Tables) (key : Keys) (accuracy subset : ℕ)
-        → AreWhole query known tables key accuracy → subset < 2 ^ length query.from
+        → AreOfWholeTables query known tables key accuracy → subset < 2 ^ length query.from
         → accuracy ^ length (entries_of_set subset) * slice_index (set_bounds query known) subset
         ≤ (accuracy + 1) ^ length (entries_of_set subset) * bound_of_set (uncompressed tables key) (equalities_of query) subset }
 {}

@@ -5,10 +5,10 @@ ghost use Rattle.join_graph.specs.Conjuncts.{equalities_of};
 ghost use Rattle.bound_fold.specs.Lists.{bounds_of, list_of, rows_of};
 ghost use Rattle.query_types.specs.declared.types.Query.{Query};
 ghost use Rattle.filtered_lists.specs.Lists.{ColumnLists, filtered_list};
-ghost use Rattle.predicate_bounds.specs.Told.{HasLists};
+ghost use Rattle.predicate_bounds.specs.StatsLists.{HasLists};
 ghost use Rattle.query_bounds.specs.Adding.{MayAdd};
 ghost use Rattle.query_bounds.specs.Bounds.{HoldsKnown, entry_bounds, joined_columns};
-ghost use Rattle.query_bounds.specs.Statistics.{StatsAreTold, Statistics, Tells};
+ghost use Rattle.query_bounds.specs.Statistics.{TellsSomeStatistics, Statistics, Tells};
 
 use base_io::NoMemory;
 use berge_tree::Place;
@@ -21,7 +21,7 @@ use std::alloc::Global;
 // The row bound of each FROM entry.
 fn with_rows(alloc: Global, query: &Query, stats: &QueryStats) -> Result<EntryLists, NoMemory>
     requires few { length query.now.from ≤ most_entries }
-    requires told { StatsAreTold query.now stats.now }
+    requires told { TellsSomeStatistics query.now stats.now }
     ensures { IfOk result (λ lists. (known : Statistics) → Tells query.now stats.now known
         → HoldsKnown query.now known (length query.now.from) [] lists) }
 {
@@ -65,7 +65,7 @@ pub fn entry_lists(
 ) -> Result<EntryLists, NoMemory>
     requires few { length query.now.from ≤ most_entries }
     requires equalities { parts.now.equalities ≡ equalities_of query.now }
-    requires told { StatsAreTold query.now stats.now }
+    requires told { TellsSomeStatistics query.now stats.now }
     ensures holds { IfOk result (λ lists. (known : Statistics) → Tells query.now stats.now known
         → HoldsKnown query.now known (length query.now.from) (joined_columns query.now) lists) }
     ensures bounds { IfOk result (λ lists. (known : Statistics) → Tells query.now stats.now known

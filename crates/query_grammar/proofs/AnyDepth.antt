@@ -3,11 +3,11 @@ use Rattle.std.proofs.Common.{◌≡◌, ℕ, zero, suc, ◌+◌, ◌≤◌, Opt
 use Rattle.ll_grammars.specs.declared.lexeme.Lexeme.{Lexeme}
 use Rattle.ll_grammars.specs.declared.terminal.Terminal.TheVariants as terminal
 use Rattle.ll_grammars.specs.Language.{Language}
-use Rattle.ll_grammars.specs.Reads.{Reads, Stops, SameHead, Splits}
+use Rattle.ll_grammars.specs.Reads.{Reads, BeginsOutside, SameHead, Splits}
 use Rattle.ll_grammars.proofs.Growing.{IsIn, itself_grows, then_grows, made_grows, either_grows, listed_grows, parentheses_grow}
 use Rattle.query_grammar.specs.declared.tree.CondNode.{CondNode}
 use Rattle.query_grammar.specs.Nesting.{nesting}
-use Rattle.query_grammar.specs.Grammar.{BooleanTest, ConditionOf, Nothing, TestWithin, SearchCondition}
+use Rattle.query_grammar.specs.Grammar.{BooleanTest, ConditionOf, EmptyLanguage, TestWithin, SearchCondition}
 use Rattle.query_grammar.specs.Readers.{read_within, read_condition}
 use Rattle.query_grammar.proofs.ConditionRules.{cond_shape, reads_within}
 use Rattle.query_grammar.proofs.EnoughDepth.{within_alike}
@@ -17,7 +17,7 @@ use Rattle.query_grammar.proofs.EnoughDepth.{within_alike}
 conds_grow : (T T' : Language CondNode) → IsIn T T' → IsIn (ConditionOf T) (ConditionOf T')
 conds_grow T T' h = made_grows _ _ _ (listed_grows terminal.Or _ _ (made_grows _ _ _ (listed_grows terminal.And _ _ (made_grows _ _ _ (then_grows _ _ _ _ (itself_grows _) h)))))
 
-nothing_grows : (C : Language CondNode) → IsIn Nothing C
+nothing_grows : (C : Language CondNode) → IsIn EmptyLanguage C
 nothing_grows C text value l = absurd l
 
 tests_of_grow : (C C' : Language CondNode) → IsIn C C' → IsIn (BooleanTest C) (BooleanTest C')
@@ -25,7 +25,7 @@ tests_of_grow C C' h = either_grows _ _ _ _ (parentheses_grow C C' h) (itself_gr
 
 tests_grow : (n m : ℕ) → n ≤ m → IsIn (TestWithin n) (TestWithin m)
 tests_grow zero zero le = itself_grows (TestWithin zero)
-tests_grow zero (suc m) le = tests_of_grow Nothing (ConditionOf (TestWithin m)) (nothing_grows (ConditionOf (TestWithin m)))
+tests_grow zero (suc m) le = tests_of_grow EmptyLanguage (ConditionOf (TestWithin m)) (nothing_grows (ConditionOf (TestWithin m)))
 tests_grow (suc n) zero le = absurd (omega arith)
 tests_grow (suc n) (suc m) le = tests_of_grow (ConditionOf (TestWithin n)) (ConditionOf (TestWithin m)) (conds_grow (TestWithin n) (TestWithin m) (tests_grow n m (omega arith)))
 
@@ -47,7 +47,7 @@ splits : (text : List Lexeme) → Splits SearchCondition text (read_condition te
 unfolding read_condition
 splits text = let n = nesting text in to_conditions n text (read_within n text).0 (read_within n text).1 ((reads_within n).splits text)
 
-complete : (front rest : List Lexeme) (value : CondNode) → SearchCondition front value → Stops cond_shape.more rest → read_condition (front ++ rest) ≡ (Some value, rest)
+complete : (front rest : List Lexeme) (value : CondNode) → SearchCondition front value → BeginsOutside cond_shape.more rest → read_condition (front ++ rest) ≡ (Some value, rest)
 unfolding SearchCondition
 complete front rest value l stop =
     let n = l.0 + nesting (front ++ rest) in

@@ -5,15 +5,15 @@ use Rattle.ll_grammars.specs.declared.lexeme.Lexeme.{Lexeme}
 use Rattle.ll_grammars.specs.declared.terminal.Terminal.{Terminal}
 use Rattle.ll_grammars.specs.declared.terminal.Terminal.TheVariants as terminal
 use Rattle.ll_grammars.specs.Terminals.{apart}
-use Rattle.ll_grammars.specs.Language.{Language, one, ◌▸◌, made, ◌∪◌, maybe, many}
-use Rattle.ll_grammars.specs.Rules.{all, second, word, listed, in_parentheses}
+use Rattle.ll_grammars.specs.Language.{Language, one, ◌▸◌, mapped, ◌∪◌, maybe, many}
+use Rattle.ll_grammars.specs.Rules.{first_and_others, second, word, listed, in_parentheses}
 use Rattle.ll_grammars.proofs.Sets.{apart_false}
 use Rattle.query_grammar.specs.declared.tree.CondNode.{CondNode}
 use Rattle.query_grammar.specs.declared.tree.Op.TheVariants as op
 use Rattle.query_grammar.specs.Nesting.{nesting_from}
-use Rattle.query_grammar.specs.Values.{stands, meaning, column, number, text, of_column, of_literal, comparison, between, among_values, tested, negate, all_of, any_of}
-use Rattle.query_grammar.specs.Grammar.{name_terminals, sign_terminals, digit_terminals, Name, ColumnReference, Literal, Operand, ComparisonOperator, Negation, InValueList, Predicate, BooleanTest, BooleanFactor, BooleanTerm, ConditionOf, Nothing, TestWithin}
-use Rattle.query_grammar.proofs.Counting.{nesting-behind, keeps_open, opens_one, closes_one}
+use Rattle.query_grammar.specs.Values.{is_written, meaning, column, number, text, of_column, of_literal, comparison, between, among_values, tested, negate, all_of, any_of}
+use Rattle.query_grammar.specs.Grammar.{name_terminals, sign_terminals, digit_terminals, Name, ColumnReference, Literal, Operand, ComparisonOperator, Negation, InValueList, Predicate, BooleanTest, BooleanFactor, BooleanTerm, ConditionOf, EmptyLanguage, TestWithin}
+use Rattle.query_grammar.proofs.Counting.{nesting-open_after, keeps_open, opens_one, closes_one}
 
 pub record IsBalanced {A : Type 0} (L : Language A) : Type 0 where
   pub closes : (front : List Lexeme) (value : A) → L front value → (n : ℕ) (rest : List Lexeme) → nesting_from n rest ≤ nesting_from n (front ++ rest)
@@ -37,7 +37,7 @@ then_balanced {A = A} {B = B} {L = L} {M = M} f g = record { closes = both } whe
       let whole : nesting_from n rest ≤ nesting_from n (l.front ++ (l.rest ++ rest)) = omega arith in
       subst (λ x. nesting_from n rest ≤ nesting_from n (x ++ rest)) (sym l.whole) (rw append_assoc whole)
 
-made_balanced : {A B : Type 0} (f : A → B) {L : Language A} → IsBalanced L → IsBalanced (made f L)
+made_balanced : {A B : Type 0} (f : A → B) {L : Language A} → IsBalanced L → IsBalanced (mapped f L)
 made_balanced f h = record { closes = λ front value l. h.closes front l.0 l.2 }
 
 either_balanced : {A : Type 0} {L M : Language A} → IsBalanced L → IsBalanced M → IsBalanced (L ∪ M)
@@ -65,11 +65,11 @@ many_balanced {A = A} {L = L} h = record { closes = at } where
       let whole : nesting_from n rest ≤ nesting_from n (l.0 ++ (l.1 ++ rest)) = omega arith in
       subst (λ x. nesting_from n rest ≤ nesting_from n (x ++ rest)) (sym l.2) (rw append_assoc whole)
 
-pub next_balanced : {A : Type 0} {L : Language A} (t : Terminal) → apart (terminal.Close ∷ []) (t ∷ []) ≡ true → IsBalanced L → IsBalanced (made second (word t ▸ L))
+pub next_balanced : {A : Type 0} {L : Language A} (t : Terminal) → apart (terminal.Close ∷ []) (t ∷ []) ≡ true → IsBalanced L → IsBalanced (mapped second (word t ▸ L))
 next_balanced t apart_ h = made_balanced second (then_balanced (word_balanced t apart_) h)
 
 listed_balanced : {A : Type 0} {L : Language A} (separator : Terminal) → apart (terminal.Close ∷ []) (separator ∷ []) ≡ true → IsBalanced L → IsBalanced (listed separator L)
-listed_balanced separator apart_ h = made_balanced all (then_balanced h (many_balanced (next_balanced separator apart_ h)))
+listed_balanced separator apart_ h = made_balanced first_and_others (then_balanced h (many_balanced (next_balanced separator apart_ h)))
 
 parentheses_balanced : {A : Type 0} {L : Language A} → IsBalanced L → IsBalanced (in_parentheses L)
 parentheses_balanced {A = A} {L = L} h = record { closes = at } where
@@ -82,7 +82,7 @@ parentheses_balanced {A = A} {L = L} h = record { closes = at } where
       let closed : nesting_from n rest ≤ nesting_from (suc n) (close ∷ rest) = closes_one n close rest in
       let within : nesting_from (suc n) (close ∷ rest) ≤ nesting_from (suc n) behind = h.closes inner.front l.0.1.0 inner.first (suc n) (close ∷ rest) in
       let opened : nesting_from (suc n) behind ≤ nesting_from n (open_ ∷ behind) =
-      subst (λ x. nesting_from x behind ≤ nesting_from n (open_ ∷ behind)) (opens_one n open_ l.2.first.1) (nesting-behind n open_ behind) in
+      subst (λ x. nesting_from x behind ≤ nesting_from n (open_ ∷ behind)) (opens_one n open_ l.2.first.1) (nesting-open_after n open_ behind) in
       let whole : nesting_from n rest ≤ nesting_from n (open_ ∷ behind) = omega arith in
       let shape : front ++ rest ≡ open_ ∷ behind = rw (l.2.whole, l.2.first.0, inner.whole, inner.second.0, append_assoc inner.front (close ∷ []) rest) refl in
       subst (λ x. nesting_from n rest ≤ nesting_from n x) (sym shape) whole
@@ -112,7 +112,7 @@ operators_balanced =
     (either_balanced (made_balanced (meaning op.Gt) (word_balanced terminal.Greater refl)) (made_balanced (meaning op.Ge) (word_balanced terminal.GreaterOrEqual refl))))))
 
 pub negations_balanced : IsBalanced Negation
-negations_balanced = made_balanced stands (maybe_balanced (word_balanced terminal.Not refl))
+negations_balanced = made_balanced is_written (maybe_balanced (word_balanced terminal.Not refl))
 
 value_lists_balanced : IsBalanced InValueList
 value_lists_balanced = parentheses_balanced (listed_balanced terminal.Comma refl literals_balanced)
@@ -138,7 +138,7 @@ module _ {T : Language CondNode} (h : IsBalanced T) where
 tests_balanced_of : {C : Language CondNode} → IsBalanced C → IsBalanced (BooleanTest C)
 tests_balanced_of h = either_balanced (parentheses_balanced h) (made_balanced tested predicates_balanced)
 
-nothing_balanced : IsBalanced {A = CondNode} Nothing
+nothing_balanced : IsBalanced {A = CondNode} EmptyLanguage
 nothing_balanced = record { closes = λ front value l. absurd l }
 
 pub tests_balanced : (n : ℕ) → IsBalanced (TestWithin n)

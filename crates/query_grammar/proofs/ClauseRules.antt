@@ -1,17 +1,17 @@
 -- The readers of FROM, WHERE and whole queries read their rules. C is the language of conditions, and the parser c reads it.
 use Rattle.std.proofs.Common.{refl}
 use Rattle.ll_grammars.specs.declared.terminal.Terminal.TheVariants as terminal
-use Rattle.ll_grammars.specs.Language.{Language, ◌▸◌, made, many}
+use Rattle.ll_grammars.specs.Language.{Language, ◌▸◌, mapped, many}
 use Rattle.ll_grammars.specs.Reading.{Parser}
 use Rattle.ll_grammars.specs.Reads.{FirstAndFollow, Reads}
-use Rattle.ll_grammars.specs.Rules.{all, second, word, listed}
+use Rattle.ll_grammars.specs.Rules.{first_and_others, second, word, listed}
 use Rattle.ll_grammars.proofs.Steps.{then_shape, maybe_shape}
 use Rattle.ll_grammars.proofs.Repeats.{many_shape}
 use Rattle.ll_grammars.proofs.Combined.{row, value, option, repeat, a_word, word_shape, next_shape, listed_shape}
 use Rattle.query_grammar.specs.declared.tree.CondNode.{CondNode}
 use Rattle.query_grammar.specs.Values.{source, join, part, query}
 use Rattle.query_grammar.specs.Grammar.{TableReference, QualifiedJoin, FromPart, WhereClause, QueryOf}
-use Rattle.query_grammar.specs.Readers.{read_source, read_join, read_joins, read_part, read_next_part, read_parts, read_condition_behind_where, read_filter, read_query}
+use Rattle.query_grammar.specs.Readers.{read_source, read_join, read_joins, read_part, read_next_part, read_parts, read_condition_after_where, read_filter, read_query}
 use Rattle.query_grammar.proofs.OperandRules.{name_shape, new_name_shape, reads_name, reads_new_name}
 use Rattle.query_grammar.proofs.ConditionRules.{cond_shape}
 use Rattle.query_grammar.proofs.OutputRules.{outs_shape, reads_outs}
@@ -51,16 +51,16 @@ module _ {C : Language CondNode} {c : Parser CondNode} (reads : Reads C cond_sha
   unfolding read_part
   reads_part = value part (row reads_source reads_joins refl)
 
-  pub reads_next_part : Reads (made second (word terminal.Comma ▸ FromPart C)) (next_shape terminal.Comma part_shape) (read_next_part c)
+  pub reads_next_part : Reads (mapped second (word terminal.Comma ▸ FromPart C)) (next_shape terminal.Comma part_shape) (read_next_part c)
   unfolding read_next_part
   reads_next_part = value second (row (a_word terminal.Comma refl) reads_part refl)
 
   pub reads_parts : Reads (listed terminal.Comma (FromPart C)) parts_shape (read_parts c)
   unfolding read_parts
-  reads_parts = value all (row reads_part (repeat reads_next_part refl refl) refl)
+  reads_parts = value first_and_others (row reads_part (repeat reads_next_part refl refl) refl)
 
-  pub reads_where : Reads (made second (word terminal.Where ▸ C)) where_shape (read_condition_behind_where c)
-  unfolding read_condition_behind_where
+  pub reads_where : Reads (mapped second (word terminal.Where ▸ C)) where_shape (read_condition_after_where c)
+  unfolding read_condition_after_where
   reads_where = value second (row (a_word terminal.Where refl) reads refl)
 
   pub reads_filter : Reads (WhereClause C) (maybe_shape where_shape) (read_filter c)

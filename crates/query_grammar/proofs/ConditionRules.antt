@@ -2,15 +2,15 @@
 use Rattle.std.proofs.Common.{ℕ, zero, suc, List, refl}
 use Rattle.ll_grammars.specs.declared.lexeme.Lexeme.{Lexeme}
 use Rattle.ll_grammars.specs.declared.terminal.Terminal.TheVariants as terminal
-use Rattle.ll_grammars.specs.Language.{Language, ◌▸◌, made}
+use Rattle.ll_grammars.specs.Language.{Language, ◌▸◌, mapped}
 use Rattle.ll_grammars.specs.Reading.{Parser}
 use Rattle.ll_grammars.specs.Reads.{FirstAndFollow, Reads}
-use Rattle.ll_grammars.specs.Rules.{all, second, word, listed, in_parentheses}
+use Rattle.ll_grammars.specs.Rules.{first_and_others, second, word, listed, in_parentheses}
 use Rattle.ll_grammars.proofs.Steps.{then_shape, either_shape}
 use Rattle.ll_grammars.proofs.Combined.{row, value, choice, repeat, a_word, inside, word_shape, next_shape, listed_shape, right_only}
 use Rattle.query_grammar.specs.declared.tree.CondNode.{CondNode}
 use Rattle.query_grammar.specs.Values.{negate, all_of, any_of}
-use Rattle.query_grammar.specs.Grammar.{BooleanFactor, BooleanTerm, ConditionOf, Nothing, TestWithin}
+use Rattle.query_grammar.specs.Grammar.{BooleanFactor, BooleanTerm, ConditionOf, EmptyLanguage, TestWithin}
 use Rattle.query_grammar.specs.Readers.{read_factor, read_next_factor, read_factors, read_term, read_next_term, read_terms, read_cond, read_inside, read_test, read_within}
 use Rattle.query_grammar.proofs.OperandRules.{negation_shape, reads_negation}
 use Rattle.query_grammar.proofs.PredicateRules.{predicate_shape, reads_flat}
@@ -32,25 +32,25 @@ module _ {T : Language CondNode} {t : Parser CondNode} (reads : Reads T test_sha
   unfolding read_factor
   reads_factor = value negate (row reads_negation reads refl)
 
-  pub reads_next_factor : Reads (made second (word terminal.And ▸ BooleanFactor T)) (next_shape terminal.And factor_shape) (read_next_factor t)
+  pub reads_next_factor : Reads (mapped second (word terminal.And ▸ BooleanFactor T)) (next_shape terminal.And factor_shape) (read_next_factor t)
   unfolding read_next_factor
   reads_next_factor = value second (row (a_word terminal.And refl) reads_factor refl)
 
   pub reads_factors : Reads (listed terminal.And (BooleanFactor T)) term_shape (read_factors t)
   unfolding read_factors
-  reads_factors = value all (row reads_factor (repeat reads_next_factor refl refl) refl)
+  reads_factors = value first_and_others (row reads_factor (repeat reads_next_factor refl refl) refl)
 
   pub reads_term : Reads (BooleanTerm T) term_shape (read_term t)
   unfolding read_term
   reads_term = value all_of reads_factors
 
-  pub reads_next_term : Reads (made second (word terminal.Or ▸ BooleanTerm T)) (next_shape terminal.Or term_shape) (read_next_term t)
+  pub reads_next_term : Reads (mapped second (word terminal.Or ▸ BooleanTerm T)) (next_shape terminal.Or term_shape) (read_next_term t)
   unfolding read_next_term
   reads_next_term = value second (row (a_word terminal.Or refl) reads_term refl)
 
   pub reads_terms : Reads (listed terminal.Or (BooleanTerm T)) cond_shape (read_terms t)
   unfolding read_terms
-  reads_terms = value all (row reads_term (repeat reads_next_term refl refl) refl)
+  reads_terms = value first_and_others (row reads_term (repeat reads_next_term refl refl) refl)
 
   pub reads_cond : Reads (ConditionOf T) cond_shape (read_cond t)
   unfolding read_cond
@@ -60,7 +60,7 @@ module _ {T : Language CondNode} {t : Parser CondNode} (reads : Reads T test_sha
   unfolding read_inside
   reads_inside = inside reads_cond refl
 
-none_inside : (text : List Lexeme) (c : CondNode) → in_parentheses Nothing text c → ⊥
+none_inside : (text : List Lexeme) (c : CondNode) → in_parentheses EmptyLanguage text c → ⊥
 none_inside text c l = l.2.second.first
 
 pub reads_test : (n : ℕ) → Reads (TestWithin n) test_shape (read_test n)

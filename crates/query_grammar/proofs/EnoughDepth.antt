@@ -6,7 +6,7 @@ use Rattle.ll_grammars.specs.Terminals.{among}
 use Rattle.ll_grammars.specs.Language.{Language}
 use Rattle.ll_grammars.specs.Reading.{Parser, Answer, ◌>>=◌, give, starts, read_then}
 use Rattle.ll_grammars.specs.Reads.{FirstAndFollow, Reads}
-use Rattle.ll_grammars.specs.Rules.{all, second, middle, read_word, read_in_parentheses}
+use Rattle.ll_grammars.specs.Rules.{first_and_others, second, middle, read_word, read_in_parentheses}
 use Rattle.ll_grammars.proofs.Combined.{a_word}
 use Rattle.ll_grammars.proofs.Alike.{AreAlikeOn, StaysIn, itself_alike, stays, then_alike, made_alike, many_alike}
 use Rattle.query_grammar.specs.declared.tree.CondNode.{CondNode}
@@ -15,7 +15,7 @@ use Rattle.query_grammar.specs.Nesting.{nesting_from, nesting}
 use Rattle.query_grammar.specs.Readers.{read_flat, read_factor, read_next_factor, read_factors, read_term, read_next_term, read_terms, read_cond, read_inside, read_test, read_within}
 use Rattle.query_grammar.proofs.OperandRules.{reads_negation}
 use Rattle.query_grammar.proofs.ConditionRules.{test_shape, reads_factor, reads_next_factor, reads_term, reads_next_term, reads_cond, reads_test}
-use Rattle.query_grammar.proofs.Counting.{nesting-behind, opens_one, none_opens}
+use Rattle.query_grammar.proofs.Counting.{nesting-open_after, opens_one, none_opens}
 use Rattle.query_grammar.proofs.Balanced.{IsBalanced, word_balanced, negations_balanced, next_balanced, factors_balanced, terms_balanced, conds_balanced, tests_balanced}
 
 -- ---- how a test is read with a given depth
@@ -60,7 +60,7 @@ module _ {T : Language CondNode} {t : Parser CondNode} (t' : Parser CondNode) (r
 
   factors_alike : AreAlikeOn P (read_factors t) (read_factors t')
   unfolding read_factors
-  factors_alike = made_alike P all _ _ (then_alike P _ _ _ _ (stays_within n limit (reads_factor reads) (factors_balanced balanced)) factor_alike
+  factors_alike = made_alike P first_and_others _ _ (then_alike P _ _ _ _ (stays_within n limit (reads_factor reads) (factors_balanced balanced)) factor_alike
       (many_alike P _ _ _ (stays_within n limit (reads_next_factor reads) (next_balanced terminal.And refl (factors_balanced balanced))) next_factor_alike))
 
   term_alike : AreAlikeOn P (read_term t) (read_term t')
@@ -73,7 +73,7 @@ module _ {T : Language CondNode} {t : Parser CondNode} (t' : Parser CondNode) (r
 
   terms_alike : AreAlikeOn P (read_terms t) (read_terms t')
   unfolding read_terms
-  terms_alike = made_alike P all _ _ (then_alike P _ _ _ _ (stays_within n limit (reads_term reads) (terms_balanced balanced)) term_alike
+  terms_alike = made_alike P first_and_others _ _ (then_alike P _ _ _ _ (stays_within n limit (reads_term reads) (terms_balanced balanced)) term_alike
       (many_alike P _ _ _ (stays_within n limit (reads_next_term reads) (next_balanced terminal.Or refl (terms_balanced balanced))) next_term_alike))
 
   pub cond_alike : AreAlikeOn P (read_cond t) (read_cond t')
@@ -83,7 +83,7 @@ module _ {T : Language CondNode} {t : Parser CondNode} (t' : Parser CondNode) (r
 inside_alike : (n limit : ℕ) (c c' : Parser CondNode) → StaysIn (Within (suc n) limit) c → AreAlikeOn (Within (suc n) limit) c c' → (x : Lexeme) (rest : List Lexeme) → among (terminal.Open ∷ []) x.terminal ≡ true → Within n limit (x ∷ rest)
     → read_in_parentheses c (x ∷ rest) ≡ read_in_parentheses c' (x ∷ rest)
 inside_alike n limit c c' stay same x rest h within =
-    let behind : nesting_from (suc n) rest ≤ nesting_from n (x ∷ rest) = subst (λ k. nesting_from k rest ≤ nesting_from n (x ∷ rest)) (opens_one n x h) (nesting-behind n x rest) in
+    let behind : nesting_from (suc n) rest ≤ nesting_from n (x ∷ rest) = subst (λ k. nesting_from k rest ≤ nesting_from n (x ∷ rest)) (opens_one n x h) (nesting-open_after n x rest) in
     let deeper : Within (suc n) limit rest = omega arith in
     let e : read_then c (read_word terminal.Close) rest ≡ read_then c' (read_word terminal.Close) rest =
     then_alike (Within (suc n) limit) c c' (read_word terminal.Close) (read_word terminal.Close) stay same (itself_alike (Within (suc n) limit) (read_word terminal.Close)) rest deeper in

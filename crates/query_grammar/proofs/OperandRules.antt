@@ -1,13 +1,13 @@
 -- The readers of names, columns, literals, operands and operators read their rules.
 use Rattle.std.proofs.Common.{refl}
 use Rattle.ll_grammars.specs.declared.terminal.Terminal.TheVariants as terminal
-use Rattle.ll_grammars.specs.Language.{one, ◌▸◌, made, maybe}
+use Rattle.ll_grammars.specs.Language.{one, ◌▸◌, mapped, maybe}
 use Rattle.ll_grammars.specs.Reads.{FirstAndFollow, Reads}
-use Rattle.ll_grammars.specs.Rules.{all, second, word, listed}
+use Rattle.ll_grammars.specs.Rules.{first_and_others, second, word, listed}
 use Rattle.ll_grammars.proofs.Steps.{one_shape, then_shape, either_shape, maybe_shape, reads_one}
 use Rattle.ll_grammars.proofs.Combined.{row, value, choice, option, repeat, a_word, inside, some_token, word_shape, next_shape, listed_shape, parentheses_shape}
 use Rattle.query_grammar.specs.declared.tree.Op.TheVariants as op
-use Rattle.query_grammar.specs.Values.{stands, meaning, column, number, text, of_column, of_literal}
+use Rattle.query_grammar.specs.Values.{is_written, meaning, column, number, text, of_column, of_literal}
 use Rattle.query_grammar.specs.Grammar.{name_terminals, sign_terminals, digit_terminals, Name, NewName, ColumnReference, Literal, Operand, ComparisonOperator, Negation, InValueList}
 use Rattle.query_grammar.specs.Readers.{read_name, read_other_name, read_new_name, read_dotted_name, read_column, read_number, read_literal, read_operand, read_operator, read_negation, read_next_literal, read_literals, read_value_list}
 
@@ -21,7 +21,7 @@ reads_name = reads_one name_terminals (some_token terminal.Name) refl
 abbrev pub other_name_shape : FirstAndFollow
 other_name_shape = then_shape (maybe_shape (word_shape terminal.As)) name_shape
 
-pub reads_other_name : Reads (made second (maybe (word terminal.As) ▸ Name)) other_name_shape read_other_name
+pub reads_other_name : Reads (mapped second (maybe (word terminal.As) ▸ Name)) other_name_shape read_other_name
 unfolding read_other_name
 reads_other_name = value second (row (option (a_word terminal.As refl) refl) reads_name refl)
 
@@ -35,7 +35,7 @@ reads_new_name = option reads_other_name refl
 abbrev pub dotted_name_shape : FirstAndFollow
 dotted_name_shape = next_shape terminal.Dot name_shape
 
-pub reads_dotted_name : Reads (made second (word terminal.Dot ▸ Name)) dotted_name_shape read_dotted_name
+pub reads_dotted_name : Reads (mapped second (word terminal.Dot ▸ Name)) dotted_name_shape read_dotted_name
 unfolding read_dotted_name
 reads_dotted_name = value second (row (a_word terminal.Dot refl) reads_name refl)
 
@@ -51,7 +51,7 @@ reads_column = value column (row reads_name (option reads_dotted_name refl) refl
 abbrev pub number_shape : FirstAndFollow
 number_shape = then_shape (maybe_shape (one_shape sign_terminals)) (one_shape digit_terminals)
 
-pub reads_number : Reads (made number (maybe (one sign_terminals) ▸ one digit_terminals)) number_shape read_number
+pub reads_number : Reads (mapped number (maybe (one sign_terminals) ▸ one digit_terminals)) number_shape read_number
 unfolding read_number
 reads_number = value number (row (option (reads_one sign_terminals (some_token terminal.Plus) refl) refl) (reads_one digit_terminals (some_token terminal.Zero) refl) refl)
 
@@ -62,13 +62,13 @@ pub reads_literal : Reads Literal literal_shape read_literal
 unfolding read_literal
 reads_literal = choice reads_number (value text (a_word terminal.Text refl)) refl refl refl
 
-pub reads_next_literal : Reads (made second (word terminal.Comma ▸ Literal)) (next_shape terminal.Comma literal_shape) read_next_literal
+pub reads_next_literal : Reads (mapped second (word terminal.Comma ▸ Literal)) (next_shape terminal.Comma literal_shape) read_next_literal
 unfolding read_next_literal
 reads_next_literal = value second (row (a_word terminal.Comma refl) reads_literal refl)
 
 pub reads_literals : Reads (listed terminal.Comma Literal) (listed_shape terminal.Comma literal_shape) read_literals
 unfolding read_literals
-reads_literals = value all (row reads_literal (repeat reads_next_literal refl refl) refl)
+reads_literals = value first_and_others (row reads_literal (repeat reads_next_literal refl refl) refl)
 
 abbrev pub value_list_shape : FirstAndFollow
 value_list_shape = parentheses_shape (listed_shape terminal.Comma literal_shape)
@@ -111,4 +111,4 @@ negation_shape = maybe_shape (word_shape terminal.Not)
 
 pub reads_negation : Reads Negation negation_shape read_negation
 unfolding read_negation
-reads_negation = value stands (option (a_word terminal.Not refl) refl)
+reads_negation = value is_written (option (a_word terminal.Not refl) refl)

@@ -3,9 +3,9 @@ use Rattle.std.proofs.Common.{◌≡◌, Option, Some, None, List, [], ◌++◌,
 use Rattle.std.proofs.lemmas.List.{append-nil}
 use Rattle.ll_grammars.specs.declared.lexeme.Lexeme.{Lexeme}
 use Rattle.ll_grammars.specs.declared.terminal.Terminal.TheVariants as terminal
-use Rattle.ll_grammars.specs.Language.{Language, Then, ◌▸◌, made, ◌∪◌, maybe}
+use Rattle.ll_grammars.specs.Language.{Language, Then, ◌▸◌, mapped, ◌∪◌, maybe}
 use Rattle.ll_grammars.specs.Reads.{FirstAndFollow, Reads}
-use Rattle.ll_grammars.specs.Rules.{all, second, word, listed}
+use Rattle.ll_grammars.specs.Rules.{first_and_others, second, word, listed}
 use Rattle.ll_grammars.proofs.Steps.{then_shape, either_shape}
 use Rattle.ll_grammars.proofs.Otherwise.{otherwise_shape, otherwise}
 use Rattle.ll_grammars.proofs.Combined.{row, value, choice, repeat, a_word, word_shape, next_shape, listed_shape, reads_same}
@@ -17,22 +17,22 @@ use Rattle.query_grammar.specs.Grammar.{Name, NewName, SelectSublist, SelectList
 use Rattle.query_grammar.specs.Readers.{applied, star_of, qualified, plain, read_dotted_out, read_out, read_next_out, read_listed_outs, read_outs}
 use Rattle.query_grammar.proofs.OperandRules.{name_shape, new_name_shape, reads_name, reads_new_name}
 
-abbrev BehindDot : Language (Lexeme → OutNode)
-BehindDot = made star_of (word terminal.Star)
-    ∪ made qualified (Name ▸ NewName)
+abbrev AfterDot : Language (Lexeme → OutNode)
+AfterDot = mapped star_of (word terminal.Star)
+    ∪ mapped qualified (Name ▸ NewName)
 
 abbrev Dotted : Language (Lexeme → OutNode)
-Dotted = made second (word terminal.Dot ▸ BehindDot)
+Dotted = mapped second (word terminal.Dot ▸ AfterDot)
 
-abbrev Behind : Language (Lexeme → OutNode)
-Behind = Dotted ∪ made plain NewName
+abbrev AfterName : Language (Lexeme → OutNode)
+AfterName = Dotted ∪ mapped plain NewName
 
 abbrev Factored : Language OutNode
-Factored = made applied (Name ▸ Behind)
+Factored = mapped applied (Name ▸ AfterName)
 
 to_outs : (text : List Lexeme) (v : OutNode) → Factored text v → SelectSublist text v
 to_outs text v l = at l.2.second where
-  behind_dot : (parts : Lexeme × (Lexeme → OutNode)) → parts.1 ≡ l.0.1 → (t : Then (word terminal.Dot) BehindDot l.2.rest parts) → BehindDot t.rest parts.1 → SelectSublist text v
+  behind_dot : (parts : Lexeme × (Lexeme → OutNode)) → parts.1 ≡ l.0.1 → (t : Then (word terminal.Dot) AfterDot l.2.rest parts) → AfterDot t.rest parts.1 → SelectSublist text v
   behind_dot parts e t (inl s) = inl (
     (l.0.0, (parts.0, s.0)),
     ap (λ (f : Lexeme → OutNode). f l.0.0) (s.1 ∙ e) ∙ l.1,
@@ -54,7 +54,7 @@ to_outs text v l = at l.2.second where
     },
   )
 
-  at : Behind l.2.rest l.0.1 → SelectSublist text v
+  at : AfterName l.2.rest l.0.1 → SelectSublist text v
   at (inl m) = behind_dot m.0 m.1 m.2 m.2.second
   at (inr m) = inr (
     (record { table = None; column = l.0.0 }, m.0),
@@ -69,7 +69,7 @@ to_outs text v l = at l.2.second where
   )
 
 from_column : (text front rest : List Lexeme) (c : ColumnNode) (new : Option Lexeme) (v : OutNode) → one_column (c, new) ≡ v → text ≡ front ++ rest → NewName rest new
-    → (name : Lexeme) (other : Option Lexeme) → column (name, other) ≡ c → Then Name (maybe (made second (word terminal.Dot ▸ Name))) front (name, other) → Factored text v
+    → (name : Lexeme) (other : Option Lexeme) → column (name, other) ≡ c → Then Name (maybe (mapped second (word terminal.Dot ▸ Name))) front (name, other) → Factored text v
 from_column text front rest c new v e whole l name None made_ t = (
   (name, plain new),
   ap (λ x. one_column (x, new)) made_ ∙ e,
@@ -135,13 +135,13 @@ pub reads_out : Reads SelectSublist out_shape read_out
 unfolding read_out
 reads_out = reads_same to_outs from_outs (value applied (row reads_name (otherwise reads_dotted_out (value plain reads_new_name) refl refl) refl))
 
-pub reads_next_out : Reads (made second (word terminal.Comma ▸ SelectSublist)) (next_shape terminal.Comma out_shape) read_next_out
+pub reads_next_out : Reads (mapped second (word terminal.Comma ▸ SelectSublist)) (next_shape terminal.Comma out_shape) read_next_out
 unfolding read_next_out
 reads_next_out = value second (row (a_word terminal.Comma refl) reads_out refl)
 
 pub reads_listed_outs : Reads (listed terminal.Comma SelectSublist) (listed_shape terminal.Comma out_shape) read_listed_outs
 unfolding read_listed_outs
-reads_listed_outs = value all (row reads_out (repeat reads_next_out refl refl) refl)
+reads_listed_outs = value first_and_others (row reads_out (repeat reads_next_out refl refl) refl)
 
 abbrev pub outs_shape : FirstAndFollow
 outs_shape = either_shape (word_shape terminal.Star) (listed_shape terminal.Comma out_shape)

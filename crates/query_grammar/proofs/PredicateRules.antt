@@ -3,7 +3,7 @@
 use Rattle.std.proofs.Common.{◌≡◌, Bool, List, inl, inr, refl, ap, ◌∙◌}
 use Rattle.ll_grammars.specs.declared.lexeme.Lexeme.{Lexeme}
 use Rattle.ll_grammars.specs.declared.terminal.Terminal.TheVariants as terminal
-use Rattle.ll_grammars.specs.Language.{Language, Then, ◌▸◌, made, ◌∪◌}
+use Rattle.ll_grammars.specs.Language.{Language, Then, ◌▸◌, mapped, ◌∪◌}
 use Rattle.ll_grammars.specs.Reads.{FirstAndFollow, Reads}
 use Rattle.ll_grammars.specs.Rules.{word}
 use Rattle.ll_grammars.proofs.Steps.{then_shape, either_shape}
@@ -15,20 +15,20 @@ use Rattle.query_grammar.specs.Grammar.{Operand, ComparisonOperator, Negation, I
 use Rattle.query_grammar.specs.Readers.{applied, compare, ranged, listed_in, read_predicate, read_flat}
 use Rattle.query_grammar.proofs.OperandRules.{operand_shape, operator_shape, negation_shape, value_list_shape, reads_operand, reads_operator, reads_negation, reads_value_list}
 
-abbrev BehindNot : Language (Bool → OperandNode → TestNode)
-BehindNot = made ranged (word terminal.Between ▸ Operand ▸ word terminal.And ▸ Operand)
-    ∪ made listed_in (word terminal.In ▸ InValueList)
+abbrev AfterNot : Language (Bool → OperandNode → TestNode)
+AfterNot = mapped ranged (word terminal.Between ▸ Operand ▸ word terminal.And ▸ Operand)
+    ∪ mapped listed_in (word terminal.In ▸ InValueList)
 
-abbrev Behind : Language (OperandNode → TestNode)
-Behind = made compare (ComparisonOperator ▸ Operand)
-    ∪ made applied (Negation ▸ BehindNot)
+abbrev AfterOperand : Language (OperandNode → TestNode)
+AfterOperand = mapped compare (ComparisonOperator ▸ Operand)
+    ∪ mapped applied (Negation ▸ AfterNot)
 
 abbrev Factored : Language TestNode
-Factored = made applied (Operand ▸ Behind)
+Factored = mapped applied (Operand ▸ AfterOperand)
 
 to_predicates : (text : List Lexeme) (v : TestNode) → Factored text v → Predicate text v
 to_predicates text v l = at l.2.second where
-  behind_not : (parts : Bool × (Bool → OperandNode → TestNode)) → applied parts ≡ l.0.1 → (t : Then Negation BehindNot l.2.rest parts) → BehindNot t.rest parts.1 → Predicate text v
+  behind_not : (parts : Bool × (Bool → OperandNode → TestNode)) → applied parts ≡ l.0.1 → (t : Then Negation AfterNot l.2.rest parts) → AfterNot t.rest parts.1 → Predicate text v
   behind_not parts e t (inl b) = inr (inl (
     (l.0.0, (parts.0, b.0)),
     ap (λ (g : Bool → OperandNode → TestNode). g parts.0 l.0.0) b.1 ∙ ap (λ (f : OperandNode → TestNode). f l.0.0) e ∙ l.1,
@@ -40,7 +40,7 @@ to_predicates text v l = at l.2.second where
     record { front = l.2.front; rest = l.2.rest; whole = l.2.whole; first = l.2.first; second = record { front = t.front; rest = t.rest; whole = t.whole; first = t.first; second = b.2 } },
   ))
 
-  at : Behind l.2.rest l.0.1 → Predicate text v
+  at : AfterOperand l.2.rest l.0.1 → Predicate text v
   at (inl m) = inl ((l.0.0, m.0), ap (λ (f : OperandNode → TestNode). f l.0.0) m.1 ∙ l.1, record { front = l.2.front; rest = l.2.rest; whole = l.2.whole; first = l.2.first; second = m.2 })
   at (inr m) = behind_not m.0 m.1 m.2 m.2.second
 
@@ -91,6 +91,6 @@ reads_predicate =
     let compared_ = row reads_operator reads_operand refl in
     reads_same to_predicates from_predicates (value applied (row reads_operand (choice (value compare compared_) (value applied (row reads_negation behind_not_ refl)) refl refl refl) refl))
 
-pub reads_flat : Reads (made tested Predicate) predicate_shape read_flat
+pub reads_flat : Reads (mapped tested Predicate) predicate_shape read_flat
 unfolding read_flat
 reads_flat = value tested reads_predicate

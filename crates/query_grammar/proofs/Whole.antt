@@ -5,8 +5,8 @@ use Rattle.ll_grammars.specs.declared.terminal.Terminal.TheVariants as terminal
 use Rattle.ll_grammars.specs.Language.{Language}
 use Rattle.ll_grammars.specs.Reading.{Parser}
 use Rattle.ll_grammars.specs.Reads.{FirstAndFollow, Reads}
-use Rattle.ll_grammars.specs.Rules.{all, second, is_empty, place}
-use Rattle.ll_grammars.specs.Places.{IsSyntaxPlace}
+use Rattle.ll_grammars.specs.Rules.{first_and_others, second, is_empty, place}
+use Rattle.ll_grammars.specs.Places.{IsSyntaxErrorAt}
 use Rattle.ll_grammars.proofs.Combined.{a_word, option}
 use Rattle.ll_grammars.proofs.Alike.{AreAlikeOn, StaysIn, itself_alike, stays, then_alike, made_alike, maybe_alike, many_alike}
 use Rattle.ll_grammars.proofs.Ends as ends
@@ -15,7 +15,7 @@ use Rattle.query_grammar.specs.declared.tree.QueryNode.{QueryNode}
 use Rattle.query_grammar.specs.Values.{join, part, query}
 use Rattle.query_grammar.specs.Nesting.{nesting}
 use Rattle.query_grammar.specs.Grammar.{QuerySpecification}
-use Rattle.query_grammar.specs.Readers.{read_within, read_condition, read_join, read_joins, read_part, read_next_part, read_parts, read_condition_behind_where, read_filter, read_query}
+use Rattle.query_grammar.specs.Readers.{read_within, read_condition, read_join, read_joins, read_part, read_next_part, read_parts, read_condition_after_where, read_filter, read_query}
 use Rattle.query_grammar.proofs.ConditionRules.{reads_within}
 use Rattle.query_grammar.proofs.OutputRules.{reads_outs}
 use Rattle.query_grammar.proofs.ClauseRules.{query_shape, reads_source, reads_join, reads_part, reads_next_part, reads_parts, reads_filter, reads_query}
@@ -72,10 +72,10 @@ module _ (n : ℕ) where
 
   parts_alike : AreAlikeOn P (read_parts c) (read_parts d)
   unfolding read_parts
-  parts_alike = made_alike P all _ _ (then_alike P _ _ _ _ (stays_shallow n (reads_part (reads_within n))) part_alike (many_alike P _ _ _ (stays_shallow n (reads_next_part (reads_within n))) next_part_alike))
+  parts_alike = made_alike P first_and_others _ _ (then_alike P _ _ _ _ (stays_shallow n (reads_part (reads_within n))) part_alike (many_alike P _ _ _ (stays_shallow n (reads_next_part (reads_within n))) next_part_alike))
 
-  where_alike : AreAlikeOn P (read_condition_behind_where c) (read_condition_behind_where d)
-  unfolding read_condition_behind_where
+  where_alike : AreAlikeOn P (read_condition_after_where c) (read_condition_after_where d)
+  unfolding read_condition_after_where
   where_alike = made_alike P second _ _ (then_alike P _ _ _ _ (stays_shallow n (a_word terminal.Where refl)) (itself_alike P _) condition_alike)
 
   filter_alike : AreAlikeOn P (read_filter c) (read_filter d)
@@ -97,10 +97,10 @@ pub spelled : (n : ℕ) (tokens : List Lexeme) (q : QueryNode) (rest : List Lexe
 spelled n tokens q rest shallow e h = ends.spelled reads_queries tokens q rest (sym (query_alike n tokens shallow) ∙ e) h
 
 pub wrong_after : (n : ℕ) (tokens : List Lexeme) (q : QueryNode) (rest : List Lexeme) (text_len at : ℕ) → nesting tokens ≤ n → read_query (read_within n) tokens ≡ (Some q, rest) → is_empty rest ≡ false → at ≡ place rest text_len
-    → IsSyntaxPlace QuerySpecification tokens text_len at
+    → IsSyntaxErrorAt QuerySpecification tokens text_len at
 wrong_after n tokens q rest text_len at shallow e h here = ends.wrong_after reads_queries tokens q rest text_len at (sym (query_alike n tokens shallow) ∙ e) h here
 
-pub wrong_at : (n : ℕ) (tokens rest : List Lexeme) (text_len at : ℕ) → nesting tokens ≤ n → read_query (read_within n) tokens ≡ (None, rest) → at ≡ place rest text_len → IsSyntaxPlace QuerySpecification tokens text_len at
+pub wrong_at : (n : ℕ) (tokens rest : List Lexeme) (text_len at : ℕ) → nesting tokens ≤ n → read_query (read_within n) tokens ≡ (None, rest) → at ≡ place rest text_len → IsSyntaxErrorAt QuerySpecification tokens text_len at
 wrong_at n tokens rest text_len at shallow e here = ends.wrong_at reads_queries tokens rest text_len at (sym (query_alike n tokens shallow) ∙ e) here
 
 pub all_found : (n : ℕ) (tokens : List Lexeme) (q : QueryNode) → nesting tokens ≤ n → QuerySpecification tokens q → read_query (read_within n) tokens ≡ (Some q, [])

@@ -3,7 +3,7 @@ use Rattle.std.specs.Prelude.{ℕ, zero, suc, Bool, Option, List, [], ◌∷◌}
 use Rattle.ll_grammars.specs.declared.lexeme.Lexeme.{Lexeme}
 use Rattle.ll_grammars.specs.declared.terminal.Terminal.{Terminal}
 use Rattle.ll_grammars.specs.declared.terminal.Terminal.TheVariants as terminal
-use Rattle.ll_grammars.specs.Language.{Language, one, ◌▸◌, made, ◌∪◌, maybe, many}
+use Rattle.ll_grammars.specs.Language.{Language, one, ◌▸◌, mapped, ◌∪◌, maybe, many}
 use Rattle.ll_grammars.specs.Rules.{second, word, listed, in_parentheses}
 use Rattle.query_grammar.specs.declared.tree.ColumnNode.{ColumnNode}
 use Rattle.query_grammar.specs.declared.tree.LiteralNode.{LiteralNode}
@@ -14,11 +14,11 @@ use Rattle.query_grammar.specs.declared.tree.TestNode.{TestNode}
 use Rattle.query_grammar.specs.declared.tree.CondNode.{CondNode}
 use Rattle.query_grammar.specs.declared.tree.SourceNode.{SourceNode}
 use Rattle.query_grammar.specs.declared.tree.JoinedNode.{JoinedNode}
-use Rattle.query_grammar.specs.declared.tree.PartNode.{PartNode}
+use Rattle.query_grammar.specs.declared.tree.FromItemNode.{FromItemNode}
 use Rattle.query_grammar.specs.declared.tree.OutNode.{OutNode}
 use Rattle.query_grammar.specs.declared.tree.OutsNode.{OutsNode}
 use Rattle.query_grammar.specs.declared.tree.QueryNode.{QueryNode}
-use Rattle.query_grammar.specs.Values.{stands, meaning, column, number, text, of_column, of_literal, comparison, between, among_values, tested, negate, all_of, any_of, source, join, part, all_columns, one_column, everything, these_outs, query}
+use Rattle.query_grammar.specs.Values.{is_written, meaning, column, number, text, of_column, of_literal, comparison, between, among_values, tested, negate, all_of, any_of, source, join, part, all_columns, one_column, everything, these_outs, query}
 
 -- the terminals of a name. KEY, NO, ACTION and CASCADE are names in a query
 abbrev pub name_terminals : List Terminal
@@ -37,36 +37,36 @@ Name = one name_terminals
 
 -- [ [ AS ] name ]
 abbrev pub NewName : Language (Option Lexeme)
-NewName = maybe (made second (maybe (word terminal.As) ▸ Name))
+NewName = maybe (mapped second (maybe (word terminal.As) ▸ Name))
 
 -- name [ "." name ]
 abbrev pub ColumnReference : Language ColumnNode
-ColumnReference = made column (Name ▸ maybe (made second (word terminal.Dot ▸ Name)))
+ColumnReference = mapped column (Name ▸ maybe (mapped second (word terminal.Dot ▸ Name)))
 
 -- [ "+" | "-" ] Number | Text
 abbrev pub Literal : Language LiteralNode
-Literal = made number (maybe (one sign_terminals) ▸ one digit_terminals)
-    ∪ made text (word terminal.Text)
+Literal = mapped number (maybe (one sign_terminals) ▸ one digit_terminals)
+    ∪ mapped text (word terminal.Text)
 
 -- ---- tests
 
 -- colref | literal
 abbrev pub Operand : Language OperandNode
-Operand = made of_column ColumnReference
-    ∪ made of_literal Literal
+Operand = mapped of_column ColumnReference
+    ∪ mapped of_literal Literal
 
 -- "=" | "<>" | "<" | "<=" | ">" | ">="
 abbrev pub ComparisonOperator : Language Op
-ComparisonOperator = made (meaning op.Eq) (word terminal.Equal)
-    ∪ made (meaning op.Ne) (word terminal.NotEqual)
-    ∪ made (meaning op.Lt) (word terminal.Less)
-    ∪ made (meaning op.Le) (word terminal.LessOrEqual)
-    ∪ made (meaning op.Gt) (word terminal.Greater)
-    ∪ made (meaning op.Ge) (word terminal.GreaterOrEqual)
+ComparisonOperator = mapped (meaning op.Eq) (word terminal.Equal)
+    ∪ mapped (meaning op.Ne) (word terminal.NotEqual)
+    ∪ mapped (meaning op.Lt) (word terminal.Less)
+    ∪ mapped (meaning op.Le) (word terminal.LessOrEqual)
+    ∪ mapped (meaning op.Gt) (word terminal.Greater)
+    ∪ mapped (meaning op.Ge) (word terminal.GreaterOrEqual)
 
 -- [ NOT ]
 abbrev pub Negation : Language Bool
-Negation = made stands (maybe (word terminal.Not))
+Negation = mapped is_written (maybe (word terminal.Not))
 
 -- "(" literal { "," literal } ")"
 abbrev pub InValueList : Language (List LiteralNode)
@@ -74,36 +74,36 @@ InValueList = in_parentheses (listed terminal.Comma Literal)
 
 -- operand op operand | operand [ NOT ] BETWEEN operand AND operand | operand [ NOT ] IN "(" literal { "," literal } ")"
 abbrev pub Predicate : Language TestNode
-Predicate = made comparison (Operand ▸ ComparisonOperator ▸ Operand)
-    ∪ made between (Operand ▸ Negation ▸ word terminal.Between ▸ Operand ▸ word terminal.And ▸ Operand)
-    ∪ made among_values (Operand ▸ Negation ▸ word terminal.In ▸ InValueList)
+Predicate = mapped comparison (Operand ▸ ComparisonOperator ▸ Operand)
+    ∪ mapped between (Operand ▸ Negation ▸ word terminal.Between ▸ Operand ▸ word terminal.And ▸ Operand)
+    ∪ mapped among_values (Operand ▸ Negation ▸ word terminal.In ▸ InValueList)
 
 -- "(" cond ")" or a predicate. C is the language of conditions
 abbrev pub BooleanTest : Language CondNode → Language CondNode
 BooleanTest C = in_parentheses C
-    ∪ made tested Predicate
+    ∪ mapped tested Predicate
 
 -- ---- conditions. T is the language of tests
 
 -- [ NOT ] test
 abbrev pub BooleanFactor : Language CondNode → Language CondNode
-BooleanFactor T = made negate (Negation ▸ T)
+BooleanFactor T = mapped negate (Negation ▸ T)
 
 -- factor { AND factor }
 abbrev pub BooleanTerm : Language CondNode → Language CondNode
-BooleanTerm T = made all_of (listed terminal.And (BooleanFactor T))
+BooleanTerm T = mapped all_of (listed terminal.And (BooleanFactor T))
 
 -- term { OR term }
 abbrev pub ConditionOf : Language CondNode → Language CondNode
-ConditionOf T = made any_of (listed terminal.Or (BooleanTerm T))
+ConditionOf T = mapped any_of (listed terminal.Or (BooleanTerm T))
 
 -- the language without any text
-abbrev pub Nothing : {A : Type 0} → Language A
-Nothing text value = ⊥
+abbrev pub EmptyLanguage : {A : Type 0} → Language A
+EmptyLanguage text value = ⊥
 
 -- the tests in which parentheses around conditions are nested at most n deep
 abbrev pub TestWithin : ℕ → Language CondNode
-TestWithin zero = BooleanTest Nothing
+TestWithin zero = BooleanTest EmptyLanguage
 TestWithin (suc n) = BooleanTest (ConditionOf (TestWithin n))
 
 -- the conditions, however deep their parentheses are nested
@@ -114,34 +114,34 @@ SearchCondition text value = (n : ℕ) × ConditionOf (TestWithin n) text value
 
 -- name [ [ AS ] name ]
 abbrev pub TableReference : Language SourceNode
-TableReference = made source (Name ▸ NewName)
+TableReference = mapped source (Name ▸ NewName)
 
 -- [ INNER ] JOIN source ON cond
 abbrev pub QualifiedJoin : Language CondNode → Language JoinedNode
-QualifiedJoin C = made join (maybe (word terminal.Inner) ▸ word terminal.Join ▸ TableReference ▸ word terminal.On ▸ C)
+QualifiedJoin C = mapped join (maybe (word terminal.Inner) ▸ word terminal.Join ▸ TableReference ▸ word terminal.On ▸ C)
 
 -- source { [ INNER ] JOIN source ON cond }
-abbrev pub FromPart : Language CondNode → Language PartNode
-FromPart C = made part (TableReference ▸ many (QualifiedJoin C))
+abbrev pub FromPart : Language CondNode → Language FromItemNode
+FromPart C = mapped part (TableReference ▸ many (QualifiedJoin C))
 
 -- name "." "*" | colref [ [ AS ] name ]
 abbrev pub SelectSublist : Language OutNode
-SelectSublist = made all_columns (Name ▸ word terminal.Dot ▸ word terminal.Star)
-    ∪ made one_column (ColumnReference ▸ NewName)
+SelectSublist = mapped all_columns (Name ▸ word terminal.Dot ▸ word terminal.Star)
+    ∪ mapped one_column (ColumnReference ▸ NewName)
 
 -- "*" | out { "," out }
 abbrev pub SelectList : Language OutsNode
-SelectList = made everything (word terminal.Star)
-    ∪ made these_outs (listed terminal.Comma SelectSublist)
+SelectList = mapped everything (word terminal.Star)
+    ∪ mapped these_outs (listed terminal.Comma SelectSublist)
 
 -- [ WHERE cond ]
 abbrev pub WhereClause : Language CondNode → Language (Option CondNode)
-WhereClause C = maybe (made second (word terminal.Where ▸ C))
+WhereClause C = maybe (mapped second (word terminal.Where ▸ C))
 
 -- SELECT outs FROM part { "," part } [ WHERE cond ] [ ";" ]
 abbrev pub QueryOf : Language CondNode → Language QueryNode
 QueryOf C =
-    made query (word terminal.Select ▸ SelectList
+    mapped query (word terminal.Select ▸ SelectList
     ▸ word terminal.From ▸ listed terminal.Comma (FromPart C) ▸ WhereClause C ▸ maybe (word terminal.Semicolon))
 
 unfoldable pub QuerySpecification : Language QueryNode

@@ -16,7 +16,7 @@ use Rattle.query_grammar.specs.declared.tree.CondNode.TheOpen.{CondNode-F}
 use Rattle.query_grammar.specs.declared.tree.CondNode.TheOpen as layer
 use Rattle.query_grammar.specs.declared.tree.SourceNode.{SourceNode}
 use Rattle.query_grammar.specs.declared.tree.JoinedNode.{JoinedNode}
-use Rattle.query_grammar.specs.declared.tree.PartNode.{PartNode}
+use Rattle.query_grammar.specs.declared.tree.FromItemNode.{FromItemNode}
 use Rattle.query_grammar.specs.declared.tree.OutNode.{OutNode}
 use Rattle.query_grammar.specs.declared.tree.OutNode.TheVariants as out
 use Rattle.query_grammar.specs.declared.tree.OutsNode.{OutsNode}
@@ -60,7 +60,7 @@ IsSourceOf P s = IsNameOf P s.table × IfSome s.alias (IsNameOf P)
 abbrev pub IsJoinOf : (Lexeme → Type 0) → JoinedNode → Type 0
 IsJoinOf P j = IsSourceOf P j.source × IsCondOf P j.on
 
-abbrev pub IsPartOf : (Lexeme → Type 0) → PartNode → Type 0
+abbrev pub IsPartOf : (Lexeme → Type 0) → FromItemNode → Type 0
 IsPartOf P p = IsSourceOf P p.first × All (IsJoinOf P) p.joins
 
 abbrev pub IsOutOf : (Lexeme → Type 0) → OutNode → Type 0

@@ -5,15 +5,15 @@ use Rattle.ll_grammars.specs.declared.terminal.Terminal.TheVariants as terminal
 use Rattle.ll_grammars.specs.Terminals.{among}
 
 -- how many parentheses are open after a token, if `open_` parentheses are open before it. A ")" without an open parenthesis closes nothing
-abbrev pub behind : ℕ → Lexeme → ℕ
-behind open_ token =
+abbrev pub open_after : ℕ → Lexeme → ℕ
+open_after open_ token =
     if among (terminal.Open ∷ []) token.terminal then suc open_
     else (if among (terminal.Close ∷ []) token.terminal then open_ - 1 else open_)
 
 -- how many parentheses are open before the first token (`open_`) and after each token
 abbrev pub open_counts : ℕ → List Lexeme → List ℕ
 open_counts open_ [] = open_ ∷ []
-open_counts open_ (token ∷ rest) = open_ ∷ open_counts (behind open_ token) rest
+open_counts open_ (token ∷ rest) = open_ ∷ open_counts (open_after open_ token) rest
 
 abbrev pub greatest : List ℕ → ℕ
 greatest [] = 0

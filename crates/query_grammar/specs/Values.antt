@@ -13,7 +13,7 @@ use Rattle.query_grammar.specs.declared.tree.CondNode.{CondNode}
 use Rattle.query_grammar.specs.declared.tree.CondNode.TheVariants as cond
 use Rattle.query_grammar.specs.declared.tree.SourceNode.{SourceNode}
 use Rattle.query_grammar.specs.declared.tree.JoinedNode.{JoinedNode}
-use Rattle.query_grammar.specs.declared.tree.PartNode.{PartNode}
+use Rattle.query_grammar.specs.declared.tree.FromItemNode.{FromItemNode}
 use Rattle.query_grammar.specs.declared.tree.OutNode.{OutNode}
 use Rattle.query_grammar.specs.declared.tree.OutNode.TheVariants as out
 use Rattle.query_grammar.specs.declared.tree.OutsNode.{OutsNode}
@@ -21,9 +21,9 @@ use Rattle.query_grammar.specs.declared.tree.OutsNode.TheVariants as outs
 use Rattle.query_grammar.specs.declared.tree.QueryNode.{QueryNode}
 
 -- whether an optional word is written
-abbrev pub stands : Option Lexeme → Bool
-stands None = false
-stands (Some word) = true
+abbrev pub is_written : Option Lexeme → Bool
+is_written None = false
+is_written (Some word) = true
 
 -- a word's meaning, whichever token spells it
 abbrev pub meaning : {A : Type 0} → A → Lexeme → A
@@ -90,7 +90,7 @@ source parts = record { table = parts.0; alias = parts.1 }
 abbrev pub join : Option Lexeme × (Lexeme × (SourceNode × (Lexeme × CondNode))) → JoinedNode
 join parts = record { source = parts.1.1.0; on = parts.1.1.1.1 }
 
-abbrev pub part : SourceNode × List JoinedNode → PartNode
+abbrev pub part : SourceNode × List JoinedNode → FromItemNode
 part parts = record { first = parts.0; joins = parts.1 }
 
 -- the alias, the dot, the star
@@ -107,5 +107,5 @@ abbrev pub these_outs : List OutNode → OutsNode
 these_outs list = outs.Listed list
 
 -- SELECT, the outputs, FROM, the parts, WHERE's condition, the semicolon
-abbrev pub query : Lexeme × (OutsNode × (Lexeme × (List PartNode × (Option CondNode × Option Lexeme)))) → QueryNode
+abbrev pub query : Lexeme × (OutsNode × (Lexeme × (List FromItemNode × (Option CondNode × Option Lexeme)))) → QueryNode
 query parts = record { outs = parts.1.0; parts = parts.1.1.1.0; filter = parts.1.1.1.1.0 }

@@ -1,13 +1,13 @@
 //! Reads FROM, WHERE, and whole queries.
 ghost use Rattle.ll_grammars.specs.Rules.{IsReadAs};
-ghost use Rattle.query_grammar.specs.Readers.{read_within, read_source, read_join, read_joins, read_part, read_next_part, read_parts, read_condition_behind_where, read_filter, read_query};
+ghost use Rattle.query_grammar.specs.Readers.{read_within, read_source, read_join, read_joins, read_part, read_next_part, read_parts, read_condition_after_where, read_filter, read_query};
 
 use crate::conditions::condition;
 use crate::depth::MAX_NESTING;
 use crate::operands::{name, new_name, optional};
 use crate::outputs::outputs;
 use crate::terminals::{COMMA, FROM, INNER, JOIN, JOIN_FIRST, ON, SELECT, SEMICOLON, WHERE};
-use crate::tree::{CondNode, JoinedNode, PartNode, QueryNode, SourceNode};
+use crate::tree::{CondNode, FromItemNode, JoinedNode, QueryNode, SourceNode};
 use base_io::Seq;
 use ll_grammars::{Reader, Stop};
 
@@ -48,16 +48,16 @@ fn joins(reader: &mut Reader<'_>) -> Result<Seq<JoinedNode>, Stop>
 
 /// `source { [ INNER ] JOIN source ON cond }`
 #[tactic(auto, unfolding(crate::specs::Readers::read_part))]
-fn part(reader: &mut Reader<'_>) -> Result<PartNode, Stop>
+fn part(reader: &mut Reader<'_>) -> Result<FromItemNode, Stop>
     ensures { IsReadAs result reader.new (read_part (read_within MAX_NESTING) reader.old) }
 {
     let first = source(reader)?;
     let joins = joins(reader)?;
-    Ok(PartNode { first, joins })
+    Ok(FromItemNode { first, joins })
 }
 
 #[tactic(auto, unfolding(crate::specs::Readers::read_next_part))]
-fn next_part(reader: &mut Reader<'_>) -> Result<PartNode, Stop>
+fn next_part(reader: &mut Reader<'_>) -> Result<FromItemNode, Stop>
     ensures { IsReadAs result reader.new (read_next_part (read_within MAX_NESTING) reader.old) }
 {
     reader.one(COMMA)?;
@@ -65,7 +65,7 @@ fn next_part(reader: &mut Reader<'_>) -> Result<PartNode, Stop>
 }
 
 #[tactic(auto, using(ll_grammars::proofs::Loops::listed_start), unfolding(crate::specs::Readers::read_parts))]
-fn parts(reader: &mut Reader<'_>) -> Result<Seq<PartNode>, Stop>
+fn parts(reader: &mut Reader<'_>) -> Result<Seq<FromItemNode>, Stop>
     ensures { IsReadAs result reader.new (read_parts (read_within MAX_NESTING) reader.old) }
 {
     let mut parts = Seq::new(reader.allocator());
@@ -78,9 +78,9 @@ fn parts(reader: &mut Reader<'_>) -> Result<Seq<PartNode>, Stop>
     Ok(parts)
 }
 
-#[tactic(auto, unfolding(crate::specs::Readers::read_condition_behind_where))]
-fn condition_behind_where(reader: &mut Reader<'_>) -> Result<CondNode, Stop>
-    ensures { IsReadAs result reader.new (read_condition_behind_where (read_within MAX_NESTING) reader.old) }
+#[tactic(auto, unfolding(crate::specs::Readers::read_condition_after_where))]
+fn condition_after_where(reader: &mut Reader<'_>) -> Result<CondNode, Stop>
+    ensures { IsReadAs result reader.new (read_condition_after_where (read_within MAX_NESTING) reader.old) }
 {
     reader.one(WHERE)?;
     condition(reader, MAX_NESTING)
@@ -92,7 +92,7 @@ fn filter(reader: &mut Reader<'_>) -> Result<Option<CondNode>, Stop>
     ensures { IsReadAs result reader.new (read_filter (read_within MAX_NESTING) reader.old) }
 {
     if reader.starts(WHERE) {
-        let condition = condition_behind_where(reader)?;
+        let condition = condition_after_where(reader)?;
         Ok(Some(condition))
     } else {
         Ok(None)

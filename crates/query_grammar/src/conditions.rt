@@ -11,7 +11,7 @@ use base_io::{Boxed, Seq};
 use ll_grammars::{Reader, Stop};
 
 /// The AND of these conditions. A single condition stays as it is.
-fn every(mut conditions: Seq<CondNode>) -> CondNode
+fn all_of(mut conditions: Seq<CondNode>) -> CondNode
     ensures { result ≡ all_of conditions }
 {
     if conditions.len() == 1 {
@@ -25,7 +25,7 @@ fn every(mut conditions: Seq<CondNode>) -> CondNode
 }
 
 /// The OR of these conditions. A single condition stays as it is.
-fn any(mut conditions: Seq<CondNode>) -> CondNode
+fn any_of(mut conditions: Seq<CondNode>) -> CondNode
     ensures { result ≡ any_of conditions }
 {
     if conditions.len() == 1 {
@@ -116,7 +116,7 @@ fn term(reader: &mut Reader<'_>, depth: u32) -> Result<CondNode, Stop>
     ensures { IsReadAs result reader.new (read_term (read_test depth) reader.old) }
 {
     let factors = factors(reader, depth)?;
-    Ok(every(factors))
+    Ok(all_of(factors))
 }
 
 #[cycle(conditions)]
@@ -149,7 +149,7 @@ fn condition_at(reader: &mut Reader<'_>, depth: u32) -> Result<CondNode, Stop>
     ensures { IsReadAs result reader.new (read_cond (read_test depth) reader.old) }
 {
     let terms = terms(reader, depth)?;
-    Ok(any(terms))
+    Ok(any_of(terms))
 }
 
 /// Reads a condition in which parentheses are nested at most `depth` deep.

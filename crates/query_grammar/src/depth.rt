@@ -1,6 +1,6 @@
 //! How deep the parentheses of a query text are nested.
 ghost use Rattle.std.specs.Prelude.{◌≡◌, ◌+◌, ◌<◌, ◌^◌};
-ghost use Rattle.query_grammar.specs.Nesting.{nesting, behind};
+ghost use Rattle.query_grammar.specs.Nesting.{nesting, open_after};
 
 use crate::terminals::{CLOSE, OPEN};
 use ll_grammars::{Lexeme, is_among};
@@ -11,7 +11,7 @@ pub const MAX_NESTING: u32 = 64;
 /// How many parentheses are open after `token`, if `opened` parentheses are open before it.
 fn open_behind(opened: u64, token: Lexeme) -> u64
     requires { opened + 1 < 2 ^ 64 }
-    ensures { result ≡ behind opened token }
+    ensures { result ≡ open_after opened token }
 {
     if is_among(token.terminal, OPEN) {
         opened + 1

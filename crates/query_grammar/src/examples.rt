@@ -1,5 +1,5 @@
 //! Examples: which trees small texts spell, and where they go wrong.
-ghost use Rattle.ll_grammars.specs.Places.{IsSyntaxPlace};
+ghost use Rattle.ll_grammars.specs.Places.{IsSyntaxErrorAt};
 ghost use Rattle.query_grammar.specs.Examples.{precedence, precedence_tree, grouped, grouped_tree, not_twice, inner_alone};
 ghost use Rattle.query_grammar.specs.Grammar.{QuerySpecification};
 
@@ -10,6 +10,6 @@ ghost use Rattle.query_grammar.specs.Grammar.{QuerySpecification};
 pub fn small_texts()
     ensures precedence { QuerySpecification precedence precedence_tree }
     ensures grouping { QuerySpecification grouped grouped_tree }
-    ensures one_not { IsSyntaxPlace QuerySpecification not_twice 33 26 }
-    ensures inner_join { IsSyntaxPlace QuerySpecification inner_alone 23 22 }
+    ensures one_not { IsSyntaxErrorAt QuerySpecification not_twice 33 26 }
+    ensures inner_join { IsSyntaxErrorAt QuerySpecification inner_alone 23 22 }
 {}

@@ -20,6 +20,6 @@ mod tree;
 pub use depth::{MAX_NESTING, nesting};
 pub use parser::{one_meaning, read_query_text};
 pub use tree::{
-    ColumnNode, CondNode, JoinedNode, LiteralNode, Op, OperandNode, OutNode, OutsNode, PartNode,
-    QueryNode, SourceNode, TestNode,
+    ColumnNode, CondNode, FromItemNode, JoinedNode, LiteralNode, Op, OperandNode, OutNode,
+    OutsNode, QueryNode, SourceNode, TestNode,
 };

@@ -85,7 +85,7 @@ pub struct JoinedNode {
 
 /// An item between the commas of FROM (SQL-92 7.4): a source, and the sources that are joined to it, from left to right.
 #[derive(Debug, Drop)]
-pub struct PartNode {
+pub struct FromItemNode {
     pub first: SourceNode,
     pub joins: Seq<JoinedNode>,
 }
@@ -111,6 +111,6 @@ pub enum OutsNode {
 #[derive(Debug, Drop)]
 pub struct QueryNode {
     pub outs: OutsNode,
-    pub parts: Seq<PartNode>,
+    pub parts: Seq<FromItemNode>,
     pub filter: Option<CondNode>,
 }

@@ -24,17 +24,17 @@ use Rattle.query_names.specs.declared.errors.QueryError.{QueryError}
 use Rattle.query_names.specs.declared.operands.BoundOperand.{BoundOperand}
 use Rattle.query_names.specs.declared.scope.EntryColumn.{EntryColumn}
 use Rattle.query_names.specs.declared.scope.Scope.{Scope}
-use Rattle.query_names.specs.Names.{at}
+use Rattle.query_names.specs.Names.{place_if}
 use Rattle.query_names.specs.Scopes.{head_of}
 use Rattle.query_names.specs.Offences.{left_of, others_of, of_literal, differ, is_text_column, too_long}
 use Rattle.query_names.specs.Values.{resolved_column}
 use Rattle.query_names.specs.Answers.{IsNameError, or_first}
 use Rattle.query_names.specs.Binding.{schema_of, from_of, resolved_by, name_offences_of, is_text_by, kind_offence_of, test_offences_of, operand_by, compared_by}
-use Rattle.query_names.specs.Looking.{bound_literal, IsBound, Looked, LookedAtTest, comparisons_by, wrong_literal, equal_to}
-use Rattle.query_names.proofs.Walk.{error_behind, name_error_append, or_first-nil}
+use Rattle.query_names.specs.Checking.{bound_literal, IsBound, Checked, CheckedTest, comparisons_by, wrong_literal, equal_to}
+use Rattle.query_names.proofs.Walk.{error_after, name_error_append, or_first-nil}
 use Rattle.query_names.proofs.CheckFacts.{error_at_left, error_at_others, no_error, kinds_of_test}
 use Rattle.query_names.proofs.Meanings.{found_small}
-use Rattle.query_names.proofs.LookSteps.{looked_of_equal, then_looked, flat_map_step}
+use Rattle.query_names.proofs.CheckSteps.{looked_of_equal, then_checked, flat_map_step}
 
 -- ---- one operand
 
@@ -46,7 +46,7 @@ module _ (binder : Binder) (scope : Scope) where
   unfolding name_offences_of is_text_by operand_by
   bound_column reference column to {o} {text} {begins} is found fits kind here =
       subst (λ o. IsBound binder scope o (record { value = value.Column to; is_text = text; first = begins })) (sym is) (record {
-        none = ap (λ (f : Option EntryColumn). at (is_none f) (head_of reference)) (sym found);
+        none = ap (λ (f : Option EntryColumn). place_if (is_none f) (head_of reference)) (sym found);
         text = kind ∙ ap (λ (f : Option EntryColumn). is_text_column (schema_of binder) binder.text.now (from_of binder) scope f) found;
         first = here;
         value = λ few. ap (λ (r : ColumnRef). value.Column r) (fits (found_small binder scope reference column found few) ∙ ap (λ (f : Option EntryColumn). resolved_column f) found);
@@ -80,19 +80,19 @@ module _ (binder : Binder) (scope : Scope) (t : TestNode) where
   wrong_second {left} {low} {high} e is are none before wrong =
       error_at_others binder scope t e (ap (name_offences_of binder scope) (sym is) ∙ none)
       (subst (λ l. IsNameError (flat_map (name_offences_of binder scope) l) e) (sym are)
-      (error_behind (name_offences_of binder scope low) (name_offences_of binder scope high ++ []) e before
+      (error_after (name_offences_of binder scope low) (name_offences_of binder scope high ++ []) e before
       (name_error_append (name_offences_of binder scope high) [] e wrong)))
 
 -- ---- a comparison that was added
 
 module _ {binder : Binder} {scope : Scope} where
   kind_is : {left right : OperandNode} {l r : BoundOperand} → IsBound binder scope left l → IsBound binder scope right r
-      → at (differ l.is_text r.is_text) r.first ≡ kind_offence_of binder scope (is_text_by binder scope left) right
+      → place_if (differ l.is_text r.is_text) r.first ≡ kind_offence_of binder scope (is_text_by binder scope left) right
   unfolding kind_offence_of is_text_by
   kind_is {left} {right} {l} {r} lb rb =
-      ap (λ b. at (differ b r.is_text) r.first) lb.text
-      ∙ ap (λ b. at (differ (is_text_by binder scope left) b) r.first) rb.text
-      ∙ ap (λ token. at (differ (is_text_by binder scope left) (is_text_by binder scope right)) token) rb.first
+      ap (λ b. place_if (differ b r.is_text) r.first) lb.text
+      ∙ ap (λ b. place_if (differ (is_text_by binder scope left) b) r.first) rb.text
+      ∙ ap (λ token. place_if (differ (is_text_by binder scope left) (is_text_by binder scope right)) token) rb.first
 
   value_is : {left right : OperandNode} {l r : BoundOperand} (how : Op) → IsBound binder scope left l → IsBound binder scope right r → length (from_of binder) ≤ 12
       → cond.Compare how l.value r.value ≡ compared_by binder scope how left right
@@ -104,12 +104,12 @@ module _ {binder : Binder} {scope : Scope} where
 
   pub compare_looked : {t : TestNode} {o left right : OperandNode} (how : Op) {l r : BoundOperand} {held held' : HeldOffences} {found found' : List Cond}
       → t ≡ test.Compare left how right → o ≡ left_of t → IsBound binder scope o l → IsBound binder scope right r
-      → Looked binder [] (at (differ l.is_text r.is_text) r.first) [] held held' found found' (cond.Compare how l.value r.value ∷ [])
-      → LookedAtTest binder scope t held held' found found' (comparisons_by binder scope t)
+      → Checked binder [] (place_if (differ l.is_text r.is_text) r.first) [] held held' found found' (cond.Compare how l.value r.value ∷ [])
+      → CheckedTest binder scope t held held' found found' (comparisons_by binder scope t)
   unfolding comparisons_by
   compare_looked {t} {o} {left} {right} how {l} {r} {held} {held'} {found} {found'} is from ob rb looked =
       let lb : IsBound binder scope left l = bound_left t from (ap left_of is) ob in
-      subst (λ t. LookedAtTest binder scope t held held' found found' (comparisons_by binder scope t)) (sym is)
+      subst (λ t. CheckedTest binder scope t held held' found found' (comparisons_by binder scope t)) (sym is)
       (looked_of_equal
       (sym (no_error binder scope (test.Compare left how right) lb.none (ap (λ n. n ++ []) rb.none)))
       (kind_is lb rb ∙ sym (append-nil (kind_offence_of binder scope (is_text_by binder scope left) right)) ∙ sym (kinds_of_test binder scope (test.Compare left how right)))
@@ -119,23 +119,23 @@ module _ {binder : Binder} {scope : Scope} where
 
   pub between_looked : {t : TestNode} {o left low high : OperandNode} (negated : Bool) {l a b : BoundOperand} {held mid held' : HeldOffences} {found between found' : List Cond}
       → t ≡ test.Between left negated low high → o ≡ left_of t → IsBound binder scope o l → IsBound binder scope low a → IsBound binder scope high b
-      → Looked binder [] (at (differ l.is_text a.is_text) a.first) [] held mid found between (cond.Compare op.Ge l.value a.value ∷ [])
-      → Looked binder [] (at (differ l.is_text b.is_text) b.first) [] mid held' between found' (cond.Compare op.Le l.value b.value ∷ [])
-      → LookedAtTest binder scope t held held' found found' (comparisons_by binder scope t)
+      → Checked binder [] (place_if (differ l.is_text a.is_text) a.first) [] held mid found between (cond.Compare op.Ge l.value a.value ∷ [])
+      → Checked binder [] (place_if (differ l.is_text b.is_text) b.first) [] mid held' between found' (cond.Compare op.Le l.value b.value ∷ [])
+      → CheckedTest binder scope t held held' found found' (comparisons_by binder scope t)
   unfolding comparisons_by
   between_looked {t} {o} {left} {low} {high} negated {l} {a} {b} {held} {mid} {held'} {found} {between} {found'} is from ob ab bb first second =
       let lb : IsBound binder scope left l = bound_left t from (ap left_of is) ob in
       let range : TestNode = test.Between left negated low high in
       let kind : OperandNode → List ℕ = kind_offence_of binder scope (is_text_by binder scope left) in
-      subst (λ t. LookedAtTest binder scope t held held' found found' (comparisons_by binder scope t)) (sym is)
+      subst (λ t. CheckedTest binder scope t held held' found found' (comparisons_by binder scope t)) (sym is)
       (looked_of_equal
       (sym (no_error binder scope range lb.none (ap (λ n. n ++ (name_offences_of binder scope high ++ [])) ab.none ∙ ap (λ n. n ++ []) bb.none)))
-      (ap (λ k. k ++ at (differ l.is_text b.is_text) b.first) (kind_is lb ab)
+      (ap (λ k. k ++ place_if (differ l.is_text b.is_text) b.first) (kind_is lb ab)
       ∙ ap (λ k. kind low ++ k) (kind_is lb bb ∙ sym (append-nil (kind high)))
       ∙ sym (kinds_of_test binder scope range))
       refl
       (λ few. ap (λ c. c ∷ cond.Compare op.Le l.value b.value ∷ []) (value_is op.Ge lb ab few) ∙ ap (λ c. compared_by binder scope op.Ge left low ∷ c ∷ []) (value_is op.Le lb bb few))
-      (then_looked first second))
+      (then_checked first second))
 
 -- ---- the values of an IN list
 
@@ -158,19 +158,19 @@ pub in_looked : {binder : Binder} {scope : Scope} {t : TestNode} {o left : Opera
     {held mid held' : HeldOffences} {found found' : List Cond}
     → t ≡ test.In left negated values → items ≡ values → o ≡ left_of t → IsBound binder scope o l
     → mid.list ≡ or_first held.list (too_long t) → mid.kind ≡ held.kind
-    → Looked binder [] (flat_map (wrong_literal l.is_text) items) [] mid held' found found' (map (equal_to binder.text.now l.value) items)
-    → LookedAtTest binder scope t held held' found found' (comparisons_by binder scope t)
+    → Checked binder [] (flat_map (wrong_literal l.is_text) items) [] mid held' found found' (map (equal_to binder.text.now l.value) items)
+    → CheckedTest binder scope t held held' found found' (comparisons_by binder scope t)
 unfolding comparisons_by
 in_looked {binder} {scope} {t} {o} {left} negated {values} {items} {l} {held} {mid} {held'} {found} {found'} is same from ob list kind looked =
-    subst (λ t. mid.list ≡ or_first held.list (too_long t) → LookedAtTest binder scope t held held' found found' (comparisons_by binder scope t)) (sym is) whole list where
+    subst (λ t. mid.list ≡ or_first held.list (too_long t) → CheckedTest binder scope t held held' found found' (comparisons_by binder scope t)) (sym is) whole list where
       lb : IsBound binder scope left l
       lb = bound_left t from (ap left_of is) ob
 
-      noted : mid.list ≡ or_first held.list (too_long (test.In left negated values)) → Looked binder [] [] (too_long (test.In left negated values)) held mid found found []
+      noted : mid.list ≡ or_first held.list (too_long (test.In left negated values)) → Checked binder [] [] (too_long (test.In left negated values)) held mid found found []
       noted list = record { none = refl; kind = kind ∙ sym (or_first-nil held.kind); list = list; built = λ _ _. sym (append-nil found) }
 
       whole : mid.list ≡ or_first held.list (too_long (test.In left negated values))
-          → LookedAtTest binder scope (test.In left negated values) held held' found found' (comparisons_by binder scope (test.In left negated values))
+          → CheckedTest binder scope (test.In left negated values) held held' found found' (comparisons_by binder scope (test.In left negated values))
       whole list =
           looked_of_equal
           (sym (no_error binder scope (test.In left negated values) lb.none (no_names binder scope values)))
@@ -179,18 +179,18 @@ in_looked {binder} {scope} {t} {o} {left} negated {values} {items} {l} {held} {m
           (append-nil (too_long (test.In left negated values)))
           (λ few. ap (λ v. map (equal_to binder.text.now v) items) (lb.value few) ∙ ap (map (equal_to binder.text.now (operand_by binder scope left))) same
           ∙ equal_values binder scope left values)
-          (then_looked (noted list) looked)
+          (then_checked (noted list) looked)
 
 pub equality_more : {binder : Binder} (l : BoundOperand) (values : List LiteralNode) {i : ℕ} (d : LiteralNode) {other : BoundOperand} {held mid held' : HeldOffences} {found between found' : List Cond}
     → i < length values
-    → Looked binder [] (flat_map (wrong_literal l.is_text) (take i values)) [] held mid found between (map (equal_to binder.text.now l.value) (take i values))
+    → Checked binder [] (flat_map (wrong_literal l.is_text) (take i values)) [] held mid found between (map (equal_to binder.text.now l.value) (take i values))
     → other ≡ bound_literal binder.text.now (get_or values i d)
-    → Looked binder [] (at (differ l.is_text other.is_text) other.first) [] mid held' between found' (cond.Compare op.Eq l.value other.value ∷ [])
-    → Looked binder [] (flat_map (wrong_literal l.is_text) (take (i + 1) values)) [] held held' found found' (map (equal_to binder.text.now l.value) (take (i + 1) values))
+    → Checked binder [] (place_if (differ l.is_text other.is_text) other.first) [] mid held' between found' (cond.Compare op.Eq l.value other.value ∷ [])
+    → Checked binder [] (flat_map (wrong_literal l.is_text) (take (i + 1) values)) [] held held' found found' (map (equal_to binder.text.now l.value) (take (i + 1) values))
 equality_more {binder} l values {i} d {other} below one is next =
     let equal : LiteralNode → Cond = equal_to binder.text.now l.value in
     looked_of_equal refl
-    (ap (λ o. flat_map (wrong_literal l.is_text) (take i values) ++ at (differ l.is_text o.is_text) o.first) is ∙ flat_map_step (wrong_literal l.is_text) values i d below)
+    (ap (λ o. flat_map (wrong_literal l.is_text) (take i values) ++ place_if (differ l.is_text o.is_text) o.first) is ∙ flat_map_step (wrong_literal l.is_text) values i d below)
     refl
     (λ _. ap (λ o. map equal (take i values) ++ cond.Compare op.Eq l.value o.value ∷ []) is ∙ sym (map-append equal (take i values) (get_or values i d ∷ [])) ∙ ap (map equal) (sym (take_more values i d below)))
-    (then_looked one next)
+    (then_checked one next)

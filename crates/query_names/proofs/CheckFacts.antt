@@ -10,7 +10,7 @@ use Rattle.query_names.specs.declared.errors.QueryError.{QueryError}
 use Rattle.query_names.specs.Answers.{IsNameError}
 use Rattle.query_names.specs.Offences.{left_of, others_of}
 use Rattle.query_names.specs.Binding.{name_offences_of, is_text_by, kind_offence_of, test_offences_of, kind_offences_of, out_offences_of, outs_offences_of}
-use Rattle.query_names.proofs.Walk.{error_behind, name_error_append}
+use Rattle.query_names.proofs.Walk.{error_after, name_error_append}
 
 module _ (binder : Binder) (scope : Scope) (test : TestNode) where
   pub error_at_left : (e : QueryError) → IsNameError (name_offences_of binder scope (left_of test)) e → IsNameError (test_offences_of binder scope test) e
@@ -20,7 +20,7 @@ module _ (binder : Binder) (scope : Scope) (test : TestNode) where
   pub error_at_others : (e : QueryError) → name_offences_of binder scope (left_of test) ≡ []
       → IsNameError (flat_map (name_offences_of binder scope) (others_of test)) e → IsNameError (test_offences_of binder scope test) e
   unfolding test_offences_of name_offences_of
-  error_at_others e none wrong = error_behind (name_offences_of binder scope (left_of test)) (flat_map (name_offences_of binder scope) (others_of test)) e none wrong
+  error_at_others e none wrong = error_after (name_offences_of binder scope (left_of test)) (flat_map (name_offences_of binder scope) (others_of test)) e none wrong
 
   pub no_error : name_offences_of binder scope (left_of test) ≡ [] → flat_map (name_offences_of binder scope) (others_of test) ≡ [] → test_offences_of binder scope test ≡ []
   unfolding test_offences_of name_offences_of

@@ -6,5 +6,5 @@ pub mod CheckFacts
 pub mod Resolved
 pub mod Meanings
 pub mod BoundFacts
-pub mod LookSteps
+pub mod CheckSteps
 pub mod CondFacts

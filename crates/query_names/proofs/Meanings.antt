@@ -22,8 +22,8 @@ use Rattle.query_grammar.specs.declared.tree.CondNode.TheOpen.{CondNode-F}
 use Rattle.query_grammar.specs.declared.tree.CondNode.TheFolds.{fold-roll-CondNode}
 use Rattle.query_names.specs.Values.{any_of, all_of, equality, alone, wholes, Meaning, meaning, meaning_step, test_meaning}
 use Rattle.query_names.specs.Binding.{schema_of, from_of, resolved_by, compared_by, test_value_by, test_members_by, value_by, members_by}
-use Rattle.query_names.specs.Looking.{comparisons_by, test_condition, is_range}
-use Rattle.query_names.proofs.Resolved.{Stands, resolve_stands}
+use Rattle.query_names.specs.Checking.{comparisons_by, test_condition, is_range}
+use Rattle.query_names.proofs.Resolved.{ColumnExists, resolved_exists}
 
 within : (from : List Source) (n : ℕ) (source : Source) → slice_get from n ≡ Some source → n < length from
 within [] n source is = absurd cc
@@ -32,7 +32,7 @@ within (x ∷ from) (suc n) source is = let more : n < length from = within from
 
 pub found_small : (binder : Binder) (scope : Scope) (reference : ColumnNode) (column : EntryColumn) → Some column ≡ resolved_by binder scope reference → length (from_of binder) ≤ 12 → column.from < 256
 found_small binder scope reference column is few =
-    let stands : Stands (schema_of binder) (from_of binder) column = resolve_stands (schema_of binder) binder.text.now (from_of binder) scope reference column (sym is) in
+    let stands : ColumnExists (schema_of binder) (from_of binder) column = resolved_exists (schema_of binder) binder.text.now (from_of binder) scope reference column (sym is) in
     let below : column.from < length (from_of binder) = within (from_of binder) column.from stands.source stands.entry in
     omega arith
 
@@ -143,17 +143,17 @@ module _ (binder : Binder) (scope : Scope) where
 
 -- ---- if a condition's tokens have P, so have the tokens of its members
 
-pub told_and : (P : Lexeme → Type 0) (c : CondNode) (members items : List CondNode) → c ≡ text.And members → items ≡ members → IsCondOf P c → All (IsCondOf P) items
-told_and P c members items is same h = subst (All (IsCondOf P)) (sym same) (members_of_and P members (subst (IsCondOf P) is h))
+pub tokens_of_and : (P : Lexeme → Type 0) (c : CondNode) (members items : List CondNode) → c ≡ text.And members → items ≡ members → IsCondOf P c → All (IsCondOf P) items
+tokens_of_and P c members items is same h = subst (All (IsCondOf P)) (sym same) (members_of_and P members (subst (IsCondOf P) is h))
 
-pub told_or : (P : Lexeme → Type 0) (c : CondNode) (members items : List CondNode) → c ≡ text.Or members → items ≡ members → IsCondOf P c → All (IsCondOf P) items
-told_or P c members items is same h = subst (All (IsCondOf P)) (sym same) (members_of_or P members (subst (IsCondOf P) is h))
+pub tokens_of_or : (P : Lexeme → Type 0) (c : CondNode) (members items : List CondNode) → c ≡ text.Or members → items ≡ members → IsCondOf P c → All (IsCondOf P) items
+tokens_of_or P c members items is same h = subst (All (IsCondOf P)) (sym same) (members_of_or P members (subst (IsCondOf P) is h))
 
-pub told_not : (P : Lexeme → Type 0) (c member inner : CondNode) → c ≡ text.Not member → inner ≡ member → IsCondOf P c → IsCondOf P inner
-told_not P c member inner is same h = subst (IsCondOf P) (sym same) (inner_of_not P member (subst (IsCondOf P) is h))
+pub tokens_of_not : (P : Lexeme → Type 0) (c member inner : CondNode) → c ≡ text.Not member → inner ≡ member → IsCondOf P c → IsCondOf P inner
+tokens_of_not P c member inner is same h = subst (IsCondOf P) (sym same) (inner_of_not P member (subst (IsCondOf P) is h))
 
-pub told_test : (P : Lexeme → Type 0) (c : CondNode) (t : TestNode) → c ≡ text.Test t → IsCondOf P c → IsTestOf P t
-told_test P c t is h = test_in P t (subst (IsCondOf P) is h)
+pub tokens_of_test : (P : Lexeme → Type 0) (c : CondNode) (t : TestNode) → c ≡ text.Test t → IsCondOf P c → IsTestOf P t
+tokens_of_test P c t is h = test_in P t (subst (IsCondOf P) is h)
 
 pub if_ok_map : {A E : Type 0} (P Q : A → Type 0) (r : Result A E) → IfOk r P → ((v : A) → P v → Q v) → IfOk r Q
 if_ok_map P Q (Ok v) h f = f v h

@@ -12,7 +12,7 @@ use Rattle.query_names.specs.declared.scope.Entry.{Entry}
 use Rattle.query_names.specs.declared.scope.EntryColumn.{EntryColumn}
 use Rattle.query_names.specs.declared.scope.Scope.{Scope}
 use Rattle.query_types.specs.declared.types.Source.{Source}
-use Rattle.schema_types.specs.Names.{place_of}
+use Rattle.schema_types.specs.Names.{index_of_name}
 use Rattle.query_names.specs.Names.{column_in, column_named, column_at, column_names, aliases}
 use Rattle.query_names.specs.Scopes.{only, in_scope, numbered, is_in, entry_at, entry_named, column_alone, resolved, resolve}
 
@@ -21,7 +21,7 @@ pub record IsEntry (from : List Source) (entry : Entry) : Type 0 where
   pub there : slice_get from entry.number ≡ Some source
   pub same : source.table ≡ entry.table
 
-pub record Stands (schema : Schema) (from : List Source) (found : EntryColumn) : Type 0 where
+pub record ColumnExists (schema : Schema) (from : List Source) (found : EntryColumn) : Type 0 where
   pub source : Source
   pub entry : slice_get from found.from ≡ Some source
   pub table : Table
@@ -30,11 +30,11 @@ pub record Stands (schema : Schema) (from : List Source) (found : EntryColumn) :
   pub declared : slice_get table.columns found.column ≡ Some column
   pub kind : column.kind ≡ found.kind
 
-column_stands : (schema : Schema) (from : List Source) (name : List ℕ) (entry : Entry) (found : EntryColumn) → IsEntry from entry → column_in schema name entry ≡ Some found → Stands schema from found
+column_exists : (schema : Schema) (from : List Source) (name : List ℕ) (entry : Entry) (found : EntryColumn) → IsEntry from entry → column_in schema name entry ≡ Some found → ColumnExists schema from found
 unfolding column_in
-column_stands schema from name entry found is here = at_table (slice_get schema.tables entry.table) refl here where
+column_exists schema from name entry found is here = at_table (slice_get schema.tables entry.table) refl here where
   at_column : (table : Table) (number : ℕ) (column : Option Column) → slice_get schema.tables entry.table ≡ Some table → column ≡ slice_get table.columns number
-      → option_map (λ c. record { from = entry.number; column = number; kind = c.kind }) column ≡ Some found → Stands schema from found
+      → option_map (λ c. record { from = entry.number; column = number; kind = c.kind }) column ≡ Some found → ColumnExists schema from found
   at_column table number None exists declared same = absurd cc
   at_column table number (Some column) exists declared same =
       let whole : record { from = entry.number; column = number; kind = column.kind } ≡ found = cc in
@@ -51,14 +51,14 @@ column_stands schema from name entry found is here = at_table (slice_get schema.
       }
 
   at_number : (table : Table) (number : Option ℕ) → slice_get schema.tables entry.table ≡ Some table
-      → option_and_then (column_at entry.number table) number ≡ Some found → Stands schema from found
+      → option_and_then (column_at entry.number table) number ≡ Some found → ColumnExists schema from found
   at_number table None exists same = absurd cc
   at_number table (Some number) exists same = at_column table number (slice_get table.columns number) exists refl same
 
   at_table : (table : Option Table) → slice_get schema.tables entry.table ≡ table
-      → option_and_then (λ t. column_named entry.number t name) table ≡ Some found → Stands schema from found
+      → option_and_then (λ t. column_named entry.number t name) table ≡ Some found → ColumnExists schema from found
   at_table None exists same = absurd cc
-  at_table (Some table) exists same = at_number table (place_of (column_names table) name) exists same
+  at_table (Some table) exists same = at_number table (index_of_name (column_names table) name) exists same
 
 -- ---- the entries in scope are entries of the query
 
@@ -93,20 +93,20 @@ in_scope_are from scope =
 
 -- ---- the column that a reference names exists
 
-only_stands : (schema : Schema) (from : List Source) (name : List ℕ) (entries : List Entry) (found : EntryColumn) → AllEntries from entries → only (filter_map (column_in schema name) entries) ≡ Some found → Stands schema from found
-only_stands schema from name [] found all same = absurd cc
-only_stands schema from name (e ∷ rest) found all same = at (column_in schema name e) refl (λ later. only_stands schema from name rest found all.1 later) same where
-  at : (here : Option EntryColumn) → column_in schema name e ≡ here → (only (filter_map (column_in schema name) rest) ≡ Some found → Stands schema from found)
-      → only (cons_option here (filter_map (column_in schema name) rest)) ≡ Some found → Stands schema from found
+only_exists : (schema : Schema) (from : List Source) (name : List ℕ) (entries : List Entry) (found : EntryColumn) → AllEntries from entries → only (filter_map (column_in schema name) entries) ≡ Some found → ColumnExists schema from found
+only_exists schema from name [] found all same = absurd cc
+only_exists schema from name (e ∷ rest) found all same = at (column_in schema name e) refl (λ later. only_exists schema from name rest found all.1 later) same where
+  at : (here : Option EntryColumn) → column_in schema name e ≡ here → (only (filter_map (column_in schema name) rest) ≡ Some found → ColumnExists schema from found)
+      → only (cons_option here (filter_map (column_in schema name) rest)) ≡ Some found → ColumnExists schema from found
   at None is more same = more same
   at (Some column) is more same = just (filter_map (column_in schema name) rest) same where
-    just : (others : List EntryColumn) → only (column ∷ others) ≡ Some found → Stands schema from found
-    just [] same = column_stands schema from name e found all.0 (is ∙ same)
+    just : (others : List EntryColumn) → only (column ∷ others) ≡ Some found → ColumnExists schema from found
+    just [] same = column_exists schema from name e found all.0 (is ∙ same)
     just (other ∷ others) same = absurd cc
 
 pub named_is : (from : List Source) (scope : Scope) (alias : List ℕ) (entry : Entry) → entry_named from scope alias ≡ Some entry → IsEntry from entry
 unfolding entry_named
-named_is from scope alias entry same = at (place_of (aliases from) alias) same where
+named_is from scope alias entry same = at (index_of_name (aliases from) alias) same where
   there : (n : ℕ) (source : Option Source) → slice_get from n ≡ source → option_map (λ s. record { number = n; table = s.table }) source ≡ Some entry → IsEntry from entry
   there n None is same = absurd cc
   there n (Some s) is same =
@@ -121,13 +121,13 @@ named_is from scope alias entry same = at (place_of (aliases from) alias) same w
   at None same = absurd cc
   at (Some n) same = held n (is_in scope n) same
 
-pub resolve_stands : (schema : Schema) (text : List ℕ) (from : List Source) (scope : Scope) (reference : ColumnNode) (found : EntryColumn) → resolve schema text from scope reference ≡ Some found → Stands schema from found
+pub resolved_exists : (schema : Schema) (text : List ℕ) (from : List Source) (scope : Scope) (reference : ColumnNode) (found : EntryColumn) → resolve schema text from scope reference ≡ Some found → ColumnExists schema from found
 unfolding resolve column_alone
-resolve_stands schema text from scope reference found same = at reference.table same where
-  of : (name : List ℕ) (entry : Option Entry) → ((e : Entry) → entry ≡ Some e → IsEntry from e) → option_and_then (column_in schema name) entry ≡ Some found → Stands schema from found
+resolved_exists schema text from scope reference found same = at reference.table same where
+  of : (name : List ℕ) (entry : Option Entry) → ((e : Entry) → entry ≡ Some e → IsEntry from e) → option_and_then (column_in schema name) entry ≡ Some found → ColumnExists schema from found
   of name None are same = absurd cc
-  of name (Some e) are same = column_stands schema from name e found (are e refl) same
+  of name (Some e) are same = column_exists schema from name e found (are e refl) same
 
-  at : (table : Option Lexeme) → resolved schema text from scope table reference.column ≡ Some found → Stands schema from found
-  at None same = only_stands schema from (name_of text reference.column) (in_scope from scope) found (in_scope_are from scope) same
+  at : (table : Option Lexeme) → resolved schema text from scope table reference.column ≡ Some found → ColumnExists schema from found
+  at None same = only_exists schema from (name_of text reference.column) (in_scope from scope) found (in_scope_are from scope) same
   at (Some table) same = of (name_of text reference.column) (entry_named from scope (name_of text table)) (λ e is. named_is from scope (name_of text table) e is) same

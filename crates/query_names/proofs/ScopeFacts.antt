@@ -16,10 +16,10 @@ use Rattle.query_names.specs.declared.scope.Visible.{Visible}
 use Rattle.query_names.specs.declared.scope.Entry.{Entry}
 use Rattle.query_names.specs.declared.scope.EntryColumn.{EntryColumn}
 use Rattle.query_types.specs.declared.types.Source.{Source}
-use Rattle.schema_types.specs.Names.{place_of}
+use Rattle.schema_types.specs.Names.{index_of_name}
 use Rattle.query_names.specs.Names.{column_in, column_named, column_at, column_names}
 use Rattle.query_names.specs.Scopes.{in_scope, numbered}
-use Rattle.query_names.specs.Binding.{columns_in, schema_of, from_of, Shows}
+use Rattle.query_names.specs.Binding.{columns_in, schema_of, from_of, FirstTwoAreEnough}
 
 -- ---- the first two of a list
 
@@ -48,7 +48,7 @@ abbrev found_at : ℕ → ℕ → Kind → EntryColumn
 found_at from number kind = record { from = from; column = number; kind = kind }
 
 column_named_alike : (a b : ℕ) (table : Table) (name : List ℕ) → is_some (column_named a table name) ≡ is_some (column_named b table name)
-column_named_alike a b table name = at (place_of (column_names table) name) where
+column_named_alike a b table name = at (index_of_name (column_names table) name) where
   there : (column : Option Column) (n : ℕ) → is_some (option_map (λ c. found_at a n c.kind) column) ≡ is_some (option_map (λ c. found_at b n c.kind) column)
   there None n = refl
   there (Some column) n = refl
@@ -66,8 +66,8 @@ column_alike schema name a b same = at (slice_get schema.tables a.table) (slice_
   at (Some s) None same = cc
   at (Some s) (Some t) same = column_named_alike a.number b.number s name ∙ ap (λ o. is_some (option_and_then (λ table. column_named b.number table name) o)) same
 
-pub table_columns : (schema : Schema) (name : List ℕ) (entry : Entry) (brief : List Entry) → is_some (column_in schema name entry) ≡ true
-    → count_by (λ e. e.table == entry.table) brief ≤ length (columns_in schema name brief)
+pub table_columns : (schema : Schema) (name : List ℕ) (entry : Entry) (first_two : List Entry) → is_some (column_in schema name entry) ≡ true
+    → count_by (λ e. e.table == entry.table) first_two ≤ length (columns_in schema name first_two)
 table_columns schema name entry [] has = omega arith
 table_columns schema name entry (e ∷ rest) has =
     subst (λ n. n ≤ length (columns_in schema name (e ∷ rest))) (sym (sum_by-cons (λ x. cond (x.table == entry.table) 1 0) e rest))
@@ -82,15 +82,15 @@ table_columns schema name entry (e ∷ rest) has =
       at false None same found more = omega arith
       at false (Some column) same found more = omega arith
 
-pub third_shows_nothing : (schema : Schema) (name : List ℕ) (entry : Entry) (brief : List Entry) → 2 ≤ count_by (λ e. e.table == entry.table) brief
-    → take 2 (columns_in schema name brief) ≡ take 2 (columns_in schema name brief ++ columns_in schema name (entry ∷ []))
-third_shows_nothing schema name entry brief two = at (column_in schema name entry) refl where
+pub third_shows_nothing : (schema : Schema) (name : List ℕ) (entry : Entry) (first_two : List Entry) → 2 ≤ count_by (λ e. e.table == entry.table) first_two
+    → take 2 (columns_in schema name first_two) ≡ take 2 (columns_in schema name first_two ++ columns_in schema name (entry ∷ []))
+third_shows_nothing schema name entry first_two two = at (column_in schema name entry) refl where
   at : (found : Option EntryColumn) → found ≡ column_in schema name entry
-      → take 2 (columns_in schema name brief) ≡ take 2 (columns_in schema name brief ++ cons_option found [])
-  at None is = ap (take 2) (sym (append-nil (columns_in schema name brief)))
+      → take 2 (columns_in schema name first_two) ≡ take 2 (columns_in schema name first_two ++ cons_option found [])
+  at None is = ap (take 2) (sym (append-nil (columns_in schema name first_two)))
   at (Some column) is =
-      let many : 2 ≤ length (columns_in schema name brief) = omega (arith, table_columns schema name entry brief (ap is_some (sym is))) in
-      sym (two_full (columns_in schema name brief) (column ∷ []) many)
+      let many : 2 ≤ length (columns_in schema name first_two) = omega (arith, table_columns schema name entry first_two (ap is_some (sym is))) in
+      sym (two_full (columns_in schema name first_two) (column ∷ []) many)
 
 -- ---- the entries in scope, when one more entry comes into scope
 
@@ -121,65 +121,65 @@ one_more_in_scope from first end d begins below =
     ∙ ap (λ m. numbered first (take count rest) ++ numbered m (get_or rest count d ∷ [])) last
     ∙ ap (λ s. numbered first (take count rest) ++ numbered end (s ∷ [])) here
 
--- ---- `Shows` for the empty scope, and when one more entry comes into scope
+-- ---- `FirstTwoAreEnough` for the empty scope, and when one more entry comes into scope
 
-pub none_shown : (binder : Binder) (visible : Visible) (first : ℕ) → visible.scope ≡ record { first = first; end = first } → visible.brief ≡ [] → Shows binder visible
+pub none_shown : (binder : Binder) (visible : Visible) (first : ℕ) → visible.scope ≡ record { first = first; end = first } → visible.first_two ≡ [] → FirstTwoAreEnough binder visible
 none_shown binder visible first none empty = record {
   same = λ name. ap (λ l. take 2 (columns_in (schema_of binder) name l)) (empty ∙ sym (ap (in_scope (from_of binder)) none ∙ none_in_scope (from_of binder) first));
 }
 
-shown_more : (binder : Binder) (old new : Visible) (d : Source) (name : List ℕ) → Shows binder old → old.scope.first ≤ old.scope.end → old.scope.end < length (from_of binder)
+shown_more : (binder : Binder) (old new : Visible) (d : Source) (name : List ℕ) → FirstTwoAreEnough binder old → old.scope.first ≤ old.scope.end → old.scope.end < length (from_of binder)
     → new.scope ≡ record { first = old.scope.first; end = old.scope.end + 1 }
-    → take 2 (columns_in (schema_of binder) name old.brief ++ columns_in (schema_of binder) name (record { number = old.scope.end; table = (get_or (from_of binder) old.scope.end d).table } ∷ []))
+    → take 2 (columns_in (schema_of binder) name old.first_two ++ columns_in (schema_of binder) name (record { number = old.scope.end; table = (get_or (from_of binder) old.scope.end d).table } ∷ []))
     ≡ take 2 (columns_in (schema_of binder) name (in_scope (from_of binder) new.scope))
 shown_more binder old new d name shows begins ends next =
     let entry : Entry = record { number = old.scope.end; table = (get_or (from_of binder) old.scope.end d).table } in
     let held : List Entry = in_scope (from_of binder) old.scope in
     let more : in_scope (from_of binder) new.scope ≡ held ++ entry ∷ [] = ap (in_scope (from_of binder)) next ∙ one_more_in_scope (from_of binder) old.scope.first old.scope.end d begins ends in
-    two_push (columns_in (schema_of binder) name old.brief) (columns_in (schema_of binder) name held) (columns_in (schema_of binder) name (entry ∷ [])) (shows.same name)
+    two_push (columns_in (schema_of binder) name old.first_two) (columns_in (schema_of binder) name held) (columns_in (schema_of binder) name (entry ∷ [])) (shows.same name)
     ∙ ap (take 2) (sym (filter_map-append (column_in (schema_of binder) name) held (entry ∷ [])) ∙ ap (columns_in (schema_of binder) name) (sym more))
 
-pub one_more_shown : (binder : Binder) (old new : Visible) (d : Source) → Shows binder old → old.scope.first ≤ old.scope.end → old.scope.end < length (from_of binder)
+pub one_more_shown : (binder : Binder) (old new : Visible) (d : Source) → FirstTwoAreEnough binder old → old.scope.first ≤ old.scope.end → old.scope.end < length (from_of binder)
     → new.scope ≡ record { first = old.scope.first; end = old.scope.end + 1 }
-    → new.brief ≡ old.brief ++ record { number = old.scope.end; table = (get_or (from_of binder) old.scope.end d).table } ∷ [] → Shows binder new
+    → new.first_two ≡ old.first_two ++ record { number = old.scope.end; table = (get_or (from_of binder) old.scope.end d).table } ∷ [] → FirstTwoAreEnough binder new
 one_more_shown binder old new d shows begins ends next pushed = record {
   same = λ name.
       let entry : Entry = record { number = old.scope.end; table = (get_or (from_of binder) old.scope.end d).table } in
       ap (λ l. take 2 (columns_in (schema_of binder) name l)) pushed
-      ∙ ap (take 2) (filter_map-append (column_in (schema_of binder) name) old.brief (entry ∷ []))
+      ∙ ap (take 2) (filter_map-append (column_in (schema_of binder) name) old.first_two (entry ∷ []))
       ∙ shown_more binder old new d name shows begins ends next;
 }
 
-pub third_not_shown : (binder : Binder) (old new : Visible) (d : Source) → Shows binder old → old.scope.first ≤ old.scope.end → old.scope.end < length (from_of binder)
+pub third_not_shown : (binder : Binder) (old new : Visible) (d : Source) → FirstTwoAreEnough binder old → old.scope.first ≤ old.scope.end → old.scope.end < length (from_of binder)
     → new.scope ≡ record { first = old.scope.first; end = old.scope.end + 1 }
-    → 2 ≤ count_by (λ e. e.table == (get_or (from_of binder) old.scope.end d).table) old.brief
-    → new.brief ≡ old.brief → Shows binder new
+    → 2 ≤ count_by (λ e. e.table == (get_or (from_of binder) old.scope.end d).table) old.first_two
+    → new.first_two ≡ old.first_two → FirstTwoAreEnough binder new
 third_not_shown binder old new d shows begins ends next two kept = record {
   same = λ name.
       let entry : Entry = record { number = old.scope.end; table = (get_or (from_of binder) old.scope.end d).table } in
       ap (λ l. take 2 (columns_in (schema_of binder) name l)) kept
-      ∙ third_shows_nothing (schema_of binder) name entry old.brief two
+      ∙ third_shows_nothing (schema_of binder) name entry old.first_two two
       ∙ shown_more binder old new d name shows begins ends next;
 }
 
 abbrev next_of : Visible → Visible → Visible
-next_of old v = record { scope = record { first = v.scope.first; end = old.scope.end + 1 }; brief = v.brief }
+next_of old v = record { scope = record { first = v.scope.first; end = old.scope.end + 1 }; first_two = v.first_two }
 
-pub pushed_shows : (binder : Binder) (old : Visible) (d : Source) {items : List Source} {v : Visible} {brief : List Entry} → items ≡ from_of binder
-    → Shows binder old → old.scope.first ≤ old.scope.end → old.scope.end < length (from_of binder)
-    → v ≡ record { scope = old.scope; brief = brief }
-    → brief ≡ old.brief ++ record { number = old.scope.end; table = (get_or items old.scope.end d).table } ∷ [] → Shows binder (next_of old v)
-pushed_shows binder old d {items} {v} {brief} all shows begins ends is pushed =
+pub pushed_shows : (binder : Binder) (old : Visible) (d : Source) {items : List Source} {v : Visible} {first_two : List Entry} → items ≡ from_of binder
+    → FirstTwoAreEnough binder old → old.scope.first ≤ old.scope.end → old.scope.end < length (from_of binder)
+    → v ≡ record { scope = old.scope; first_two = first_two }
+    → first_two ≡ old.first_two ++ record { number = old.scope.end; table = (get_or items old.scope.end d).table } ∷ [] → FirstTwoAreEnough binder (next_of old v)
+pushed_shows binder old d {items} {v} {first_two} all shows begins ends is pushed =
     one_more_shown binder old (next_of old v) d shows begins ends
     (ap (λ (w : Visible). record { first = w.scope.first; end = old.scope.end + 1 }) is)
-    (ap (λ w. w.brief) is ∙ pushed ∙ ap (λ l. old.brief ++ record { number = old.scope.end; table = (get_or l old.scope.end d).table } ∷ []) all)
+    (ap (λ w. w.first_two) is ∙ pushed ∙ ap (λ l. old.first_two ++ record { number = old.scope.end; table = (get_or l old.scope.end d).table } ∷ []) all)
 
-pub kept_shows : (binder : Binder) (old : Visible) (d : Source) {items : List Source} {v : Visible} {brief : List Entry} (count : ℕ) → items ≡ from_of binder
-    → Shows binder old → old.scope.first ≤ old.scope.end → old.scope.end < length (from_of binder)
-    → v ≡ record { scope = old.scope; brief = old.brief }
-    → 2 ≤ count → brief ≡ old.brief → count ≡ count_by (λ e. e.table == (get_or items old.scope.end d).table) brief → Shows binder (next_of old v)
-kept_shows binder old d {items} {v} {brief} count all shows begins ends is two same counted =
+pub kept_shows : (binder : Binder) (old : Visible) (d : Source) {items : List Source} {v : Visible} {first_two : List Entry} (count : ℕ) → items ≡ from_of binder
+    → FirstTwoAreEnough binder old → old.scope.first ≤ old.scope.end → old.scope.end < length (from_of binder)
+    → v ≡ record { scope = old.scope; first_two = old.first_two }
+    → 2 ≤ count → first_two ≡ old.first_two → count ≡ count_by (λ e. e.table == (get_or items old.scope.end d).table) first_two → FirstTwoAreEnough binder (next_of old v)
+kept_shows binder old d {items} {v} {first_two} count all shows begins ends is two same counted =
     third_not_shown binder old (next_of old v) d shows begins ends
     (ap (λ (w : Visible). record { first = w.scope.first; end = old.scope.end + 1 }) is)
-    (subst (λ n. 2 ≤ n) (counted ∙ ap (count_by (λ e. e.table == (get_or items old.scope.end d).table)) same ∙ ap (λ l. count_by (λ e. e.table == (get_or l old.scope.end d).table) old.brief) all) two)
-    (ap (λ w. w.brief) is)
+    (subst (λ n. 2 ≤ n) (counted ∙ ap (count_by (λ e. e.table == (get_or items old.scope.end d).table)) same ∙ ap (λ l. count_by (λ e. e.table == (get_or l old.scope.end d).table) old.first_two) all) two)
+    (ap (λ w. w.first_two) is)

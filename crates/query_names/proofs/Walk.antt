@@ -9,10 +9,10 @@ use Rattle.query_names.specs.declared.errors.QueryError.{QueryError}
 use Rattle.query_names.specs.declared.errors.QueryError.TheVariants as error
 use Rattle.query_names.specs.Answers.{first}
 use Rattle.query_names.specs.Answers.{IsNameError, or_first}
-use Rattle.query_names.specs.Names.{source_offences, offences_behind, alias_of, entry_of}
+use Rattle.query_names.specs.Names.{source_offences, offences_of_later_sources, alias_of, entry_of}
 
-pub left_at : {A : Type 0} (xs : List A) (i : ℕ) (d : A) → i < length xs → drop i xs ≡ get_or xs i d ∷ drop (i + 1) xs
-left_at xs i d below = rw add-one (drop-cons xs i d below)
+pub rest_at : {A : Type 0} (xs : List A) (i : ℕ) (d : A) → i < length xs → drop i xs ≡ get_or xs i d ∷ drop (i + 1) xs
+rest_at xs i d below = rw add-one (drop-cons xs i d below)
 
 pub map_more : {A B : Type 0} (f : A → B) (xs : List A) (i : ℕ) (d : A) (old new : List B) (one : B)
     → i < length xs → old ≡ map f (take i xs) → one ≡ f (get_or xs i d) → new ≡ old ++ one ∷ [] → new ≡ map f (take (i + 1) xs)
@@ -26,13 +26,13 @@ map_push f old new images images' one are more pushed =
     more ∙ ap (λ l. l ++ f one ∷ []) are ∙ sym (map-append f old (one ∷ [])) ∙ ap (map f) (sym pushed)
 
 pub no_offence_here : (schema : Schema) (text : List ℕ) (sources : List SourceNode) (whole : List ℕ) (earlier earlier' : List (List ℕ)) (i : ℕ) (d : SourceNode) (one : Source)
-    → i < length sources → whole ≡ offences_behind schema text earlier (drop i sources)
+    → i < length sources → whole ≡ offences_of_later_sources schema text earlier (drop i sources)
     → (one ≡ entry_of schema text (get_or sources i d)) × (earlier' ≡ earlier ++ one.alias ∷ []) × (source_offences schema text earlier (get_or sources i d) ≡ [])
-    → whole ≡ offences_behind schema text earlier' (drop (i + 1) sources)
+    → whole ≡ offences_of_later_sources schema text earlier' (drop (i + 1) sources)
 no_offence_here schema text sources whole earlier earlier' i d one below left is =
-    let rest : List (List ℕ) → List ℕ = λ aliases. offences_behind schema text aliases (drop (i + 1) sources) in
+    let rest : List (List ℕ) → List ℕ = λ aliases. offences_of_later_sources schema text aliases (drop (i + 1) sources) in
     left
-    ∙ ap (offences_behind schema text earlier) (left_at sources i d below)
+    ∙ ap (offences_of_later_sources schema text earlier) (rest_at sources i d below)
     ∙ ap (λ here. here ++ rest (earlier ++ alias_of schema text (get_or sources i d) ∷ [])) is.2
     ∙ ap (λ alias. rest (earlier ++ alias ∷ [])) (sym (ap (λ entry. entry.alias) is.0))
     ∙ ap rest (sym is.1)
@@ -63,5 +63,5 @@ pub none_before : (found : Option ℕ) (xs : List ℕ) → or_first found xs ≡
 none_before (Some n) xs none = absurd cc
 none_before None xs none = refl
 
-pub error_behind : (xs ys : List ℕ) (e : QueryError) → xs ≡ [] → IsNameError ys e → IsNameError (xs ++ ys) e
-error_behind xs ys e none wrong = subst (λ l. IsNameError (l ++ ys) e) (sym none) wrong
+pub error_after : (xs ys : List ℕ) (e : QueryError) → xs ≡ [] → IsNameError ys e → IsNameError (xs ++ ys) e
+error_after xs ys e none wrong = subst (λ l. IsNameError (l ++ ys) e) (sym none) wrong

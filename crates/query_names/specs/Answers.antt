@@ -10,11 +10,11 @@ first (one ∷ rest) = Some one
 
 -- the error is a Name error at the first of these offsets, or NoMemory, which may come at any time
 abbrev pub IsNameError : List ℕ → QueryError → Type 0
-IsNameError places (error.Name place) = first places ≡ Some place
-IsNameError places error.NoMemory = ⊤
-IsNameError places (error.Syntax place) = ⊥
-IsNameError places (error.Kind place) = ⊥
-IsNameError places (error.Limit which n) = ⊥
+IsNameError offsets (error.Name offset) = first offsets ≡ Some offset
+IsNameError offsets error.NoMemory = ⊤
+IsNameError offsets (error.Syntax offset) = ⊥
+IsNameError offsets (error.Kind offset) = ⊥
+IsNameError offsets (error.Limit which n) = ⊥
 
 -- the offence that was found before, or otherwise the first of `others`
 abbrev pub or_first : Option ℕ → List ℕ → Option ℕ

@@ -33,10 +33,10 @@ from_of binder = binder.entries.now.sources
 abbrev pub columns_in : Schema → List ℕ → List Entry → List EntryColumn
 columns_in schema name entries = filter_map (column_in schema name) entries
 
--- for every name, the first two columns of this name in the entries `brief` are the first two in all entries in scope
-pub record Shows (binder : Binder) (visible : Visible) : Type 0 where
+-- for every name, the first two columns of this name in the entries `first_two` are the first two in all entries in scope
+pub record FirstTwoAreEnough (binder : Binder) (visible : Visible) : Type 0 where
   pub same : (name : List ℕ)
-      → take 2 (columns_in (schema_of binder) name visible.brief)
+      → take 2 (columns_in (schema_of binder) name visible.first_two)
       ≡ take 2 (columns_in (schema_of binder) name (in_scope (from_of binder) visible.scope))
 
 abbrev pub resolved_by : Binder → Scope → ColumnNode → Option EntryColumn

@@ -5,4 +5,4 @@ pub mod Numbers
 pub mod Values
 pub mod Answers
 pub mod Binding
-pub mod Looking
+pub mod Checking

@@ -4,17 +4,17 @@ use Rattle.std.specs.List.{flat_map}
 use Rattle.ll_grammars.specs.declared.lexeme.Lexeme.{Lexeme}
 use Rattle.sql_tokens.specs.Words.{name_of}
 use Rattle.query_grammar.specs.declared.tree.SourceNode.{SourceNode}
-use Rattle.query_grammar.specs.declared.tree.PartNode.{PartNode}
+use Rattle.query_grammar.specs.declared.tree.FromItemNode.{FromItemNode}
 use Rattle.query_grammar.specs.declared.tree.QueryNode.{QueryNode}
 use Rattle.schema_types.specs.declared.types.Table.{Table}
 use Rattle.schema_types.specs.declared.types.Schema.{Schema}
-use Rattle.schema_types.specs.Names.{place_of}
+use Rattle.schema_types.specs.Names.{index_of_name}
 use Rattle.query_names.specs.declared.scope.Entry.{Entry}
 use Rattle.query_names.specs.declared.scope.EntryColumn.{EntryColumn}
 use Rattle.query_types.specs.declared.types.Source.{Source}
 
 abbrev pub is_among : List (List ℕ) → List ℕ → Bool
-is_among names name = is_some (place_of names name)
+is_among names name = is_some (index_of_name names name)
 
 abbrev pub table_names : Schema → List (List ℕ)
 table_names schema = map (λ table. table.name) schema.tables
@@ -28,7 +28,7 @@ column_at from table number =
     option_map (λ column. record { from = from; column = number; kind = column.kind }) (slice_get table.columns number)
 
 abbrev pub column_named : ℕ → Table → List ℕ → Option EntryColumn
-column_named from table name = option_and_then (column_at from table) (place_of (column_names table) name)
+column_named from table name = option_and_then (column_at from table) (index_of_name (column_names table) name)
 
 -- the column of this name in an entry's table, if there is one
 unfoldable pub column_in : Schema → List ℕ → Entry → Option EntryColumn
@@ -37,7 +37,7 @@ column_in schema name entry = option_and_then (λ table. column_named entry.numb
 -- ---- the FROM entries
 
 -- the sources in text order
-abbrev pub sources_of : PartNode → List SourceNode
+abbrev pub sources_of : FromItemNode → List SourceNode
 sources_of part = part.first ∷ map (λ join. join.source) part.joins
 
 abbrev pub sources : QueryNode → List SourceNode
@@ -52,7 +52,7 @@ module _ (schema : Schema) (text : List ℕ) where
   alias_of source = name_of text (alias_token source)
 
   abbrev pub table_of : SourceNode → Option ℕ
-  table_of source = place_of (table_names schema) (name_of text source.table)
+  table_of source = index_of_name (table_names schema) (name_of text source.table)
 
   abbrev pub entry_of : SourceNode → Source
   entry_of source = record { table = unwrap_or (table_of source) 0; alias = alias_of source }
@@ -67,19 +67,19 @@ aliases from = map (λ source. source.alias) from
 -- ---- offences in FROM
 
 -- the offset of a token, if it is wrong
-abbrev pub at : Bool → Lexeme → List ℕ
-at wrong token = if wrong then token.start ∷ [] else []
+abbrev pub place_if : Bool → Lexeme → List ℕ
+place_if wrong token = if wrong then token.start ∷ [] else []
 
 module _ (schema : Schema) (text : List ℕ) where
   -- an unknown table, at its name, and then an alias that is equal to an earlier alias
   abbrev pub source_offences : List (List ℕ) → SourceNode → List ℕ
   source_offences earlier source =
-      at (is_none (table_of schema text source)) source.table ++ at (is_among earlier (alias_of schema text source)) (alias_token source)
+      place_if (is_none (table_of schema text source)) source.table ++ place_if (is_among earlier (alias_of schema text source)) (alias_token source)
 
-  abbrev pub offences_behind : List (List ℕ) → List SourceNode → List ℕ
-  offences_behind earlier [] = []
-  offences_behind earlier (source ∷ rest) =
-      source_offences earlier source ++ offences_behind (earlier ++ alias_of schema text source ∷ []) rest
+  abbrev pub offences_of_later_sources : List (List ℕ) → List SourceNode → List ℕ
+  offences_of_later_sources earlier [] = []
+  offences_of_later_sources earlier (source ∷ rest) =
+      source_offences earlier source ++ offences_of_later_sources (earlier ++ alias_of schema text source ∷ []) rest
 
   unfoldable pub from_offences : QueryNode → List ℕ
-  from_offences query = offences_behind [] (sources query)
+  from_offences query = offences_of_later_sources [] (sources query)

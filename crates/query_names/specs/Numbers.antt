@@ -4,7 +4,7 @@ use Rattle.ll_grammars.specs.declared.lexeme.Lexeme.{Lexeme}
 use Rattle.ll_grammars.specs.declared.terminal.Terminal.TheVariants as terminal
 use Rattle.ll_grammars.specs.Terminals.{among}
 use Rattle.sql_tokens.specs.Words.{slice, number_of}
-use Rattle.query_names.specs.Names.{at}
+use Rattle.query_names.specs.Names.{place_if}
 
 -- the number that a token of digits spells
 abbrev pub value_of : List ℕ → Lexeme → ℕ
@@ -43,7 +43,7 @@ abbrev pub is_number : Lexeme → Bool
 is_number token = among (terminal.Zero ∷ terminal.Number ∷ []) token.terminal
 
 abbrev pub number_offence : List ℕ → Option Lexeme → Lexeme → List ℕ
-number_offence text sign token = at (is_number token && is_too_large (is_negative sign) (value_of text token)) (unwrap_or sign token)
+number_offence text sign token = place_if (is_number token && is_too_large (is_negative sign) (value_of text token)) (unwrap_or sign token)
 
 abbrev pub offences_after : List ℕ → Option Lexeme → List Lexeme → List ℕ
 offences_after text before [] = []

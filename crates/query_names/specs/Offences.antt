@@ -21,7 +21,7 @@ use Rattle.query_names.specs.declared.scope.EntryColumn.{EntryColumn}
 use Rattle.query_names.specs.declared.scope.Scope.{Scope}
 use Rattle.query_types.specs.declared.types.Source.{Source}
 use Rattle.query_types.specs.Validity.{is_text}
-use Rattle.query_names.specs.Names.{at, from_offences}
+use Rattle.query_names.specs.Names.{place_if, from_offences}
 use Rattle.query_names.specs.Scopes.{resolve, head_of, entry_named, whole_scope, Scoped, conditions, tests}
 
 -- ---- the operands that a test compares
@@ -61,7 +61,7 @@ module _ (schema : Schema) (text : List ℕ) (from : List Source) (scope : Scope
   -- ---- wrong names
 
   abbrev pub reference_offences : ColumnNode → List ℕ
-  reference_offences reference = at (is_none (resolve schema text from scope reference)) (head_of reference)
+  reference_offences reference = place_if (is_none (resolve schema text from scope reference)) (head_of reference)
 
   abbrev pub operand_offences : OperandNode → List ℕ
   operand_offences (operand.Column reference) = reference_offences reference
@@ -71,7 +71,7 @@ module _ (schema : Schema) (text : List ℕ) (from : List Source) (scope : Scope
   test_offences t = flat_map operand_offences (left_of t ∷ others_of t)
 
   abbrev pub out_offences : OutNode → List ℕ
-  out_offences (out.All alias) = at (is_none (entry_named from scope (name_of text alias))) alias
+  out_offences (out.All alias) = place_if (is_none (entry_named from scope (name_of text alias))) alias
   out_offences (out.Column reference name) = reference_offences reference
 
   abbrev pub outs_offences : OutsNode → List ℕ
@@ -90,7 +90,7 @@ module _ (schema : Schema) (text : List ℕ) (from : List Source) (scope : Scope
 
   -- the offset of `other`, if it isn't of the left operand's kind
   abbrev pub kind_offence : Bool → OperandNode → List ℕ
-  kind_offence left other = at (differ left (is_text_operand other)) (first_of other)
+  kind_offence left other = place_if (differ left (is_text_operand other)) (first_of other)
 
   abbrev pub kind_offences : TestNode → List ℕ
   kind_offences t = flat_map (kind_offence (is_text_operand (left_of t))) (others_of t)

@@ -8,14 +8,14 @@ use Rattle.query_grammar.specs.declared.tree.CondNode.{CondNode, fold-CondNode}
 use Rattle.query_grammar.specs.declared.tree.CondNode.TheOpen.{CondNode-F}
 use Rattle.query_grammar.specs.declared.tree.TestNode.{TestNode}
 use Rattle.query_grammar.specs.declared.tree.JoinedNode.{JoinedNode}
-use Rattle.query_grammar.specs.declared.tree.PartNode.{PartNode}
+use Rattle.query_grammar.specs.declared.tree.FromItemNode.{FromItemNode}
 use Rattle.query_grammar.specs.declared.tree.QueryNode.{QueryNode}
 use Rattle.schema_types.specs.declared.types.Schema.{Schema}
 use Rattle.query_names.specs.declared.scope.Entry.{Entry}
 use Rattle.query_names.specs.declared.scope.EntryColumn.{EntryColumn}
 use Rattle.query_names.specs.declared.scope.Scope.{Scope}
 use Rattle.query_types.specs.declared.types.Source.{Source}
-use Rattle.schema_types.specs.Names.{place_of}
+use Rattle.schema_types.specs.Names.{index_of_name}
 use Rattle.query_names.specs.Names.{column_in, aliases}
 
 -- ---- which column a reference names (SQL-92 6.4)
@@ -44,7 +44,7 @@ entry_at from scope number =
 
 -- the entry of this alias, if it is in scope
 unfoldable pub entry_named : List Source → Scope → List ℕ → Option Entry
-entry_named from scope alias = option_and_then (entry_at from scope) (place_of (aliases from) alias)
+entry_named from scope alias = option_and_then (entry_at from scope) (index_of_name (aliases from) alias)
 
 module _ (schema : Schema) (text : List ℕ) (from : List Source) (scope : Scope) where
   -- a column that is named without an alias: exactly one entry in scope has a table with this column
@@ -74,26 +74,26 @@ pub record Scoped : Type 0 where
   pub condition : CondNode
 
 -- the conditions of the joins of a FROM part. In scope are the entries from the part's first one up to the one that is joined
-abbrev pub joined : ℕ → ℕ → List JoinedNode → List Scoped
-joined first end [] = []
-joined first end (join ∷ rest) =
-    record { scope = record { first = first; end = end + 1 }; condition = join.on } ∷ joined first (end + 1) rest
+abbrev pub conditions_of_joins : ℕ → ℕ → List JoinedNode → List Scoped
+conditions_of_joins first end [] = []
+conditions_of_joins first end (join ∷ rest) =
+    record { scope = record { first = first; end = end + 1 }; condition = join.on } ∷ conditions_of_joins first (end + 1) rest
 
-abbrev pub on_conditions : ℕ → List PartNode → List Scoped
+abbrev pub on_conditions : ℕ → List FromItemNode → List Scoped
 on_conditions first [] = []
-on_conditions first (part ∷ rest) = joined first (first + 1) part.joins ++ on_conditions (first + 1 + length part.joins) rest
+on_conditions first (part ∷ rest) = conditions_of_joins first (first + 1) part.joins ++ on_conditions (first + 1 + length part.joins) rest
 
 -- the scope of all entries
 abbrev pub whole_scope : List Source → Scope
 whole_scope from = record { first = 0; end = length from }
 
-abbrev pub where_scope : List Source → Option CondNode → List Scoped
-where_scope from None = []
-where_scope from (Some condition) = record { scope = whole_scope from; condition = condition } ∷ []
+abbrev pub where_condition : List Source → Option CondNode → List Scoped
+where_condition from None = []
+where_condition from (Some condition) = record { scope = whole_scope from; condition = condition } ∷ []
 
 -- the ON conditions in text order, and then the condition of WHERE
 unfoldable pub conditions : List Source → QueryNode → List Scoped
-conditions from query = on_conditions 0 query.parts ++ where_scope from query.filter
+conditions from query = on_conditions 0 query.parts ++ where_condition from query.filter
 
 abbrev pub one_by_one : List (List TestNode) → List TestNode
 one_by_one lists = flat_map (λ list. list) lists

@@ -3,7 +3,7 @@ ghost use Rattle.std.specs.Prelude.{◌≡◌, ◌≤◌, ◌<◌, ◌+◌, IfOk
 ghost use Rattle.sql_tokens.specs.Words.{IsLexemeOf};
 ghost use Rattle.query_names.specs.Scopes.{only, entry_named, whole_scope, column_of};
 ghost use Rattle.query_grammar.specs.Lexemes.{IsColumnOf};
-ghost use Rattle.query_names.specs.Binding.{schema_of, from_of, columns_in, Shows, resolved_by};
+ghost use Rattle.query_names.specs.Binding.{schema_of, from_of, columns_in, FirstTwoAreEnough, resolved_by};
 
 use crate::catalog::Catalog;
 use crate::scope::{Entry, EntryColumn, Scope, Visible};
@@ -31,12 +31,12 @@ fn count_of(entries: &[Entry], table: u32) -> usize
 }
 
 impl<'a> Binder<'a> {
-    /// The column `name` in the tables of the entries `brief`, if exactly one of them has it.
-    fn column_alone(&self, brief: &[Entry], name: &str) -> Option<EntryColumn>
-        ensures { result ≡ only (columns_in (schema_of self.now) name.now brief.now) }
+    /// The column `name` in the tables of the entries `first_two`, if exactly one of them has it.
+    fn column_alone(&self, first_two: &[Entry], name: &str) -> Option<EntryColumn>
+        ensures { result ≡ only (columns_in (schema_of self.now) name.now first_two.now) }
     {
         let mut found = None;
-        'all: for entry in brief {
+        'all: for entry in first_two {
             if let Some(column) = self.catalog.column(name, *entry) {
                 if found.is_some() {
                     return None;
@@ -78,13 +78,13 @@ impl<'a> Binder<'a> {
         visible: &Visible,
         reference: &ColumnNode,
     ) -> Result<Option<EntryColumn>, NoMemory>
-        requires shows { Shows self.now visible.now }
+        requires shows { FirstTwoAreEnough self.now visible.now }
         requires tokens { IsColumnOf (IsLexemeOf self.now.text.now) reference.now }
         ensures { IfOk result (λ found. found ≡ resolved_by self.now visible.now.scope reference.now) }
     {
         let column = name(self.alloc, self.text, &reference.column)?;
         match &reference.table {
-            None => Ok(self.column_alone(visible.brief.as_slice(), column.as_str())),
+            None => Ok(self.column_alone(visible.first_two.as_slice(), column.as_str())),
             Some(table) => {
                 let alias = name(self.alloc, self.text, table)?;
                 Ok(self.column_of(visible.scope, alias.as_str(), column.as_str()))
@@ -95,28 +95,28 @@ impl<'a> Binder<'a> {
     /// An empty scope that begins at entry `first`.
     #[tactic(auto, using(crate::proofs::ScopeFacts::none_shown))]
     pub fn none_visible(&self, first: usize) -> Visible
-        ensures shows { Shows self.now result }
+        ensures shows { FirstTwoAreEnough self.now result }
         ensures scope { result.scope ≡ record { first = first; end = first } }
     {
         Visible {
             scope: Scope { first, end: first },
-            brief: Seq::new(self.alloc),
+            first_two: Seq::new(self.alloc),
         }
     }
 
     /// Brings the next entry into scope.
     #[tactic(auto, using(crate::proofs::ScopeFacts::one_more_shown, crate::proofs::ScopeFacts::third_not_shown))]
     pub fn admit(&self, visible: &mut Visible) -> Result<(), NoMemory>
-        requires shows { Shows self.now visible.old }
+        requires shows { FirstTwoAreEnough self.now visible.old }
         requires begins { visible.old.scope.first ≤ visible.old.scope.end }
         requires ends { visible.old.scope.end < length (from_of self.now) }
-        ensures shows { IfOk result (λ _. Shows self.now visible.new) }
+        ensures shows { IfOk result (λ _. FirstTwoAreEnough self.now visible.new) }
         ensures scope { IfOk result (λ _. visible.new.scope ≡ record { first = visible.old.scope.first; end = visible.old.scope.end + 1 }) }
     {
         let number = visible.scope.end;
         let table = self.entries.sources.as_slice()[number].table;
-        if count_of(visible.brief.as_slice(), table) < 2 {
-            visible.brief.push(Entry { number, table })?;
+        if count_of(visible.first_two.as_slice(), table) < 2 {
+            visible.first_two.push(Entry { number, table })?;
         }
         visible.scope.end = number + 1;
         Ok(())
@@ -135,7 +135,7 @@ impl<'a> Binder<'a> {
 
     /// The scope of all entries.
     pub fn all_visible(&self) -> Result<Visible, NoMemory>
-        ensures shows { IfOk result (λ visible. Shows self.now visible) }
+        ensures shows { IfOk result (λ visible. FirstTwoAreEnough self.now visible) }
         ensures scope { IfOk result (λ visible. visible.scope ≡ whole_scope (from_of self.now)) }
     {
         let mut visible = self.none_visible(0);

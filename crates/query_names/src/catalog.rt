@@ -1,6 +1,6 @@
 //! A schema's tables and columns, to be found by name.
 ghost use Rattle.std.specs.Prelude.{◌≡◌, IfOk, ◌<◌, ◌≤◌, length, map};
-ghost use Rattle.schema_types.specs.Names.{place_of};
+ghost use Rattle.schema_types.specs.Names.{index_of_name};
 ghost use Rattle.schema_types.specs.Validity.{IsValid, IsValidTable};
 ghost use Rattle.query_names.specs.Names.{table_names, column_names, column_named, column_in};
 
@@ -11,7 +11,7 @@ use std::alloc::Global;
 
 /// A table, whose columns can be found by name.
 #[derive(Drop)]
-pub struct Listed<'a> {
+pub struct TableByName<'a> {
     pub table: &'a Table,
     pub columns: NameList,
     ghost few: { length table.now.columns ≤ 64 },
@@ -23,14 +23,14 @@ pub struct Listed<'a> {
 pub struct Catalog<'a> {
     pub schema: &'a Schema,
     names: NameList,
-    tables: Seq<Listed<'a>>,
+    tables: Seq<TableByName<'a>>,
     ghost few: { length schema.now.tables ≤ 64 },
     ghost named: { names ≡ table_names schema.now },
     ghost listed: { map (λ listed. listed.table.now) tables ≡ schema.now.tables },
 }
 
-impl<'a> Listed<'a> {
-    pub fn new(alloc: Global, table: &'a Table) -> Result<Listed<'a>, NoMemory>
+impl<'a> TableByName<'a> {
+    pub fn new(alloc: Global, table: &'a Table) -> Result<TableByName<'a>, NoMemory>
         requires { IsValidTable table.now }
         ensures { IfOk result (λ listed. listed.table.now ≡ table.now) }
     {
@@ -38,7 +38,7 @@ impl<'a> Listed<'a> {
         'all: for column in table.columns.as_slice() {
             columns.push(alloc, column.name.as_str())?;
         }
-        Ok(Listed { table, columns })
+        Ok(TableByName { table, columns })
     }
 
     /// The column of this name in the table, as a column of FROM entry `from`.
@@ -65,13 +65,13 @@ fn table_names(alloc: Global, schema: &Schema) -> Result<NameList, NoMemory>
     Ok(names)
 }
 
-fn all_listed<'a>(alloc: Global, schema: &'a Schema) -> Result<Seq<Listed<'a>>, NoMemory>
+fn tables_by_name<'a>(alloc: Global, schema: &'a Schema) -> Result<Seq<TableByName<'a>>, NoMemory>
     requires { IsValid schema.now }
     ensures { IfOk result (λ found. map (λ listed. listed.table.now) found ≡ schema.now.tables) }
 {
     let mut found = Seq::new(alloc);
     'all: for table in schema.tables.as_slice() {
-        found.push(Listed::new(alloc, table)?)?;
+        found.push(TableByName::new(alloc, table)?)?;
     }
     Ok(found)
 }
@@ -82,7 +82,7 @@ impl<'a> Catalog<'a> {
         ensures { IfOk result (λ catalog. catalog.schema.now ≡ schema.now) }
     {
         let names = table_names(alloc, schema)?;
-        let tables = all_listed(alloc, schema)?;
+        let tables = tables_by_name(alloc, schema)?;
         Ok(Catalog {
             schema,
             names,
@@ -98,7 +98,7 @@ impl<'a> Catalog<'a> {
 
     /// The number of the table of this name.
     pub fn table(&self, name: &str) -> Option<u32>
-        ensures { result ≡ place_of (table_names self.now.schema.now) name.now }
+        ensures { result ≡ index_of_name (table_names self.now.schema.now) name.now }
     {
         self.names.get(name)
     }

@@ -1,6 +1,6 @@
 //! Offences (what is wrong, and where) in conditions. They are refused only after all names were checked.
 ghost use Rattle.std.specs.Prelude.{◌≡◌};
-ghost use Rattle.query_names.specs.Names.{at};
+ghost use Rattle.query_names.specs.Names.{place_if};
 ghost use Rattle.query_names.specs.Offences.{too_long};
 ghost use Rattle.query_names.specs.Answers.{or_first};
 
@@ -19,7 +19,7 @@ pub struct HeldOffences {
 impl HeldOffences {
     /// If `wrong` is true and no offset was kept before, keeps the offset of `token`, which has the wrong kind.
     pub(crate) fn note_kind(&mut self, wrong: bool, token: Lexeme)
-        ensures kind { self.new.kind ≡ or_first self.old.kind (at wrong token) }
+        ensures kind { self.new.kind ≡ or_first self.old.kind (place_if wrong token) }
         ensures list { self.new.list ≡ self.old.list }
     {
         if wrong && self.kind.is_none() {

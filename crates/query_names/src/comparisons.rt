@@ -4,11 +4,11 @@ ghost use Rattle.std.specs.List.{flat_map};
 ghost use Rattle.sql_tokens.specs.Words.{IsLexemeOf};
 ghost use Rattle.query_grammar.specs.Lexemes.{IsLiteralOf, IsTestOf};
 ghost use Rattle.query_types.specs.declared.types.Cond.TheVariants as cond;
-ghost use Rattle.query_names.specs.Names.{at};
+ghost use Rattle.query_names.specs.Names.{place_if};
 ghost use Rattle.query_names.specs.Offences.{left_of, differ};
 ghost use Rattle.query_names.specs.Answers.{IsNameError};
-ghost use Rattle.query_names.specs.Binding.{Shows, from_of, test_offences_of, test_value_by, test_members_by};
-ghost use Rattle.query_names.specs.Looking.{Looked, LookedAtTest, comparisons_by, is_range, wrong_literal, equal_to};
+ghost use Rattle.query_names.specs.Binding.{FirstTwoAreEnough, from_of, test_offences_of, test_value_by, test_members_by};
+ghost use Rattle.query_names.specs.Checking.{Checked, CheckedTest, comparisons_by, is_range, wrong_literal, equal_to};
 
 use crate::QueryError;
 use crate::binder::Binder;
@@ -61,7 +61,7 @@ impl<'a> Binder<'a> {
         held: &mut HeldOffences,
         found: &mut Seq<Cond>,
     ) -> Result<(), NoMemory>
-        ensures { IfOk result (λ _. Looked self.now [] (at (differ left.now.is_text other.is_text) other.first) []
+        ensures { IfOk result (λ _. Checked self.now [] (place_if (differ left.now.is_text other.is_text) other.first) []
             held.old held.new found.old found.new (cond.Compare op left.now.value other.value ∷ [])) }
     {
         held.note_kind(other.is_text != left.is_text, other.first);
@@ -85,7 +85,7 @@ impl<'a> Binder<'a> {
         found: &mut Seq<Cond>,
     ) -> Result<(), NoMemory>
         requires { All (IsLiteralOf (IsLexemeOf self.now.text.now)) values.now }
-        ensures { IfOk result (λ _. Looked self.now [] (flat_map (wrong_literal left.now.is_text) values.now) []
+        ensures { IfOk result (λ _. Checked self.now [] (flat_map (wrong_literal left.now.is_text) values.now) []
             held.old held.new found.old found.new (map (equal_to self.now.text.now left.now.value) values.now)) }
     {
         'all: for value in values {
@@ -103,9 +103,9 @@ impl<'a> Binder<'a> {
         held: &mut HeldOffences,
         found: &mut Seq<Cond>,
     ) -> Result<(), QueryError>
-        requires shows { Shows self.now visible.now }
+        requires shows { FirstTwoAreEnough self.now visible.now }
         requires tokens { IsTestOf (IsLexemeOf self.now.text.now) test.now }
-        ensures ok { IfOk result (λ _. LookedAtTest self.now visible.now.scope test.now held.old held.new found.old found.new
+        ensures ok { IfOk result (λ _. CheckedTest self.now visible.now.scope test.now held.old held.new found.old found.new
             (comparisons_by self.now visible.now.scope test.now)) }
         ensures err { IfErr result (IsNameError (test_offences_of self.now visible.now.scope test.now)) }
     {
@@ -136,9 +136,9 @@ impl<'a> Binder<'a> {
         held: &mut HeldOffences,
         found: &mut Seq<Cond>,
     ) -> Result<(), QueryError>
-        requires shows { Shows self.now visible.now }
+        requires shows { FirstTwoAreEnough self.now visible.now }
         requires tokens { IsTestOf (IsLexemeOf self.now.text.now) test.now }
-        ensures ok { IfOk result (λ _. LookedAtTest self.now visible.now.scope test.now held.old held.new found.old found.new
+        ensures ok { IfOk result (λ _. CheckedTest self.now visible.now.scope test.now held.old held.new found.old found.new
             (test_value_by self.now visible.now.scope test.now ∷ [])) }
         ensures err { IfErr result (IsNameError (test_offences_of self.now visible.now.scope test.now)) }
     {
@@ -158,9 +158,9 @@ impl<'a> Binder<'a> {
         held: &mut HeldOffences,
         found: &mut Seq<Cond>,
     ) -> Result<(), QueryError>
-        requires shows { Shows self.now visible.now }
+        requires shows { FirstTwoAreEnough self.now visible.now }
         requires tokens { IsTestOf (IsLexemeOf self.now.text.now) test.now }
-        ensures ok { IfOk result (λ _. LookedAtTest self.now visible.now.scope test.now held.old held.new found.old found.new
+        ensures ok { IfOk result (λ _. CheckedTest self.now visible.now.scope test.now held.old held.new found.old found.new
             (test_members_by self.now visible.now.scope test.now)) }
         ensures err { IfErr result (IsNameError (test_offences_of self.now visible.now.scope test.now)) }
     {

@@ -5,8 +5,8 @@ ghost use Rattle.query_grammar.specs.Lexemes.{IsLiteralOf, IsOperandOf};
 ghost use Rattle.query_types.specs.Validity.{is_text};
 ghost use Rattle.query_names.specs.Values.{resolved_column};
 ghost use Rattle.query_names.specs.Answers.{IsNameError};
-ghost use Rattle.query_names.specs.Binding.{Shows, name_offences_of};
-ghost use Rattle.query_names.specs.Looking.{bound_literal, IsBound};
+ghost use Rattle.query_names.specs.Binding.{FirstTwoAreEnough, name_offences_of};
+ghost use Rattle.query_names.specs.Checking.{bound_literal, IsBound};
 
 use crate::QueryError;
 use crate::binder::Binder;
@@ -101,7 +101,7 @@ impl<'a> Binder<'a> {
         visible: &Visible,
         operand: &OperandNode,
     ) -> Result<BoundOperand, QueryError>
-        requires shows { Shows self.now visible.now }
+        requires shows { FirstTwoAreEnough self.now visible.now }
         requires tokens { IsOperandOf (IsLexemeOf self.now.text.now) operand.now }
         ensures ok { IfOk result (λ found. IsBound self.now visible.now.scope operand.now found) }
         ensures err { IfErr result (IsNameError (name_offences_of self.now visible.now.scope operand.now)) }

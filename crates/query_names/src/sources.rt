@@ -2,7 +2,7 @@
 ghost use Rattle.std.specs.Prelude.{◌≡◌, [], ◌∷◌, ◌++◌, All, IfOk, IfErr, map};
 ghost use Rattle.std.specs.List.{flat_map};
 ghost use Rattle.sql_tokens.specs.Words.{IsLexemeOf};
-ghost use Rattle.query_names.specs.Names.{sources_of, alias_token, entry_of, source_offences, offences_behind};
+ghost use Rattle.query_names.specs.Names.{sources_of, alias_token, entry_of, source_offences, offences_of_later_sources};
 ghost use Rattle.query_grammar.specs.Lexemes.{IsSourceOf};
 ghost use Rattle.query_names.specs.Answers.{IsNameError};
 
@@ -10,7 +10,7 @@ use crate::QueryError;
 use crate::catalog::Catalog;
 use base_io::{NoMemory, Seq};
 use ll_grammars::Lexeme;
-use query_grammar::{PartNode, SourceNode};
+use query_grammar::{FromItemNode, SourceNode};
 use query_types::Source;
 use schema_types::NameList;
 use sql_tokens::name;
@@ -24,7 +24,7 @@ pub struct Entries {
     ghost named: { aliases ≡ map (λ source. source.alias) sources },
 }
 
-fn add_sources(found: &mut Seq<SourceNode>, part: &PartNode) -> Result<(), NoMemory>
+fn add_sources(found: &mut Seq<SourceNode>, part: &FromItemNode) -> Result<(), NoMemory>
     ensures { IfOk result (λ _. found.new ≡ found.old ++ sources_of part.now) }
 {
     found.push(part.first)?;
@@ -35,7 +35,7 @@ fn add_sources(found: &mut Seq<SourceNode>, part: &PartNode) -> Result<(), NoMem
 }
 
 /// The sources of FROM in text order.
-pub fn all_sources(alloc: Global, parts: &[PartNode]) -> Result<Seq<SourceNode>, NoMemory>
+pub fn all_sources(alloc: Global, parts: &[FromItemNode]) -> Result<Seq<SourceNode>, NoMemory>
     ensures { IfOk result (λ found. found ≡ flat_map sources_of parts.now) }
 {
     let mut found = Seq::new(alloc);
@@ -89,8 +89,8 @@ pub fn read_entries(
 ) -> Result<Entries, QueryError>
     requires { All (IsSourceOf (IsLexemeOf text.now)) sources.now }
     ensures ok { IfOk result (λ found. (found.sources ≡ map (entry_of catalog.now.schema.now text.now) sources.now)
-        × (offences_behind catalog.now.schema.now text.now [] sources.now ≡ [])) }
-    ensures err { IfErr result (IsNameError (offences_behind catalog.now.schema.now text.now [] sources.now)) }
+        × (offences_of_later_sources catalog.now.schema.now text.now [] sources.now ≡ [])) }
+    ensures err { IfErr result (IsNameError (offences_of_later_sources catalog.now.schema.now text.now [] sources.now)) }
 {
     let mut found = Seq::new(alloc);
     let mut aliases = NameList::new(alloc);

@@ -4,7 +4,7 @@ ghost use Rattle.sql_tokens.specs.Words.{IsLexemeOf};
 ghost use Rattle.query_types.specs.declared.types.Cond.TheVariants as cond;
 ghost use Rattle.query_names.specs.Numbers.{signed, is_negative, number_value};
 ghost use Rattle.query_names.specs.Values.{any_of};
-ghost use Rattle.query_names.specs.Looking.{test_condition};
+ghost use Rattle.query_names.specs.Checking.{test_condition};
 
 use base_io::{Boxed, NoMemory, Seq};
 use ll_grammars::{Lexeme, Terminal};

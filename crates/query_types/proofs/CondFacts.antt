@@ -85,22 +85,22 @@ both_parts P [] b h k = k
 both_parts P (x ∷ a) b h k = (h.0, both_parts P a b h.1 k)
 
 module _ (Q : Cond-F Cond → Type 0) (P : ℕ → Type 0) (one : (op : Op) (left right : Operand) → Q (layer.Compare op left right) → AllByRecursion P (entries_of_operand left ++ entries_of_operand right)) where
-  abbrev Named : Cond → Type 0
-  Named c = every-Cond Q c → AllByRecursion P (entries_named c)
+  abbrev NamesOnly : Cond → Type 0
+  NamesOnly c = every-Cond Q c → AllByRecursion P (entries_named c)
 
-  members : (ys : List ((c : Cond) × Named c)) → AllByRecursion (every-Cond Q) (map (λ y. y.0) ys) → AllByRecursion P (flat_map (λ inner. inner) (map entries_named (map (λ y. y.0) ys)))
+  members : (ys : List ((c : Cond) × NamesOnly c)) → AllByRecursion (every-Cond Q) (map (λ y. y.0) ys) → AllByRecursion P (flat_map (λ inner. inner) (map entries_named (map (λ y. y.0) ys)))
   members [] h = tt
   members (y ∷ ys) h = both_parts P (entries_named y.0) (flat_map (λ inner. inner) (map entries_named (map (λ y. y.0) ys))) (y.1 h.0) (members ys h.1)
 
-  layers : (y : Cond-F ((c : Cond) × Named c)) → every-Cond Q (roll-Cond (map-Cond ((c : Cond) × Named c) Cond (λ e. e.0) y)) → AllByRecursion P (entries_step (map-Cond Cond (List ℕ) entries_named (map-Cond ((c : Cond) × Named c) Cond (λ e. e.0) y)))
+  layers : (y : Cond-F ((c : Cond) × NamesOnly c)) → every-Cond Q (roll-Cond (map-Cond ((c : Cond) × NamesOnly c) Cond (λ e. e.0) y)) → AllByRecursion P (entries_step (map-Cond Cond (List ℕ) entries_named (map-Cond ((c : Cond) × NamesOnly c) Cond (λ e. e.0) y)))
   layers (layer.And ys) h = members ys (every_and Q (map (λ y. y.0) ys) (subst (every-Cond Q) (rolls-And (map (λ y. y.0) ys)) h))
   layers (layer.Or ys) h = members ys (every_or Q (map (λ y. y.0) ys) (subst (every-Cond Q) (rolls-Or (map (λ y. y.0) ys)) h))
   layers (layer.Not y) h = y.1 (every_not Q y.0 (subst (every-Cond Q) (rolls-Not y.0) h))
   layers (layer.Compare op left right) h = one op left right (every_compare Q op left right (subst (every-Cond Q) (rolls-Compare op left right) h))
 
-  pub all_named : (c : Cond) → Named c
-  all_named = ind-Cond Named (λ x y is. subst (λ x. Named (roll-Cond x)) is (λ h.
-      let inner : Cond-F Cond = map-Cond ((c : Cond) × Named c) Cond (λ e. e.0) y in
+  pub all_named : (c : Cond) → NamesOnly c
+  all_named = ind-Cond NamesOnly (λ x y is. subst (λ x. NamesOnly (roll-Cond x)) is (λ h.
+      let inner : Cond-F Cond = map-Cond ((c : Cond) × NamesOnly c) Cond (λ e. e.0) y in
       subst (AllByRecursion P) (sym (fold-roll-Cond (List ℕ) entries_step inner)) (layers y h)))
 
 module _ (IsColumn : ColumnRef → Bool → Type 0) (P : ℕ → Type 0) (column_entry : (column : ColumnRef) (text : Bool) → IsColumn column text → P column.from) where

@@ -13,7 +13,7 @@ use Rattle.counted_sets.specs.Sets as sets
 use Rattle.level_bounds.specs.Keys.{Keys}
 use Rattle.join_steps.specs.Lists.{list_at}
 use Rattle.reduced_scans.specs.Families.{AreAscending, HasPartner, HavePartners, IsConsistent, IsReduced}
-use Rattle.reduced_scans.specs.Wiring.{ValuesAreDifferent, AreWired, Classes, IsNumbered, IsUseFor, IsUseForRow, TellsByKey, first_item, key_on, marked_family, near, opposite, row_at, slot_of}
+use Rattle.reduced_scans.specs.Wiring.{ValuesAreDifferent, AreUsesOfRows, NumberedValues, IsNumbered, IsUseFor, IsUseForRow, HoldsByKey, first_item, key_on, marked_family, side_of, opposite, row_at, slot_of}
 use Rattle.reduced_scans.proofs.Members.{behind, in_cases, in_front, not_in_none}
 use Rattle.reduced_scans.proofs.MarkedRows.{MarkedAt, at_place, from_family, is_family, place_in, to_family}
 
@@ -84,18 +84,18 @@ one_slot a b false false e = (omega arith, refl)
 some_one : (a b : ℕ × ℕ) → Some a ≡ Some b → a ≡ b
 some_one a b e = cc
 
-same_value : (classes : Classes) (a b m n k l : ℕ) → slice_get classes a ≡ Some (m, k) → slice_get classes b ≡ Some (n, l) → a ≡ b → (m ≡ n) × (k ≡ l)
-same_value classes a b m n k l p q same =
-    let pair : (m, k) ≡ (n, l) = some_one (m, k) (n, l) (sym p ∙ ap (slice_get classes) same ∙ q) in
+same_value : (known_values : NumberedValues) (a b m n k l : ℕ) → slice_get known_values a ≡ Some (m, k) → slice_get known_values b ≡ Some (n, l) → a ≡ b → (m ≡ n) × (k ≡ l)
+same_value known_values a b m n k l p q same =
+    let pair : (m, k) ≡ (n, l) = some_one (m, k) (n, l) (sym p ∙ ap (slice_get known_values) same ∙ q) in
     (ap (λ (x : ℕ × ℕ). x.0) pair, ap (λ (x : ℕ × ℕ). x.1) pair)
 
-only_class : (classes : Classes) (a b : ℕ) (v : ℕ × ℕ) → ValuesAreDifferent classes → slice_get classes a ≡ Some v → slice_get classes b ≡ Some v → a ≡ b
-only_class classes a b v different p q = elim (cases_lt a b) [
-  | inl before ↦ absurd (different a b v before (slice_get_within classes b v q) (get_or_from_slice_get classes a v v p ∙ sym (get_or_from_slice_get classes b v v q)))
+only_value : (known_values : NumberedValues) (a b : ℕ) (v : ℕ × ℕ) → ValuesAreDifferent known_values → slice_get known_values a ≡ Some v → slice_get known_values b ≡ Some v → a ≡ b
+only_value known_values a b v different p q = elim (cases_lt a b) [
+  | inl before ↦ absurd (different a b v before (slice_get_within known_values b v q) (get_or_from_slice_get known_values a v v p ∙ sym (get_or_from_slice_get known_values b v v q)))
   | inr not_before ↦ elim (cases_eq a b) [
     | inl same ↦ same
     | inr apart ↦ (let after : b < a = omega arith in
-        absurd (different b a v after (slice_get_within classes a v p) (get_or_from_slice_get classes b v v q ∙ sym (get_or_from_slice_get classes a v v p))))
+        absurd (different b a v after (slice_get_within known_values a v p) (get_or_from_slice_get known_values b v v q ∙ sym (get_or_from_slice_get known_values a v v p))))
   ]
 ]
 
@@ -108,43 +108,43 @@ abbrev pub equal_from : (Edge → ℕ → ℕ → Bool) → Edge → Bool → �
 equal_from equal e true = equal e
 equal_from equal e false = λ right left. equal e left right
 
-module _ (scans : List (List ℕ)) (equalities : List Edge) (key : Keys) (equal : Edge → ℕ → ℕ → Bool) (tells : TellsByKey scans equalities key equal) where
-  pub same_key : (e : Edge) (on : Bool) (row partner : ℕ) → Contains equalities e → Contains (list_at scans (near e on).entry) row → Contains (list_at scans (near e (opposite on)).entry) partner
-      → equal_from equal e on row partner ≡ true → key_on key (near e on) row ≡ key_on key (near e (opposite on)) partner
+module _ (scans : List (List ℕ)) (equalities : List Edge) (key : Keys) (equal : Edge → ℕ → ℕ → Bool) (tells : HoldsByKey scans equalities key equal) where
+  pub same_key : (e : Edge) (on : Bool) (row partner : ℕ) → Contains equalities e → Contains (list_at scans (side_of e on).entry) row → Contains (list_at scans (side_of e (opposite on)).entry) partner
+      → equal_from equal e on row partner ≡ true → key_on key (side_of e on) row ≡ key_on key (side_of e (opposite on)) partner
   same_key e true row partner has r p is = eqb-true (key_on key e.left row) (key_on key e.right partner) (sym (tells e has row partner r p) ∙ is)
   same_key e false row partner has r p is = sym (eqb-true (key_on key e.left partner) (key_on key e.right row) (sym (tells e has partner row p r) ∙ is))
 
-  key_same : (e : Edge) (on : Bool) (row partner : ℕ) → Contains equalities e → Contains (list_at scans (near e on).entry) row → Contains (list_at scans (near e (opposite on)).entry) partner
-      → key_on key (near e on) row ≡ key_on key (near e (opposite on)) partner → equal_from equal e on row partner ≡ true
+  key_same : (e : Edge) (on : Bool) (row partner : ℕ) → Contains equalities e → Contains (list_at scans (side_of e on).entry) row → Contains (list_at scans (side_of e (opposite on)).entry) partner
+      → key_on key (side_of e on) row ≡ key_on key (side_of e (opposite on)) partner → equal_from equal e on row partner ≡ true
   key_same e true row partner has r p is = tells e has row partner r p ∙ eq-eqb (key_on key e.left row) (key_on key e.right partner) is
   key_same e false row partner has r p is = tells e has partner row p r ∙ eq-eqb (key_on key e.left partner) (key_on key e.right row) (sym is)
 
   pub partners : (family : List (List ℕ)) (e : Edge) (on : Bool) → IsConsistent scans equalities equal family → Contains equalities e
-      → HavePartners (equal_from equal e on) (list_at family (near e on).entry) (list_at family (near e (opposite on)).entry)
+      → HavePartners (equal_from equal e on) (list_at family (side_of e on).entry) (list_at family (side_of e (opposite on)).entry)
   partners family e true consistent has = consistent.from_left e has
   partners family e false consistent has = consistent.from_right e has
 
-  module _ (classes : Classes) (uses : List Use) (different : ValuesAreDifferent classes) (wired : AreWired scans equalities key classes (length equalities) uses) where
+  module _ (known_values : NumberedValues) (uses : List Use) (different : ValuesAreDifferent known_values) (wired : AreUsesOfRows scans equalities key known_values (length equalities) uses) where
     from_marks : (kept : ℕ → Bool) → sets.IsConsistent (first_item scans (length scans)) uses kept → (number : ℕ) (e : Edge) (on : Bool) → IsNumbered equalities number e
-        → HavePartners (equal_from equal e on) (list_at (marked_family kept 0 scans) (near e on).entry) (list_at (marked_family kept 0 scans) (near e (opposite on)).entry)
+        → HavePartners (equal_from equal e on) (list_at (marked_family kept 0 scans) (side_of e on).entry) (list_at (marked_family kept 0 scans) (side_of e (opposite on)).entry)
     from_marks kept consistent number e on numbered row in_marked =
-        let m : MarkedAt kept scans (near e on).entry row = from_family kept scans (near e on).entry row in_marked in
-        let need : (u : Use) × Contains uses u × IsUseFor classes number on (key_on key (near e on) (row_at scans (near e on).entry m.0)) (first_item scans (near e on).entry + m.0) u =
+        let m : MarkedAt kept scans (side_of e on).entry row = from_family kept scans (side_of e on).entry row in_marked in
+        let need : (u : Use) × Contains uses u × IsUseFor known_values number on (key_on key (side_of e on) (row_at scans (side_of e on).entry m.0)) (first_item scans (side_of e on).entry + m.0) u =
         wired.complete number e on m.0 numbered.0 numbered m.1 in
         let given : IsGiven uses kept need.0.needs = consistent.given need.0 need.1 (ap kept need.2.is_item ∙ m.2) in
-        let v : IsUseForRow scans equalities key classes (length equalities) given.0 = wired.sound given.0 given.1 in
-        let slots : (v.is_use.class ≡ need.2.class) × (v.on ≡ opposite on) = one_slot v.is_use.class need.2.class v.on (opposite on) (sym v.is_use.gives ∙ given.3 ∙ need.2.needs) in
-        let values : (v.number ≡ number) × (key_on key (near v.edge v.on) (row_at scans (near v.edge v.on).entry v.place) ≡ key_on key (near e on) (row_at scans (near e on).entry m.0)) =
-        same_value classes v.is_use.class need.2.class v.number number (key_on key (near v.edge v.on) (row_at scans (near v.edge v.on).entry v.place)) (key_on key (near e on) (row_at scans (near e on).entry m.0))
-        v.is_use.is_class need.2.is_class slots.0 in
+        let v : IsUseForRow scans equalities key known_values (length equalities) given.0 = wired.sound given.0 given.1 in
+        let slots : (v.is_use.value_number ≡ need.2.value_number) × (v.on ≡ opposite on) = one_slot v.is_use.value_number need.2.value_number v.on (opposite on) (sym v.is_use.gives ∙ given.3 ∙ need.2.needs) in
+        let values : (v.number ≡ number) × (key_on key (side_of v.edge v.on) (row_at scans (side_of v.edge v.on).entry v.place) ≡ key_on key (side_of e on) (row_at scans (side_of e on).entry m.0)) =
+        same_value known_values v.is_use.value_number need.2.value_number v.number number (key_on key (side_of v.edge v.on) (row_at scans (side_of v.edge v.on).entry v.place)) (key_on key (side_of e on) (row_at scans (side_of e on).entry m.0))
+        v.is_use.is_value need.2.is_value slots.0 in
         let edge : v.edge ≡ e = one_numbered equalities v.number number v.edge e values.0 v.numbered numbered in
-        let side : near v.edge v.on ≡ near e (opposite on) = ap (λ f. near f v.on) edge ∙ ap (near e) slots.1 in
-        let partner : ℕ = row_at scans (near v.edge v.on).entry v.place in
-        let there : Contains (list_at (marked_family kept 0 scans) (near v.edge v.on).entry) partner = to_family kept scans (near v.edge v.on).entry v.place v.within (ap kept (sym v.is_use.is_item) ∙ given.2) in
-        let scanned : Contains (list_at scans (near v.edge v.on).entry) partner = at_place (list_at scans (near v.edge v.on).entry) v.place partner v.within refl in
-        let row_scanned : Contains (list_at scans (near e on).entry) row = at_place (list_at scans (near e on).entry) m.0 row m.1 m.3 in
-        let keys : key_on key (near e on) row ≡ key_on key (near e (opposite on)) partner =
-        ap (key_on key (near e on)) (sym m.3) ∙ sym values.1 ∙ ap (λ (s : Place). key_on key s partner) side in (
+        let side : side_of v.edge v.on ≡ side_of e (opposite on) = ap (λ f. side_of f v.on) edge ∙ ap (side_of e) slots.1 in
+        let partner : ℕ = row_at scans (side_of v.edge v.on).entry v.place in
+        let there : Contains (list_at (marked_family kept 0 scans) (side_of v.edge v.on).entry) partner = to_family kept scans (side_of v.edge v.on).entry v.place v.within (ap kept (sym v.is_use.is_item) ∙ given.2) in
+        let scanned : Contains (list_at scans (side_of v.edge v.on).entry) partner = at_place (list_at scans (side_of v.edge v.on).entry) v.place partner v.within refl in
+        let row_scanned : Contains (list_at scans (side_of e on).entry) row = at_place (list_at scans (side_of e on).entry) m.0 row m.1 m.3 in
+        let keys : key_on key (side_of e on) row ≡ key_on key (side_of e (opposite on)) partner =
+        ap (key_on key (side_of e on)) (sym m.3) ∙ sym values.1 ∙ ap (λ (s : Place). key_on key s partner) side in (
           partner,
           subst (λ (s : Place). Contains (list_at (marked_family kept 0 scans) s.entry) partner) side there,
           key_same e on row partner (number, numbered.0, numbered.1) row_scanned (subst (λ (s : Place). Contains (list_at scans s.entry) partner) side scanned) keys,
@@ -154,26 +154,26 @@ module _ (scans : List (List ℕ)) (equalities : List Edge) (key : Keys) (equal 
     from_consistent family consistent = record {
       within = in_family_within scans family;
       given = λ need in_uses stands. (
-          let u : IsUseForRow scans equalities key classes (length equalities) need = wired.sound need in_uses in
-          let side : Place = near u.edge u.on in
-          let other : Place = near u.edge (opposite u.on) in
+          let u : IsUseForRow scans equalities key known_values (length equalities) need = wired.sound need in_uses in
+          let side : Place = side_of u.edge u.on in
+          let other : Place = side_of u.edge (opposite u.on) in
           let row : ℕ = row_at scans side.entry u.place in
           let edge_in : Contains equalities u.edge = (u.number, u.numbered.0, u.numbered.1) in
           let in_list : Contains (list_at family side.entry) row = has-contains row (list_at family side.entry) (sym (in_family_is scans family side.entry u.place u.within) ∙ ap (in_family scans family) (sym u.is_use.is_item) ∙ stands) in
           let partner : HasPartner (equal_from equal u.edge u.on) (list_at family other.entry) row = partners family u.edge u.on consistent edge_in row in_list in
           let scanned : Contains (list_at scans other.entry) partner.0 = consistent.is_family.scanned other.entry partner.0 partner.1 in
           let place : (i : ℕ) × (i < length (list_at scans other.entry)) × (get_or (list_at scans other.entry) i 0 ≡ partner.0) = place_in (list_at scans other.entry) partner.0 scanned in
-          let v : (v : Use) × Contains uses v × IsUseFor classes u.number (opposite u.on) (key_on key other (row_at scans other.entry place.0)) (first_item scans other.entry + place.0) v =
+          let v : (v : Use) × Contains uses v × IsUseFor known_values u.number (opposite u.on) (key_on key other (row_at scans other.entry place.0)) (first_item scans other.entry + place.0) v =
           wired.complete u.number u.edge (opposite u.on) place.0 u.below u.numbered place.1 in
           let keys : key_on key side row ≡ key_on key other (row_at scans other.entry place.0) =
           same_key u.edge u.on row partner.0 edge_in (at_place (list_at scans side.entry) u.place row u.within refl) scanned partner.2 ∙ ap (key_on key other) (sym place.2) in
-          let class : v.2.class ≡ u.is_use.class = only_class classes v.2.class u.is_use.class (u.number, key_on key side row) different
-          (v.2.is_class ∙ ap (λ k. Some (u.number, k)) (sym keys)) u.is_use.is_class in (
+          let value_number : v.2.value_number ≡ u.is_use.value_number = only_value known_values v.2.value_number u.is_use.value_number (u.number, key_on key side row) different
+          (v.2.is_value ∙ ap (λ k. Some (u.number, k)) (sym keys)) u.is_use.is_value in (
             v.0,
             v.1,
             ap (in_family scans family) v.2.is_item ∙ in_family_is scans family other.entry place.0 place.1
                 ∙ contains-has (row_at scans other.entry place.0) (list_at family other.entry) (subst (Contains (list_at family other.entry)) (sym place.2) partner.1),
-            v.2.gives ∙ ap (λ k. slot_of k (opposite u.on)) class ∙ sym u.is_use.needs,
+            v.2.gives ∙ ap (λ k. slot_of k (opposite u.on)) value_number ∙ sym u.is_use.needs,
           ));
     }
 

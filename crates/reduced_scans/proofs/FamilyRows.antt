@@ -9,7 +9,7 @@ use Rattle.sql_meaning.specs.Choices.{choices}
 use Rattle.sql_meaning.specs.Levels.{all_hold, all_pass, level_over, row_in}
 use Rattle.sql_meaning.specs.Tables.{Tables, row_counts}
 use Rattle.sql_meaning.proofs.LevelsOver.{over_restricted}
-use Rattle.level_bounds.specs.Scans.{query_level}
+use Rattle.level_bounds.specs.Scans.{level_over_entries}
 use Rattle.level_bounds.proofs.Lists.{from_filter, in_filter, in_range, map_alike}
 use Rattle.join_steps.specs.Lists.{IsFamily, list_at, scans_of}
 use Rattle.reduced_scans.proofs.Bridge.{contains-has, has, has-contains}
@@ -38,7 +38,7 @@ module _ (query : Query) (tables : Tables) (family : List (List ℕ)) (is : IsFa
       (contains-has row (list_at family entry) listed))
       (λ row kept. has-contains row (list_at family entry) (from_filter (stays entry) (range_with_len 0 (row_counts tables entry)) row kept).1)
 
-  pub family_level : (order : List ℕ) → level_over (conjuncts_of query tables) (list_at family) order ≡ filter (all_pass stays order) (query_level query tables order)
+  pub family_level : (order : List ℕ) → level_over (conjuncts_of query tables) (list_at family) order ≡ filter (all_pass stays order) (level_over_entries query tables order)
   family_level order =
       ap (λ lists. filter (λ choice. all_hold (conjuncts_of query tables) order (row_in order choice)) (choices lists))
       (map_alike (list_at family) (λ entry. filter (stays entry) (range_with_len 0 (row_counts tables entry))) order (λ entry here. family_list entry))

@@ -11,16 +11,16 @@ use Rattle.query_types.specs.Named.{NamesItsEntries, entries_named}
 use Rattle.join_graph.specs.Conjuncts.{equalities_of, equality_of}
 use Rattle.sql_meaning.specs.Answers.{conjunct_of, conjuncts_of, entries_of}
 use Rattle.sql_meaning.specs.Conditions.{cond_holds}
-use Rattle.sql_meaning.specs.Levels.{AsksOnly, Conjunct, names_just, names_only, row_in}
+use Rattle.sql_meaning.specs.Levels.{DependsOnNamed, Conjunct, names_just, names_only, row_in}
 use Rattle.sql_meaning.specs.Tables.{Tables, row_counts}
 use Rattle.sql_meaning.proofs.LevelFacts.{names_at}
 use Rattle.level_bounds.specs.Keys.{are_equal_at}
 use Rattle.level_bounds.specs.Orders.{IsOrderOfSet}
-use Rattle.level_bounds.specs.Scans.{query_level, query_scan}
+use Rattle.level_bounds.specs.Scans.{level_over_entries, query_scan}
 use Rattle.level_bounds.proofs.Choosing.{choice_row, entry_in}
 use Rattle.level_bounds.proofs.EqualityFacts.{equality_holds}
 use Rattle.level_bounds.proofs.Lists.{all_true, each_of, from_filter_map, in_filter, in_map, in_range, in_true, is_in, true_for_all}
-use Rattle.level_bounds.proofs.Reordering.{stands}
+use Rattle.level_bounds.proofs.Reordering.{is_level_choice}
 use Rattle.join_steps.specs.Lists.{list_at, scans_of}
 use Rattle.reduced_scans.specs.Scans.{AreReducedScans, SatisfiesEqualities}
 use Rattle.reduced_scans.proofs.Matches.{match_stays}
@@ -28,8 +28,8 @@ use Rattle.join_steps.proofs.WholeScans.{count_of, scan_at}
 use Rattle.level_bounds.proofs.Scanning.{implied, implies}
 use Rattle.reduced_scans.proofs.QueryScans.{name_entries}
 
-module _ (query : Query) (tables : Tables) (asks : AllByRecursion AsksOnly (conjuncts_of query tables)) (named : NamesItsEntries query) (order : List ℕ) (o : IsOrderOfSet (entries_of query) order)
-    (choice : List ℕ) (k : Contains (query_level query tables order) choice) where
+module _ (query : Query) (tables : Tables) (asks : AllByRecursion DependsOnNamed (conjuncts_of query tables)) (named : NamesItsEntries query) (order : List ℕ) (o : IsOrderOfSet (entries_of query) order)
+    (choice : List ℕ) (k : Contains (level_over_entries query tables order) choice) where
   abbrev row_of : ℕ → ℕ
   row_of = row_in order choice
 
@@ -42,7 +42,7 @@ module _ (query : Query) (tables : Tables) (asks : AllByRecursion AsksOnly (conj
   cond_true : (cond : Cond) → Contains query.conjuncts cond → cond_holds tables row_of cond ≡ true
   cond_true cond there =
       implied (names_only (conjunct_of tables cond) order) (cond_holds tables row_of cond)
-      (all_true (λ (c : Conjunct). not (names_only c order) || c.holds row_of) (conjuncts_of query tables) (stands (conjuncts_of query tables) (row_counts tables) order choice k).holds (conjunct_of tables cond)
+      (all_true (λ (c : Conjunct). not (names_only c order) || c.holds row_of) (conjuncts_of query tables) (is_level_choice (conjuncts_of query tables) (row_counts tables) order choice k).holds (conjunct_of tables cond)
       (in_map (conjunct_of tables) query.conjuncts cond there))
       (true_for_all (is_in order) (entries_named cond) (λ x at. in_true order x (placed x (All-contains (λ entry. entry < length query.from) (entries_named cond) x
       (All-contains (λ cond. All (λ entry. entry < length query.from) (entries_named cond)) query.conjuncts cond named there) at))))
@@ -50,13 +50,13 @@ module _ (query : Query) (tables : Tables) (asks : AllByRecursion AsksOnly (conj
   holds_all : (c : Conjunct) → Contains (conjuncts_of query tables) c → names_only c order ≡ true → c.holds row_of ≡ true
   holds_all c there names =
       implied (names_only c order) (c.holds row_of)
-      (all_true (λ (c : Conjunct). not (names_only c order) || c.holds row_of) (conjuncts_of query tables) (stands (conjuncts_of query tables) (row_counts tables) order choice k).holds c there) names
+      (all_true (λ (c : Conjunct). not (names_only c order) || c.holds row_of) (conjuncts_of query tables) (is_level_choice (conjuncts_of query tables) (row_counts tables) order choice k).holds c there) names
 
   row_scanned : (entry : ℕ) → entry < length query.from → Contains (query_scan query tables entry) (row_of entry)
   row_scanned entry low =
       in_filter (λ row. list_all (λ (c : Conjunct). not (names_just c entry) || c.holds (λ e. row)) (conjuncts_of query tables)) (range_with_len 0 (row_counts tables entry)) (row_of entry)
       (in_range 0 (row_counts tables entry) (row_of entry) (omega arith)
-      (omega (arith, choice_row (row_counts tables) order choice (stands (conjuncts_of query tables) (row_counts tables) order choice k).chosen entry (in_true order entry (placed entry low)))))
+      (omega (arith, choice_row (row_counts tables) order choice (is_level_choice (conjuncts_of query tables) (row_counts tables) order choice k).chosen entry (in_true order entry (placed entry low)))))
       (true_for_all (λ (c : Conjunct). not (names_just c entry) || c.holds (λ e. row_of entry)) (conjuncts_of query tables)
       (λ c there. implies (names_just c entry) (c.holds (λ e. row_of entry)) (λ just. passes c there just)))
     where
@@ -67,7 +67,7 @@ module _ (query : Query) (tables : Tables) (asks : AllByRecursion AsksOnly (conj
             | inl hit ↦ sym (eqb-true x entry hit)
             | inr never ↦ absurd (false≢true never)
           ] in
-          each_of AsksOnly (conjuncts_of query tables) asks c there (λ e. row_of entry) row_of (λ x here. ap row_of (only x here))
+          each_of DependsOnNamed (conjuncts_of query tables) asks c there (λ e. row_of entry) row_of (λ x here. ap row_of (only x here))
           ∙ holds_all c there (true_for_all (is_in order) c.entries (λ x at. subst (λ y. is_in order y ≡ true) (only x (in_true c.entries x at)) (in_true order entry (placed entry low))))
 
   row_there : (entry : ℕ) → entry < length query.from → get_or all_rows entry 0 ≡ row_of entry

@@ -13,7 +13,7 @@
 -- - Semi-joins before the worklist (`Sifting`): "sifted" says that every consistent family is still within the lists. So a step needn't be
 --   exact: a set of values may have more values than those of its rows. That the reduced lists are the reduced scans takes a few lines in
 --   each direction.
--- - `StaySifted` is about any scans from which the lists are sifted. So no function that `sifted` calls knows the scans, and steps compose
+-- - `StaySifted` is about any scans from which the lists are sifted. So no function that `semi_join_all` calls knows the scans, and steps compose
 --   (`stay_both`). The step itself is stated list by list (`IsJoinedAt`). From it follow both `StaySifted` and that the lists are still lists
 --   of the database (`joined_lists`).
 -- - The test is a field of `IsSemiJoin`, so an unchanged list is a semi-join too (`joined_not`), and one clause covers both exits of the code.
@@ -33,7 +33,7 @@ pub mod QueryScans
 pub mod Levels
 pub mod MarkedRows
 pub mod Bridge
-pub mod Wired
+pub mod UseFacts
 pub mod FamilyRows
 pub mod SameLevel
 pub mod ByRounds

@@ -5,7 +5,7 @@ use Rattle.std.proofs.lemmas.Bool.{cases_lt}
 use Rattle.std.proofs.lemmas.List.{get_or_past}
 use Rattle.berge_tree.specs.declared.edges.Edge.{Edge}
 use Rattle.join_steps.specs.Lists.{IsAscending, list_at}
-use Rattle.reduced_scans.specs.Families.{HavePartners, IsConsistent, IsMatch, IsReduced, NameEntries}
+use Rattle.reduced_scans.specs.Families.{HavePartners, IsConsistent, SatisfiesAll, IsReduced, NameEntries}
 use Rattle.reduced_scans.proofs.Members.{not_in_none, in_front, in_cases}
 
 abbrev pub singles : List ℕ → List (List ℕ)
@@ -47,7 +47,7 @@ single_partners : (equal : ℕ → ℕ → Bool) (choice : List ℕ) (side other
 single_partners equal choice side other within same row has =
     (get_or choice other 0, is_kept choice other within, ap (λ r. equal r (get_or choice other 0)) (sym (kept_is choice side row has).1) ∙ same)
 
-pub match_is_consistent : (scans : List (List ℕ)) (equalities : List Edge) (equal : Edge → ℕ → ℕ → Bool) (choice : List ℕ) → NameEntries (length scans) equalities → IsMatch scans equalities equal choice
+pub match_is_consistent : (scans : List (List ℕ)) (equalities : List Edge) (equal : Edge → ℕ → ℕ → Bool) (choice : List ℕ) → NameEntries (length scans) equalities → SatisfiesAll scans equalities equal choice
     → IsConsistent scans equalities equal (singles choice)
 match_is_consistent scans equalities equal choice named match = record {
   is_family = record {
@@ -61,6 +61,6 @@ match_is_consistent scans equalities equal choice named match = record {
 }
 
 pub match_stays : (scans : List (List ℕ)) (equalities : List Edge) (equal : Edge → ℕ → ℕ → Bool) (reduced : List (List ℕ)) (choice : List ℕ) → NameEntries (length scans) equalities
-    → IsReduced scans equalities equal reduced → IsMatch scans equalities equal choice → (e : ℕ) → e < length scans → Contains (list_at reduced e) (get_or choice e 0)
+    → IsReduced scans equalities equal reduced → SatisfiesAll scans equalities equal choice → (e : ℕ) → e < length scans → Contains (list_at reduced e) (get_or choice e 0)
 match_stays scans equalities equal reduced choice named is match e h =
     is.greatest (singles choice) (match_is_consistent scans equalities equal choice named match) e (get_or choice e 0) (is_kept choice e (omega (arith, match.count)))

@@ -21,7 +21,7 @@ use Rattle.query_types.specs.Typing.{IsTypedLayer, Compares}
 use Rattle.row_buf.specs.Rows.{Rows}
 use Rattle.join_graph.specs.Conjuncts.{equalities_of, equality_of}
 use Rattle.sql_meaning.specs.Answers.{conjuncts_of}
-use Rattle.sql_meaning.specs.Databases.{AreTables, IsAskable, IsColumnOfKind, IsDatabaseOf}
+use Rattle.sql_meaning.specs.Databases.{AreTables, IsWellTyped, IsColumnOfKind, IsDatabaseOf}
 use Rattle.sql_meaning.specs.Levels.{names_just}
 use Rattle.sql_meaning.specs.Tables.{cells_of, row_counts, tables_of}
 use Rattle.sql_meaning.proofs.LoopFacts.{rows_are}
@@ -33,7 +33,7 @@ use Rattle.level_bounds.proofs.EqualityFacts.{IsJoin, is_join}
 use Rattle.level_bounds.proofs.Lists.{from_filter_map}
 use Rattle.limits.specs.Profile.{most_rows}
 use Rattle.reduced_scans.specs.Lists.{AreRowLists, JoinsColumns, column_of}
-use Rattle.reduced_scans.specs.Wiring.{TellsByKey, first_item, marked_family, marked_rows}
+use Rattle.reduced_scans.specs.Wiring.{HoldsByKey, first_item, marked_family, marked_rows}
 use Rattle.reduced_scans.proofs.MarkedRows.{family-take}
 use Rattle.reduced_scans.proofs.OneReduced.{same_lists}
 use Rattle.join_steps.proofs.WholeScans.{count_of, length-lists_of, scan_at, scan_past}
@@ -116,7 +116,7 @@ pub joins_kinds : (query : Query) (db : Database) (e : Edge) → IsDatabaseOf qu
 joins_kinds query db e of there =
     let found : (cond : Cond) × Contains query.conjuncts cond × (equality_of cond ≡ Some e) = from_filter_map equality_of query.conjuncts e there in
     let j : IsJoin (out-Cond found.0) e = is_join found.0 e found.2 in
-    let asked : IsAskable db found.0 = All-contains (IsAskable db) query.conjuncts found.0 of.conjuncts found.1 in
+    let asked : IsWellTyped db found.0 = All-contains (IsWellTyped db) query.conjuncts found.0 of.conjuncts found.1 in
     let can : Compares (IsColumnOfKind db) (operand.Column j.left) (operand.Column j.right) = subst (IsTypedLayer (IsColumnOfKind db)) j.compares (every_here-Cond (IsTypedLayer (IsColumnOfKind db)) found.0 asked) in
     subst (JoinsKinds db) (sym j.joins) (record { text = can.text; left = can.left_kind; right = can.right_kind })
 
@@ -136,7 +136,7 @@ columns_tell db a b text left right tables different utf8 kind_a kind_b low_a lo
     (cell_of_row db a left tables kind_a.exists low_a) (cell_of_row db b right tables kind_b.exists low_b))
 
 pub tells : (query : Query) (db : Database) → IsDatabaseOf query db → TextsAreDifferent db.pool → All IsUtf8 db.pool
-    → TellsByKey (scans_of query (tables_of db)) (equalities_of query) (cell_at db) (are_equal_at (tables_of db))
+    → HoldsByKey (scans_of query (tables_of db)) (equalities_of query) (cell_at db) (are_equal_at (tables_of db))
 tells query db of different utf8 e there left right in_left in_right =
     let kinds : JoinsKinds db e = joins_kinds query db e of there in
     let low_left : left < (cells_of db e.left.entry).rows = omega (arith, row_low e.left.entry left (omega (arith, kinds.left.exists.entry, of.entries)) in_left, rows_are db e.left.entry) in

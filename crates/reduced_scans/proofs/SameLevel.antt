@@ -6,9 +6,9 @@ use Rattle.query_types.specs.Named.{NamesItsEntries}
 use Rattle.sql_meaning.specs.Answers.{conjuncts_of, entries_of}
 use Rattle.sql_meaning.specs.Levels.{all_pass, level_over, row_in}
 use Rattle.sql_meaning.specs.Tables.{Tables, row_counts}
-use Rattle.sql_meaning.proofs.AskFacts.{asks_only}
+use Rattle.sql_meaning.proofs.AskFacts.{depend_on_named}
 use Rattle.level_bounds.specs.Orders.{IsOrderOfSet}
-use Rattle.level_bounds.specs.Scans.{query_level}
+use Rattle.level_bounds.specs.Scans.{level_over_entries}
 use Rattle.level_bounds.proofs.Choosing.{entry_of}
 use Rattle.level_bounds.proofs.Lists.{range_within}
 use Rattle.level_bounds.proofs.Reordering.{back}
@@ -31,11 +31,11 @@ module _ (query : Query) (tables : Tables) (reduced : List (List ℕ)) (are : Ar
   abbrev stays : ℕ → ℕ → Bool
   stays entry row = has row (list_at reduced entry)
 
-  pub same_level : NamesItsEntries query → (order : List ℕ) → IsOrderOfSet (entries_of query) order → level_over (conjuncts_of query tables) (list_at reduced) order ≡ query_level query tables order
+  pub same_level : NamesItsEntries query → (order : List ℕ) → IsOrderOfSet (entries_of query) order → level_over (conjuncts_of query tables) (list_at reduced) order ≡ level_over_entries query tables order
   same_level named order o =
       family_level query tables reduced are.consistent.is_family order
-      ∙ filter_all (all_pass stays order) (query_level query tables order) (λ choice here.
+      ∙ filter_all (all_pass stays order) (level_over_entries query tables order) (λ choice here.
       subst (λ c. all_pass stays order c ≡ true) (back (conjuncts_of query tables) (row_counts tables) (entries_of query) order order o o choice here)
       (all_pass_mapped stays (row_in order choice) order (λ entry placed.
       let low : entry < length query.from = omega (arith, (range_within 0 (length query.from) entry (entry_of (entries_of query) order o entry placed)).1) in
-      contains-has (row_in order choice entry) (list_at reduced entry) (rows_stay query tables (asks_only tables query.conjuncts) named order o choice here reduced are entry low))))
+      contains-has (row_in order choice entry) (list_at reduced entry) (rows_stay query tables (depend_on_named tables query.conjuncts) named order o choice here reduced are entry low))))

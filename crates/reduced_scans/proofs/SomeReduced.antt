@@ -77,8 +77,8 @@ total-set [] e l h = absurd (omega arith)
 total-set (list ∷ lists) zero l h = omega arith
 total-set (list ∷ lists) (suc e) l h = omega (arith, total-set lists e l (omega arith))
 
-abbrev pub gone : List (List ℕ) → ℕ → ℕ → List (List ℕ)
-gone family e row = set family e (without row (list_at family e))
+abbrev pub without_row : List (List ℕ) → ℕ → ℕ → List (List ℕ)
+without_row family e row = set family e (without row (list_at family e))
 
 entry_of : (family : List (List ℕ)) (e row : ℕ) → Contains (list_at family e) row → e < length family
 entry_of family e row has = elim (cases_lt e (length family)) [
@@ -86,25 +86,25 @@ entry_of family e row has = elim (cases_lt e (length family)) [
   | inr past ↦ absurd (not_in_none row (subst (λ l. Contains l row) (get_or_past family e [] past) has))
 ]
 
-gone_here : (family : List (List ℕ)) (e row : ℕ) → e < length family → list_at (gone family e row) e ≡ without row (list_at family e)
+gone_here : (family : List (List ℕ)) (e row : ℕ) → e < length family → list_at (without_row family e row) e ≡ without row (list_at family e)
 gone_here family e row h = get_or-set_same family e (without row (list_at family e)) [] h
 
-gone_there : (family : List (List ℕ)) (e row k : ℕ) → (k ≡ e → ⊥) → list_at (gone family e row) k ≡ list_at family k
+gone_there : (family : List (List ℕ)) (e row k : ℕ) → (k ≡ e → ⊥) → list_at (without_row family e row) k ≡ list_at family k
 gone_there family e row k apart = get_or-set_other family e k (without row (list_at family e)) [] apart
 
-gone_before : (family : List (List ℕ)) (e row k z : ℕ) → e < length family → Contains (list_at (gone family e row) k) z → Contains (list_at family k) z
+gone_before : (family : List (List ℕ)) (e row k z : ℕ) → e < length family → Contains (list_at (without_row family e row) k) z → Contains (list_at family k) z
 gone_before family e row k z h has = elim (cases_eq k e) [
   | inl same ↦ subst (λ j. Contains (list_at family j) z) (sym same)
-      (before row (list_at family e) z (subst (λ l. Contains l z) (gone_here family e row h) (subst (λ j. Contains (list_at (gone family e row) j) z) same has)))
+      (before row (list_at family e) z (subst (λ l. Contains l z) (gone_here family e row h) (subst (λ j. Contains (list_at (without_row family e row) j) z) same has)))
   | inr apart ↦ subst (λ l. Contains l z) (gone_there family e row k apart) has
 ]
 
-gone_family : (scans family : List (List ℕ)) (e row : ℕ) → e < length family → IsFamily scans family → IsFamily scans (gone family e row)
+gone_family : (scans family : List (List ℕ)) (e row : ℕ) → e < length family → IsFamily scans family → IsFamily scans (without_row family e row)
 gone_family scans family e row h is = record {
   count = length-set family e (without row (list_at family e)) ∙ is.count;
   scanned = λ k z has. is.scanned k z (gone_before family e row k z h has);
   ascending = λ k. elim (cases_eq k e) [
-    | inl same ↦ subst (λ j. IsAscending (list_at (gone family e row) j)) (sym same) (subst IsAscending (sym (gone_here family e row h)) (still_ascends row (list_at family e) (is.ascending e)))
+    | inl same ↦ subst (λ j. IsAscending (list_at (without_row family e row) j)) (sym same) (subst IsAscending (sym (gone_here family e row h)) (still_ascends row (list_at family e) (is.ascending e)))
     | inr apart ↦ subst IsAscending (sym (gone_there family e row k apart)) (is.ascending k)
   ];
 }
@@ -113,10 +113,10 @@ abbrev pub Contained : List (List ℕ) → List Edge → (Edge → ℕ → ℕ �
 Contained scans equalities equal family = (other : List (List ℕ)) → IsConsistent scans equalities equal other → (e row : ℕ) → Contains (list_at other e) row → Contains (list_at family e) row
 
 gone_contained : (scans : List (List ℕ)) (equalities : List Edge) (equal : Edge → ℕ → ℕ → Bool) (family : List (List ℕ)) (e row : ℕ) → e < length family → Contained scans equalities equal family
-    → ((other : List (List ℕ)) → IsConsistent scans equalities equal other → Contains (list_at other e) row → ⊥) → Contained scans equalities equal (gone family e row)
+    → ((other : List (List ℕ)) → IsConsistent scans equalities equal other → Contains (list_at other e) row → ⊥) → Contained scans equalities equal (without_row family e row)
 gone_contained scans equalities equal family e row h all doomed other consistent k z has = elim (cases_eq k e) [
   | inl same ↦ (let here : Contains (list_at other e) z = subst (λ j. Contains (list_at other j) z) same has in
-      subst (λ j. Contains (list_at (gone family e row) j) z) (sym same) (subst (λ l. Contains l z) (sym (gone_here family e row h))
+      subst (λ j. Contains (list_at (without_row family e row) j) z) (sym same) (subst (λ l. Contains l z) (sym (gone_here family e row h))
       (still row (list_at family e) z (all other consistent e z here) (λ is. doomed other consistent (subst (λ r. Contains (list_at other e) r) is here)))))
   | inr apart ↦ subst (λ l. Contains l z) (sym (gone_there family e row k apart)) (all other consistent k z has)
 ]
@@ -132,36 +132,36 @@ partner_or_none equal partners row =
       | inr some ↦ inl some
     ]
 
-abbrev pub Bad : (ℕ → ℕ → Bool) → List ℕ → List ℕ → Type 0
-Bad equal rows partners = (row : ℕ) × Contains rows row × Lacks equal partners row
+abbrev pub SomeRowLacksPartner : (ℕ → ℕ → Bool) → List ℕ → List ℕ → Type 0
+SomeRowLacksPartner equal rows partners = (row : ℕ) × Contains rows row × Lacks equal partners row
 
-side_or_bad : (equal : ℕ → ℕ → Bool) (rows partners : List ℕ) → HavePartners equal rows partners ⊎ Bad equal rows partners
+side_or_bad : (equal : ℕ → ℕ → Bool) (rows partners : List ℕ) → HavePartners equal rows partners ⊎ SomeRowLacksPartner equal rows partners
 side_or_bad equal rows partners = each_or_some (HasPartner equal partners) (Lacks equal partners) rows (λ row has. partner_or_none equal partners row)
 
-abbrev pub Some : List (List ℕ) → List Edge → (Edge → ℕ → ℕ → Bool) → Type 0
-Some scans equalities equal = (reduced : List (List ℕ)) × IsReduced scans equalities equal reduced
+abbrev pub HasReducedFamily : List (List ℕ) → List Edge → (Edge → ℕ → ℕ → Bool) → Type 0
+HasReducedFamily scans equalities equal = (reduced : List (List ℕ)) × IsReduced scans equalities equal reduced
 
-abbrev pub Next : List (List ℕ) → List Edge → (Edge → ℕ → ℕ → Bool) → List (List ℕ) → Type 0
-Next scans equalities equal family = (smaller : List (List ℕ)) → total smaller < total family → IsFamily scans smaller → Contained scans equalities equal smaller → Some scans equalities equal
+abbrev pub SmallerHasReduced : List (List ℕ) → List Edge → (Edge → ℕ → ℕ → Bool) → List (List ℕ) → Type 0
+SmallerHasReduced scans equalities equal family = (smaller : List (List ℕ)) → total smaller < total family → IsFamily scans smaller → Contained scans equalities equal smaller → HasReducedFamily scans equalities equal
 
 go_on : (scans : List (List ℕ)) (equalities : List Edge) (equal : Edge → ℕ → ℕ → Bool) (family : List (List ℕ)) (side other : ℕ) (same : ℕ → ℕ → Bool) → IsFamily scans family
-    → Contained scans equalities equal family → ((f : List (List ℕ)) → IsConsistent scans equalities equal f → HavePartners same (list_at f side) (list_at f other)) → Bad same (list_at family side) (list_at family other)
-    → Next scans equalities equal family → Some scans equalities equal
+    → Contained scans equalities equal family → ((f : List (List ℕ)) → IsConsistent scans equalities equal f → HavePartners same (list_at f side) (list_at f other)) → SomeRowLacksPartner same (list_at family side) (list_at family other)
+    → SmallerHasReduced scans equalities equal family → HasReducedFamily scans equalities equal
 go_on scans equalities equal family side other same is all must bad next =
     let h : side < length family = entry_of family side bad.0 bad.1 in
-    next (gone family side bad.0)
+    next (without_row family side bad.0)
     (omega (arith, total-set family side (without bad.0 (list_at family side)) h, shorter bad.0 (list_at family side) bad.1))
     (gone_family scans family side bad.0 h is)
     (gone_contained scans equalities equal family side bad.0 h all
     (λ f consistent has. (let partner : HasPartner same (list_at f other) bad.0 = must f consistent bad.0 has in bad.2 partner.0 (all f consistent other partner.0 partner.1) partner.2)))
 
 one_step : (scans : List (List ℕ)) (equalities : List Edge) (equal : Edge → ℕ → ℕ → Bool) (family : List (List ℕ)) → IsFamily scans family → Contained scans equalities equal family
-    → Next scans equalities equal family → Some scans equalities equal
+    → SmallerHasReduced scans equalities equal family → HasReducedFamily scans equalities equal
 one_step scans equalities equal family is all next =
-    elim (each_or_some (λ e. HavePartners (equal e) (list_at family e.left.entry) (list_at family e.right.entry)) (λ e. Bad (equal e) (list_at family e.left.entry) (list_at family e.right.entry)) equalities
+    elim (each_or_some (λ e. HavePartners (equal e) (list_at family e.left.entry) (list_at family e.right.entry)) (λ e. SomeRowLacksPartner (equal e) (list_at family e.left.entry) (list_at family e.right.entry)) equalities
     (λ e has. side_or_bad (equal e) (list_at family e.left.entry) (list_at family e.right.entry))) [
       | inr bad ↦ go_on scans equalities equal family bad.0.left.entry bad.0.right.entry (equal bad.0) is all (λ f consistent. consistent.from_left bad.0 bad.1) bad.2 next
-      | inl left ↦ elim (each_or_some (λ e. HavePartners (λ b a. equal e a b) (list_at family e.right.entry) (list_at family e.left.entry)) (λ e. Bad (λ b a. equal e a b) (list_at family e.right.entry) (list_at family e.left.entry)) equalities
+      | inl left ↦ elim (each_or_some (λ e. HavePartners (λ b a. equal e a b) (list_at family e.right.entry) (list_at family e.left.entry)) (λ e. SomeRowLacksPartner (λ b a. equal e a b) (list_at family e.right.entry) (list_at family e.left.entry)) equalities
           (λ e has. side_or_bad (λ b a. equal e a b) (list_at family e.right.entry) (list_at family e.left.entry))) [
             | inr bad ↦ go_on scans equalities equal family bad.0.right.entry bad.0.left.entry (λ b a. equal bad.0 a b) is all (λ f consistent. consistent.from_right bad.0 bad.1) bad.2 next
             | inl right ↦ (family, record { consistent = record { is_family = is; from_left = left; from_right = right }; greatest = all })
@@ -169,7 +169,7 @@ one_step scans equalities equal family is all next =
     ]
 
 reach : (scans : List (List ℕ)) (equalities : List Edge) (equal : Edge → ℕ → ℕ → Bool) (fuel : ℕ) (family : List (List ℕ)) → total family ≤ fuel → IsFamily scans family → Contained scans equalities equal family
-    → Some scans equalities equal
+    → HasReducedFamily scans equalities equal
 reach scans equalities equal zero family few is all = one_step scans equalities equal family is all (λ smaller less. absurd (omega arith))
 reach scans equalities equal (suc fuel) family few is all =
     one_step scans equalities equal family is all (λ smaller less smaller_is smaller_all. reach scans equalities equal fuel smaller (omega arith) smaller_is smaller_all)

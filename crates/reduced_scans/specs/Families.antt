@@ -27,7 +27,7 @@ pub record IsReduced (scans : List (List ℕ)) (equalities : List Edge) (equal :
       → (entry row : ℕ) → Contains (list_at other entry) row → Contains (list_at reduced entry) row
 
 -- the choice has a scanned row for each entry, and its rows together satisfy every equality
-pub record IsMatch (scans : List (List ℕ)) (equalities : List Edge) (equal : Edge → ℕ → ℕ → Bool) (choice : List ℕ) : Type 0 where
+pub record SatisfiesAll (scans : List (List ℕ)) (equalities : List Edge) (equal : Edge → ℕ → ℕ → Bool) (choice : List ℕ) : Type 0 where
   pub count : length choice ≡ length scans
   pub scanned : (entry : ℕ) → entry < length scans → Contains (list_at scans entry) (slice_index choice entry)
   pub satisfied : (e : Edge) → Contains equalities e → equal e (slice_index choice e.left.entry) (slice_index choice e.right.entry) ≡ true

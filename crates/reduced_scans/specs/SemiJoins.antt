@@ -6,7 +6,7 @@ use Rattle.berge_tree.specs.declared.edges.Place.{Place}
 use Rattle.level_bounds.specs.Keys.{Keys}
 use Rattle.join_steps.specs.Lists.{IsFamily, list_at}
 use Rattle.reduced_scans.specs.Families.{IsConsistent}
-use Rattle.reduced_scans.specs.Wiring.{TellsByKey, key_on}
+use Rattle.reduced_scans.specs.Wiring.{HoldsByKey, key_on}
 
 -- the lists have some rows of the scans, and every row of a consistent family is still in its list
 pub record IsSifted (scans : List (List ℕ)) (equalities : List Edge) (equal : Edge → ℕ → ℕ → Bool) (lists : List (List ℕ)) : Type 0 where
@@ -29,7 +29,7 @@ pub record IsJoinedAt (key : Keys) (side other : Place) (old new : List (List �
 -- if the old lists are sifted (they still have the rows of every consistent family), so are the new lists. The condition is that two rows
 -- satisfy an equality if and only if they have the same key
 pub record StaySifted (key : Keys) (equalities : List Edge) (old new : List (List ℕ)) : Type 0 where
-  pub stay : (scans : List (List ℕ)) (equal : Edge → ℕ → ℕ → Bool) → TellsByKey scans equalities key equal
+  pub stay : (scans : List (List ℕ)) (equal : Edge → ℕ → ℕ → Bool) → HoldsByKey scans equalities key equal
       → IsSifted scans equalities equal old → IsSifted scans equalities equal new
 
 -- the value is in the range that begins at `least`, and it is marked there

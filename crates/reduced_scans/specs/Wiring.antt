@@ -33,51 +33,51 @@ marked_family kept first (scan ∷ scans) = marked_rows kept first scan ∷ mark
 -- ---- slots: two for each value of an equality, one for each side
 
 -- the values in the order in which they were numbered. Each value is a pair of the number of its equality and its cell
-abbrev pub Classes : Type 0
-Classes = List (ℕ × ℕ)
+abbrev pub NumberedValues : Type 0
+NumberedValues = List (ℕ × ℕ)
 
-abbrev pub ValuesAreDifferent : Classes → Type 0
-ValuesAreDifferent classes = AllPairs (λ a b. a ≢ b) classes
+abbrev pub ValuesAreDifferent : NumberedValues → Type 0
+ValuesAreDifferent known_values = AllPairs (λ a b. a ≢ b) known_values
 
 -- the new list of values begins with the old list, so the old values keep their numbers
-pub record ValuesBeginWith (old new : Classes) : Type 0 where
-  pub more : Classes
+pub record ValuesBeginWith (old new : NumberedValues) : Type 0 where
+  pub more : NumberedValues
   pub grew : new ≡ old ++ more
 
 -- the column on a side of an equality: the left side if `true`. `opposite` is the other side
-abbrev pub near : Edge → Bool → Place
-near e true = e.left
-near e false = e.right
+abbrev pub side_of : Edge → Bool → Place
+side_of e true = e.left
+side_of e false = e.right
 
 abbrev pub opposite : Bool → Bool
 opposite true = false
 opposite false = true
 
 abbrev pub slot_of : ℕ → Bool → ℕ
-slot_of class true = 2 * class
-slot_of class false = 2 * class + 1
+slot_of value_number true = 2 * value_number
+slot_of value_number false = 2 * value_number + 1
 
 -- `u` is the use of an item whose row has the cell `cell` on the side `on` of an equality. The item gives the slot of its value on this side,
 -- and needs the slot of this value on the opposite side
-pub record IsUseFor (classes : Classes) (equality : ℕ) (on : Bool) (cell item : ℕ) (u : Use) : Type 0 where
-  pub class : ℕ
-  pub is_class : slice_get classes class ≡ Some (equality, cell)
+pub record IsUseFor (known_values : NumberedValues) (equality : ℕ) (on : Bool) (cell item : ℕ) (u : Use) : Type 0 where
+  pub value_number : ℕ
+  pub is_value : slice_get known_values value_number ≡ Some (equality, cell)
   pub is_item : u.item ≡ item
-  pub gives : u.gives ≡ slot_of class on
-  pub needs : u.needs ≡ slot_of class (opposite on)
+  pub gives : u.gives ≡ slot_of value_number on
+  pub needs : u.needs ≡ slot_of value_number (opposite on)
 
 -- the uses of the first `count` rows of a list were added, and the values that the uses need were numbered
 pub record AddsUses (equality : ℕ) (on : Bool) (first : ℕ) (cells list : List ℕ) (count : ℕ)
-    (old_classes new_classes : Classes) (old new : List Use) : Type 0 where
-  pub begins : ValuesBeginWith old_classes new_classes
+    (old_values new_values : NumberedValues) (old new : List Use) : Type 0 where
+  pub begins : ValuesBeginWith old_values new_values
   pub size : length new ≡ length old + count
-  pub few : length new_classes ≤ length old_classes + count
+  pub few : length new_values ≤ length old_values + count
   pub kept : (u : Use) → Contains old u → Contains new u
   pub sound : (u : Use) → Contains new u
       → Contains old u ⊎ ((place : ℕ) × (place < count)
-      × IsUseFor new_classes equality on (slice_index cells (slice_index list place)) (first + place) u)
+      × IsUseFor new_values equality on (slice_index cells (slice_index list place)) (first + place) u)
   pub complete : (place : ℕ) → place < count
-      → (u : Use) × Contains new u × IsUseFor new_classes equality on (slice_index cells (slice_index list place)) (first + place) u
+      → (u : Use) × Contains new u × IsUseFor new_values equality on (slice_index cells (slice_index list place)) (first + place) u
 
 -- equality `e` has the number m
 abbrev pub IsNumbered : List Edge → ℕ → Edge → Type 0
@@ -88,28 +88,28 @@ abbrev pub key_on : Keys → Place → ℕ → ℕ
 key_on key side row = key side.entry side.column row
 
 -- two rows of the lists satisfy an equality if and only if they have the same key
-abbrev pub TellsByKey : List (List ℕ) → List Edge → Keys → (Edge → ℕ → ℕ → Bool) → Type 0
-TellsByKey scans equalities key equal = (e : Edge) → Contains equalities e → (left right : ℕ) → Contains (list_at scans e.left.entry) left
+abbrev pub HoldsByKey : List (List ℕ) → List Edge → Keys → (Edge → ℕ → ℕ → Bool) → Type 0
+HoldsByKey scans equalities key equal = (e : Edge) → Contains equalities e → (left right : ℕ) → Contains (list_at scans e.left.entry) left
     → Contains (list_at scans e.right.entry) right → equal e left right ≡ (key_on key e.left left == key_on key e.right right)
 
 -- `u` is the use of a row on a side of one of the first `count` equalities
-pub record IsUseForRow (scans : List (List ℕ)) (equalities : List Edge) (key : Keys) (classes : Classes) (count : ℕ) (u : Use) : Type 0 where
+pub record IsUseForRow (scans : List (List ℕ)) (equalities : List Edge) (key : Keys) (known_values : NumberedValues) (count : ℕ) (u : Use) : Type 0 where
   pub number : ℕ
   pub edge : Edge
   pub on : Bool
   pub place : ℕ
   pub below : number < count
   pub numbered : IsNumbered equalities number edge
-  pub within : place < length (list_at scans (near edge on).entry)
-  pub is_use : IsUseFor classes number on (key_on key (near edge on) (row_at scans (near edge on).entry place))
-      (first_item scans (near edge on).entry + place) u
+  pub within : place < length (list_at scans (side_of edge on).entry)
+  pub is_use : IsUseFor known_values number on (key_on key (side_of edge on) (row_at scans (side_of edge on).entry place))
+      (first_item scans (side_of edge on).entry + place) u
 
 -- `uses` are exactly the uses of the rows on both sides of the first `count` equalities
-pub record AreWired (scans : List (List ℕ)) (equalities : List Edge) (key : Keys) (classes : Classes) (count : ℕ)
+pub record AreUsesOfRows (scans : List (List ℕ)) (equalities : List Edge) (key : Keys) (known_values : NumberedValues) (count : ℕ)
     (uses : List Use) : Type 0 where
-  pub sound : (u : Use) → Contains uses u → IsUseForRow scans equalities key classes count u
+  pub sound : (u : Use) → Contains uses u → IsUseForRow scans equalities key known_values count u
   pub complete : (number : ℕ) (edge : Edge) (on : Bool) (place : ℕ) → number < count → IsNumbered equalities number edge
-      → place < length (list_at scans (near edge on).entry)
+      → place < length (list_at scans (side_of edge on).entry)
       → (u : Use) × Contains uses u
-      × IsUseFor classes number on (key_on key (near edge on) (row_at scans (near edge on).entry place))
-      (first_item scans (near edge on).entry + place) u
+      × IsUseFor known_values number on (key_on key (side_of edge on) (row_at scans (side_of edge on).entry place))
+      (first_item scans (side_of edge on).entry + place) u

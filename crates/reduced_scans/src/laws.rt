@@ -7,7 +7,7 @@ ghost use Rattle.sql_meaning.specs.Answers.{answer, conjuncts_of, entries_of, se
 ghost use Rattle.sql_meaning.specs.Levels.{level_over, row_in};
 ghost use Rattle.sql_meaning.specs.Tables.{Tables};
 ghost use Rattle.level_bounds.specs.Orders.{IsOrderOfSet};
-ghost use Rattle.level_bounds.specs.Scans.{query_level};
+ghost use Rattle.level_bounds.specs.Scans.{level_over_entries};
 ghost use Rattle.join_steps.specs.Lists.{list_at};
 ghost use Rattle.reduced_scans.specs.Rounds.{reduced_of};
 ghost use Rattle.reduced_scans.specs.Scans.{AreReducedScans, SatisfiesEqualities};
@@ -36,11 +36,11 @@ pub fn no_row_of_the_answer_is_lost()
         → AreReducedScans query tables reduced → SatisfiesEqualities query tables choice
         → (entry : ℕ) → entry < length query.from → Contains (list_at reduced entry) (slice_index choice entry) }
     ensures rows { (query : Query) (tables : Tables) (reduced : List (List ℕ)) (order choice : List ℕ) → NamesItsEntries query
-        → AreReducedScans query tables reduced → IsOrderOfSet (entries_of query) order → Contains (query_level query tables order) choice
+        → AreReducedScans query tables reduced → IsOrderOfSet (entries_of query) order → Contains (level_over_entries query tables order) choice
         → (entry : ℕ) → entry < length query.from → Contains (list_at reduced entry) (row_in order choice entry) }
     ensures level { (query : Query) (tables : Tables) (reduced : List (List ℕ)) (order : List ℕ) → NamesItsEntries query
         → AreReducedScans query tables reduced → IsOrderOfSet (entries_of query) order
-        → level_over (conjuncts_of query tables) (list_at reduced) order ≡ query_level query tables order }
+        → level_over (conjuncts_of query tables) (list_at reduced) order ≡ level_over_entries query tables order }
     ensures answer { (query : Query) (tables : Tables) (reduced : List (List ℕ)) (order : List ℕ) → NamesItsEntries query
         → AreReducedScans query tables reduced → IsOrderOfSet (entries_of query) order
         → IsPermutation (map (λ choice. selected query tables (row_in order choice))

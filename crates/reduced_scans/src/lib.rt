@@ -10,7 +10,7 @@
 //! reduced, that repeated rounds reach it, and that no row of the answer is lost.
 #![tactic(auto)]
 
-mod classes;
+mod equality_values;
 mod laws;
 mod reducing;
 mod semi_joins;

@@ -11,11 +11,11 @@ ghost use Rattle.level_bounds.specs.Keys.{cell_at};
 ghost use Rattle.reduced_scans.specs.Families.{AreAscending, IsReduced};
 ghost use Rattle.reduced_scans.specs.Lists.{AreRowLists, HaveNoSpare, JoinsColumns};
 ghost use Rattle.reduced_scans.specs.Scans.{AreReducedScans};
-ghost use Rattle.reduced_scans.specs.Wiring.{first_item, marked_family, marked_rows, TellsByKey};
+ghost use Rattle.reduced_scans.specs.Wiring.{first_item, marked_family, marked_rows, HoldsByKey};
 
-use crate::classes::EqualityValues;
-use crate::semi_joins::sifted;
-use crate::wiring::{count_uses, first_item, wire};
+use crate::equality_values::EqualityValues;
+use crate::semi_joins::semi_join_all;
+use crate::wiring::{add_all_uses, count_uses, first_item};
 use base_io::NoMemory;
 use berge_tree::Edge;
 use counted_sets::reduce;
@@ -37,16 +37,16 @@ fn marks_of(
     requires few { length equalities.now ≤ most_conjuncts }
     ensures length { IfOk result (λ marks. length marks.items ≡ first_item (lists_of scans.now) (length scans.now)) }
     ensures reduced { IfOk result (λ marks. (equal : Edge → ℕ → ℕ → Bool)
-        → TellsByKey (lists_of scans.now) equalities.now (cell_at db.now) equal
+        → HoldsByKey (lists_of scans.now) equalities.now (cell_at db.now) equal
         → AreAscending (lists_of scans.now)
         → IsReduced (lists_of scans.now) equalities.now equal (marked_family (marked marks.items) 0 (lists_of scans.now))) }
 {
-    let mut classes = EqualityValues::new(alloc);
+    let mut known_values = EqualityValues::new(alloc);
     let mut uses = RowBuf::new(alloc);
     uses.reserve(count_uses(scans, equalities))?;
-    wire(db, scans, equalities, &mut classes, &mut uses)?;
+    add_all_uses(db, scans, equalities, &mut known_values, &mut uses)?;
     let items = first_item(scans, scans.len());
-    let slots = 2 * classes.len() as u32;
+    let slots = 2 * known_values.len() as u32;
     let marks = reduce(alloc, items, slots, uses.as_slice())?;
     Ok(marks)
 }
@@ -140,7 +140,7 @@ pub fn reduce_scans(
     ensures capacity { IfOk result (λ reduced. vec_capacity reduced ≡ length query.now.from) }
 {
     texts_are_different(&db.pool);
-    let lists = sifted(alloc, db, scans, equalities)?;
+    let lists = semi_join_all(alloc, db, scans, equalities)?;
     let left = lists.as_slice();
     let marks = marks_of(alloc, db, left, equalities)?;
     let reduced = marked_lists(alloc, left, &marks)?;

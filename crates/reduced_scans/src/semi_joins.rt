@@ -11,7 +11,7 @@ ghost use Rattle.reduced_scans.specs.Families.{AreAscending};
 ghost use Rattle.join_steps.specs.Lists.{lists_of};
 ghost use Rattle.reduced_scans.specs.Lists.{column_of, AreRowLists, JoinsColumns};
 ghost use Rattle.reduced_scans.specs.SemiJoins.{is_marked, IsJoinedAt, IsSemiJoin, IsSifted, StaySifted};
-ghost use Rattle.reduced_scans.specs.Wiring.{TellsByKey};
+ghost use Rattle.reduced_scans.specs.Wiring.{HoldsByKey};
 
 use crate::value_sets::{ValueSet, values_of};
 use base_io::{NoMemory, Seq};
@@ -81,7 +81,7 @@ fn cells_at<'a>(db: &'a Database, column: Place) -> &'a [u64]
 }
 
 // Replaces the list of a side by its semi-join with the other side's list, if the other side's values lie in a short range.
-fn sift_side(
+fn semi_join_side(
     alloc: Global,
     db: &Database,
     lists: &mut Seq<RowBuf<u32>>,
@@ -110,7 +110,7 @@ fn sift_side(
 }
 
 // Reduces the list of each side of an equality by the list of the other side.
-fn sift_equality(
+fn semi_join_equality(
     alloc: Global,
     db: &Database,
     lists: &mut Seq<RowBuf<u32>>,
@@ -122,13 +122,13 @@ fn sift_equality(
     ensures stay { OnOk result ((equalities : List Edge) → Contains equalities edge
         → StaySifted (cell_at db.now) equalities (lists_of lists.old) (lists_of lists.new)) }
 {
-    sift_side(alloc, db, lists, edge.left, edge.right)?;
-    sift_side(alloc, db, lists, edge.right, edge.left)?;
+    semi_join_side(alloc, db, lists, edge.left, edge.right)?;
+    semi_join_side(alloc, db, lists, edge.right, edge.left)?;
     Ok(())
 }
 
 // Reduces along all equalities, from the first to the last.
-fn sift_forward(
+fn semi_join_forward(
     alloc: Global,
     db: &Database,
     lists: &mut Seq<RowBuf<u32>>,
@@ -140,13 +140,13 @@ fn sift_forward(
     ensures stay { OnOk result (StaySifted (cell_at db.now) equalities.now (lists_of lists.old) (lists_of lists.new)) }
 {
     'equalities: for number in 0..equalities.len() {
-        sift_equality(alloc, db, lists, equalities[number])?;
+        semi_join_equality(alloc, db, lists, equalities[number])?;
     }
     Ok(())
 }
 
 // Reduces along all equalities, from the last to the first.
-fn sift_back(
+fn semi_join_back(
     alloc: Global,
     db: &Database,
     lists: &mut Seq<RowBuf<u32>>,
@@ -160,7 +160,7 @@ fn sift_back(
     let mut left = equalities.len();
     'equalities: while left > 0 {
         left -= 1;
-        sift_equality(alloc, db, lists, equalities[left])?;
+        semi_join_equality(alloc, db, lists, equalities[left])?;
     }
     Ok(())
 }
@@ -189,7 +189,7 @@ fn copy(alloc: Global, list: &[u32]) -> Result<RowBuf<u32>, NoMemory>
 
 /// The rows of each scan that remain after semi-joins along all equalities, from the first to the last and back. A semi-join removes rows
 /// that have no partner. If the values of the other side lie too far apart, it removes no row.
-pub(crate) fn sifted(
+pub(crate) fn semi_join_all(
     alloc: Global,
     db: &Database,
     scans: &[RowBuf<u32>],
@@ -199,12 +199,12 @@ pub(crate) fn sifted(
     requires columns { All (JoinsColumns db.now) equalities.now }
     ensures lists { IfOk result (λ lists. AreRowLists db.now lists) }
     ensures sifted { IfOk result (λ lists. (equal : Edge → ℕ → ℕ → Bool)
-        → TellsByKey (lists_of scans.now) equalities.now (cell_at db.now) equal
+        → HoldsByKey (lists_of scans.now) equalities.now (cell_at db.now) equal
         → AreAscending (lists_of scans.now)
         → IsSifted (lists_of scans.now) equalities.now equal (lists_of lists)) }
 {
     let mut lists = copies(alloc, scans)?;
-    sift_forward(alloc, db, &mut lists, equalities)?;
-    sift_back(alloc, db, &mut lists, equalities)?;
+    semi_join_forward(alloc, db, &mut lists, equalities)?;
+    semi_join_back(alloc, db, &mut lists, equalities)?;
     Ok(lists)
 }

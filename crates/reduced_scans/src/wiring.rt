@@ -10,9 +10,9 @@ ghost use Rattle.join_steps.specs.Columns.{column_cells};
 ghost use Rattle.level_bounds.specs.Keys.{cell_at};
 ghost use Rattle.join_steps.specs.Lists.{list_at, lists_of};
 ghost use Rattle.reduced_scans.specs.Lists.{column_of, AreRowLists, JoinsColumns};
-ghost use Rattle.reduced_scans.specs.Wiring.{first_item, slot_of, AddsUses, AreWired, ValuesBeginWith, IsNumbered, IsUseFor};
+ghost use Rattle.reduced_scans.specs.Wiring.{first_item, slot_of, AddsUses, AreUsesOfRows, ValuesBeginWith, IsNumbered, IsUseFor};
 
-use crate::classes::EqualityValues;
+use crate::equality_values::EqualityValues;
 use base_io::NoMemory;
 use berge_tree::{Edge, Place};
 use counted_sets::Use;
@@ -21,43 +21,47 @@ use join_steps::cells_of_column;
 use query_types::ColumnRef;
 use row_buf::RowBuf;
 
-// The slot of the value with number `class` on the left or on the right side.
-fn slot_of(class: u32, on_left: bool) -> u32
-    requires { class < 2 ^ 31 }
-    ensures { result ≡ slot_of class on_left }
+// The slot of the value with number `value_number` on the left or on the right side.
+fn slot_of(value_number: u32, on_left: bool) -> u32
+    requires { value_number < 2 ^ 31 }
+    ensures { result ≡ slot_of value_number on_left }
 {
-    if on_left { 2 * class } else { 2 * class + 1 }
+    if on_left {
+        2 * value_number
+    } else {
+        2 * value_number + 1
+    }
 }
 
 // Adds the use of `item`, whose row has the cell `cell` on one side of an equality.
 fn add_use(
-    classes: &mut EqualityValues,
+    known_values: &mut EqualityValues,
     uses: &mut RowBuf<Use>,
     equality: u32,
     on_left: bool,
     cell: u64,
     item: u32,
 ) -> Result<(), NoMemory>
-    requires few { length classes.old < 2 ^ 31 }
+    requires few { length known_values.old < 2 ^ 31 }
     requires room { 1 ≤ uses.old.spare }
-    ensures begins { OnOk result (ValuesBeginWith classes.old classes.new) }
-    ensures few { OnOk result (length classes.new ≤ length classes.old + 1) }
+    ensures begins { OnOk result (ValuesBeginWith known_values.old known_values.new) }
+    ensures few { OnOk result (length known_values.new ≤ length known_values.old + 1) }
     ensures added { OnOk result ((u : Use) × (uses.new.items ≡ uses.old.items ++ u ∷ [])
-        × IsUseFor classes.new equality on_left cell item u) }
+        × IsUseFor known_values.new equality on_left cell item u) }
     ensures spare { OnOk result (uses.new.spare + 1 ≡ uses.old.spare) }
 {
-    let class = classes.number(equality, cell)?;
+    let value_number = known_values.number(equality, cell)?;
     uses.push(Use {
         item,
-        gives: slot_of(class, on_left),
-        needs: slot_of(class, !on_left),
+        gives: slot_of(value_number, on_left),
+        needs: slot_of(value_number, !on_left),
     });
     Ok(())
 }
 
 // Adds the uses of the rows of a list for one side of an equality. `cells` are the cells of that side's column.
 fn add_side(
-    classes: &mut EqualityValues,
+    known_values: &mut EqualityValues,
     uses: &mut RowBuf<Use>,
     equality: u32,
     on_left: bool,
@@ -66,15 +70,22 @@ fn add_side(
     first: u32,
 ) -> Result<(), NoMemory>
     requires rows { All (λ row. row < length cells.now) list.now }
-    requires few { length classes.old + length list.now < 2 ^ 31 }
+    requires few { length known_values.old + length list.now < 2 ^ 31 }
     requires items { first + length list.now < 2 ^ 32 }
     ensures { OnOk result (AddsUses equality on_left first cells.now list.now (length list.now)
-        classes.old classes.new uses.old.items uses.new.items) }
+        known_values.old known_values.new uses.old.items uses.new.items) }
 {
     uses.reserve(list.len() as u64)?;
     'rows: for at in 0..list.len() {
         let cell = cells[list[at] as usize];
-        add_use(classes, uses, equality, on_left, cell, first + at as u32)?;
+        add_use(
+            known_values,
+            uses,
+            equality,
+            on_left,
+            cell,
+            first + at as u32,
+        )?;
     }
     Ok(())
 }
@@ -101,15 +112,15 @@ fn add_column(
     column: Place,
     equality: u32,
     on_left: bool,
-    classes: &mut EqualityValues,
+    known_values: &mut EqualityValues,
     uses: &mut RowBuf<Use>,
 ) -> Result<(), NoMemory>
     requires lists { AreRowLists db.now scans.now }
     requires column { IsColumnOf db.now (column_of column) }
-    requires few { length classes.old + most_rows < 2 ^ 31 }
+    requires few { length known_values.old + most_rows < 2 ^ 31 }
     ensures { OnOk result (AddsUses equality on_left (first_item (lists_of scans.now) column.entry) (column_cells db.now (column_of column))
         (list_at (lists_of scans.now) column.entry) (length (list_at (lists_of scans.now) column.entry))
-        classes.old classes.new uses.old.items uses.new.items) }
+        known_values.old known_values.new uses.old.items uses.new.items) }
 {
     let list = scans[column.entry as usize].as_slice();
     let reference = ColumnRef {
@@ -118,7 +129,7 @@ fn add_column(
     };
     let cells = cells_of_column(db, reference);
     let first = first_item(scans, column.entry as usize);
-    add_side(classes, uses, equality, on_left, cells, list, first)?;
+    add_side(known_values, uses, equality, on_left, cells, list, first)?;
     Ok(())
 }
 
@@ -128,48 +139,55 @@ fn add_equality(
     scans: &[RowBuf<u32>],
     edge: Edge,
     equality: u32,
-    classes: &mut EqualityValues,
+    known_values: &mut EqualityValues,
     uses: &mut RowBuf<Use>,
 ) -> Result<(), NoMemory>
     requires lists { AreRowLists db.now scans.now }
     requires columns { JoinsColumns db.now edge }
-    requires few { length classes.old + 2 * most_rows < 2 ^ 31 }
+    requires few { length known_values.old + 2 * most_rows < 2 ^ 31 }
     ensures wired { OnOk result ((equalities : List Edge) → IsNumbered equalities equality edge
-        → AreWired (lists_of scans.now) equalities (cell_at db.now) classes.old equality uses.old.items
-        → AreWired (lists_of scans.now) equalities (cell_at db.now) classes.new (equality + 1) uses.new.items) }
-    ensures classes { OnOk result (length classes.new ≤ length classes.old + 2 * most_rows) }
+        → AreUsesOfRows (lists_of scans.now) equalities (cell_at db.now) known_values.old equality uses.old.items
+        → AreUsesOfRows (lists_of scans.now) equalities (cell_at db.now) known_values.new (equality + 1) uses.new.items) }
+    ensures known_values { OnOk result (length known_values.new ≤ length known_values.old + 2 * most_rows) }
     ensures uses { OnOk result (length uses.new.items ≤ length uses.old.items + 2 * most_rows) }
 {
-    add_column(db, scans, edge.left, equality, true, classes, uses)?;
-    add_column(db, scans, edge.right, equality, false, classes, uses)?;
+    add_column(db, scans, edge.left, equality, true, known_values, uses)?;
+    add_column(db, scans, edge.right, equality, false, known_values, uses)?;
     Ok(())
 }
 
 /// Adds the uses of all rows for all equalities, in one pass over the two lists of each equality.
-pub(crate) fn wire(
+pub(crate) fn add_all_uses(
     db: &Database,
     scans: &[RowBuf<u32>],
     equalities: &[Edge],
-    classes: &mut EqualityValues,
+    known_values: &mut EqualityValues,
     uses: &mut RowBuf<Use>,
 ) -> Result<(), NoMemory>
     requires lists { AreRowLists db.now scans.now }
     requires columns { All (JoinsColumns db.now) equalities.now }
     requires few { length equalities.now ≤ most_conjuncts }
-    requires no_classes { classes.old ≡ [] }
+    requires no_values { known_values.old ≡ [] }
     requires no_uses { uses.old.items ≡ [] }
-    ensures wired { OnOk result (AreWired (lists_of scans.now) equalities.now (cell_at db.now) classes.new
+    ensures wired { OnOk result (AreUsesOfRows (lists_of scans.now) equalities.now (cell_at db.now) known_values.new
         (length equalities.now) uses.new.items) }
-    ensures classes { OnOk result (length classes.new ≤ 2 * most_rows * length equalities.now) }
+    ensures known_values { OnOk result (length known_values.new ≤ 2 * most_rows * length equalities.now) }
     ensures uses { OnOk result (length uses.new.items ≤ 2 * most_rows * length equalities.now) }
 {
     'equalities: for number in 0..equalities.len() {
-        add_equality(db, scans, equalities[number], number as u32, classes, uses)?;
+        add_equality(
+            db,
+            scans,
+            equalities[number],
+            number as u32,
+            known_values,
+            uses,
+        )?;
     }
     Ok(())
 }
 
-/// How many uses `wire` adds for these lists and equalities.
+/// How many uses `add_all_uses` adds for these lists and equalities.
 pub(crate) fn count_uses(scans: &[RowBuf<u32>], equalities: &[Edge]) -> u64
     requires entries { All (λ e. (e.left.entry < length scans.now) × (e.right.entry < length scans.now)) equalities.now }
     requires sizes { (k : ℕ) → length (list_at (lists_of scans.now) k) ≤ most_rows }

@@ -5,7 +5,7 @@ use Rattle.std.proofs.lemmas.List.{get_or-map, length-map}
 use Rattle.std.proofs.lemmas.List.Elements.{All-contains, All-contains_itself, All-filter, Contains-get_or, recursion_from_All}
 use Rattle.degree_sequences.specs.Degrees.{degree, degree_list}
 use Rattle.cond_stats.specs.Frequency.{frequent, remaining}
-use Rattle.cond_stats.specs.Leaves.{cuts, leaf_above}
+use Rattle.cond_stats.specs.Leaves.{cuts, last_leaf_where}
 use Rattle.relabelling_laws.specs.Relabelling.{IsOneToOne, KeepsOrder, PassAlike}
 use Rattle.relabelling_laws.proofs.Mapped.{KeepsEqual, keeps_equal, degree-mapped, degree_list-mapped}
 use Rattle.relabelling_laws.proofs.Ordered.{cuts-mapped, frequent-mapped, leaf-mapped, remaining-mapped}
@@ -44,6 +44,6 @@ cuts_are at_most other f column alike = cuts-mapped (Contains column) at_most ot
 
 pub leaf_is : (at_most other : ℕ → ℕ → Bool) (f : ℕ → ℕ) (column : List ℕ) (passes other_passes : ℕ → Bool)
     → KeepsOrder at_most other f column → PassAlike passes other_passes f column
-    → leaf_above other (map f column) other_passes ≡ leaf_above at_most column passes
+    → last_leaf_where other (map f column) other_passes ≡ last_leaf_where at_most column passes
 leaf_is at_most other f column passes other_passes alike same =
     leaf-mapped (Contains column) at_most other f alike passes other_passes same column (its_own column)

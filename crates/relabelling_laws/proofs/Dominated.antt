@@ -15,23 +15,23 @@ use Rattle.relabelling_laws.specs.Relabelling.{AreEqualAlike, IsOneToOne}
 use Rattle.relabelling_laws.proofs.Columns.{degrees_are, from_filter, from_map, its_own, keeps}
 use Rattle.relabelling_laws.proofs.Mapped.{All-different, count-mapped, different-mapped, map-mapped}
 
-sources : (ℕ → ℕ) → List ℕ → List ℕ → List ℕ
-sources f keys picked = filter (λ key. is_in picked (f key)) (different keys)
+keys_picked : (ℕ → ℕ) → List ℕ → List ℕ → List ℕ
+keys_picked f keys picked = filter (λ key. is_in picked (f key)) (different keys)
 
 source_found : (f : ℕ → ℕ) (keys picked : List ℕ) (key : ℕ) → is_in (different keys) key ≡ true
-    → is_in picked (f key) ≡ is_in (sources f keys picked) key
-unfolding sources
+    → is_in picked (f key) ≡ is_in (keys_picked f keys picked) key
+unfolding keys_picked
 source_found f keys picked key stands = elim (cases_Bool (is_in picked (f key))) [
   | inl e ↦ e ∙ sym (is_in-filtered (λ key. is_in picked (f key)) (different keys) key e ∙ stands)
   | inr e ↦ e ∙ sym (not_passed (λ key. is_in picked (f key)) (different keys) key e)
 ]
 
-sources_distinct : (f : ℕ → ℕ) (keys picked : List ℕ) → IsDistinct eqb (sources f keys picked)
-unfolding sources
+sources_distinct : (f : ℕ → ℕ) (keys picked : List ℕ) → IsDistinct eqb (keys_picked f keys picked)
+unfolding keys_picked
 sources_distinct f keys picked = IsDistinct-filter (λ key. is_in picked (f key)) (different keys) (IsDistinct-different keys)
 
-sources_few : (f : ℕ → ℕ) (keys picked : List ℕ) → IsOneToOne f keys → length (sources f keys picked) ≤ length picked
-unfolding sources
+sources_few : (f : ℕ → ℕ) (keys picked : List ℕ) → IsOneToOne f keys → length (keys_picked f keys picked) ≤ length picked
+unfolding keys_picked
 sources_few f keys picked one =
     let every : AllByRecursion (Contains keys) keys = its_own keys in
     let images : count_by (is_in picked) (different (map f keys)) ≡ count_by (λ key. is_in picked (f key)) (different keys) =
@@ -46,7 +46,7 @@ sources_few f keys picked one =
 
 pub still_dominates : (s : List ℕ) (f : ℕ → ℕ) (keys : List ℕ) → IsOneToOne f keys → DominatesKeys s keys → DominatesKeys s (map f keys)
 still_dominates s f keys one dominates picked apart =
-    let found : List ℕ = sources f keys picked in
+    let found : List ℕ = keys_picked f keys picked in
     let as_many : count_by (is_in picked) (map f keys) ≡ count_by (is_in found) keys =
     count-mapped (λ key. is_in (different keys) key ≡ true) f (is_in found) (is_in picked) (source_found f keys picked) keys
     (is_in-different keys) in
@@ -71,35 +71,35 @@ module _ (key other : ℕ → ℕ) (rows : List ℕ) (alike : AreEqualAlike key 
     | inr e ↦ rw e (first_is part all.1 i (Contains-tail row part i (λ same. eqb-false (key row) (key i) e (ap key same)) has) there)
   ]
 
-  named : ℕ → ℕ
-  named n = first_other key other rows n
+  new_key : ℕ → ℕ
+  new_key n = first_other key other rows n
 
-  named_is : (i : ℕ) → Contains rows i → named (key i) ≡ other i
-  unfolding named
-  named_is i has = first_is rows (its_own rows) i has has
+  new_key_is : (i : ℕ) → Contains rows i → new_key (key i) ≡ other i
+  unfolding new_key
+  new_key_is i has = first_is rows (its_own rows) i has has
 
-  named_all : map named (map key rows) ≡ map other rows
-  named_all = map-mapped (Contains rows) key other named named_is rows (its_own rows)
+  named_all : map new_key (map key rows) ≡ map other rows
+  named_all = map-mapped (Contains rows) key other new_key new_key_is rows (its_own rows)
 
-  named_one : IsOneToOne named (map key rows)
+  named_one : IsOneToOne new_key (map key rows)
   named_one n m has_n has_m same =
       let at = from_map key rows n has_n in
       let to = from_map key rows m has_m in
-      at.2 ∙ (alike at.0 to.0 at.1 to.1).1 (sym (named_is at.0 at.1) ∙ ap named (sym at.2) ∙ same ∙ ap named to.2
-      ∙ named_is to.0 to.1) ∙ sym to.2
+      at.2 ∙ (alike at.0 to.0 at.1 to.1).1 (sym (new_key_is at.0 at.1) ∙ ap new_key (sym at.2) ∙ same ∙ ap new_key to.2
+      ∙ new_key_is to.0 to.1) ∙ sym to.2
 
-  pub as_good : (s : List ℕ) → DominatesKeys s (map key rows) → DominatesKeys s (map other rows)
-  as_good s dominates = subst (DominatesKeys s) named_all (still_dominates s named (map key rows) named_one dominates)
+  pub dominates_other : (s : List ℕ) → DominatesKeys s (map key rows) → DominatesKeys s (map other rows)
+  dominates_other s dominates = subst (DominatesKeys s) named_all (still_dominates s new_key (map key rows) named_one dominates)
 
   pub same_degrees : degree_list (map key rows) ≡ degree_list (map other rows)
-  same_degrees = sym (degrees_are named (map key rows) named_one) ∙ ap degree_list named_all
+  same_degrees = sym (degrees_are new_key (map key rows) named_one) ∙ ap degree_list named_all
 
-turned : (key other : ℕ → ℕ) (rows : List ℕ) → AreEqualAlike key other rows → AreEqualAlike other key rows
-turned key other rows alike i j hi hj = ((alike i j hi hj).1, (alike i j hi hj).0)
+equal_alike_back : (key other : ℕ → ℕ) (rows : List ℕ) → AreEqualAlike key other rows → AreEqualAlike other key rows
+equal_alike_back key other rows alike i j hi hj = ((alike i j hi hj).1, (alike i j hi hj).0)
 
 pub rows_dominated : (s : List ℕ) (key other : ℕ → ℕ) (rows : List ℕ) → AreEqualAlike key other rows
     → DominatesKeys s (map key rows) ↔ DominatesKeys s (map other rows)
-rows_dominated s key other rows alike = (as_good key other rows alike s, as_good other key rows (turned key other rows alike) s)
+rows_dominated s key other rows alike = (dominates_other key other rows alike s, dominates_other other key rows (equal_alike_back key other rows alike) s)
 
 pub passing_dominated : (s : List ℕ) (key other : ℕ → ℕ) (rows : List ℕ) (passes : ℕ → Bool) → AreEqualAlike key other rows
     → DominatesKeys s (map key (filter passes rows)) ↔ DominatesKeys s (map other (filter passes rows))
@@ -108,4 +108,4 @@ passing_dominated s key other rows passes alike = rows_dominated s key other (fi
 
 pub keys_dominated : (s : List ℕ) (f : ℕ → ℕ) (keys : List ℕ) → IsOneToOne f keys → DominatesKeys s (map f keys) ↔ DominatesKeys s keys
 keys_dominated s f keys one =
-    (λ dominates. subst (DominatesKeys s) (map-id keys) (as_good f (λ key. key) keys (λ i j hi hj. (one i j hi hj, ap f)) s dominates), still_dominates s f keys one)
+    (λ dominates. subst (DominatesKeys s) (map-id keys) (dominates_other f (λ key. key) keys (λ i j hi hj. (one i j hi hj, ap f)) s dominates), still_dominates s f keys one)

@@ -4,7 +4,7 @@ use Rattle.std.proofs.Common.{◌≡◌, ℕ, Bool, cond, not, eqb, List, [], �
 use Rattle.std.specs.List.{AllByRecursion, count_by, filter, list_any, prefix_len, position_or_len}
 use Rattle.std.proofs.lemmas.Bool.{cases_Bool, eqb-true, eqb-false, eq-eqb, ne_eqb}
 use Rattle.std.proofs.lemmas.List.Sums.{sum_by-cons}
-use Rattle.degree_sequences.specs.Degrees.{degree, different, in_falling_order, degree_list}
+use Rattle.degree_sequences.specs.Degrees.{degree, different, sorted_descending, degree_list}
 use Rattle.degree_sequences.proofs.Counting.{All-filter}
 
 pub map-mapped : {X Y Z : Type 0} (P : X → Type 0) (f : X → Y) (h : X → Z) (k : Y → Z) → ((x : X) → P x → k (f x) ≡ h x)
@@ -74,5 +74,5 @@ module _ (P : ℕ → Type 0) (f : ℕ → ℕ) (keeps : KeepsEqual P f) where
 
   pub degree_list-mapped : (xs : List ℕ) → AllByRecursion P xs → degree_list (map f xs) ≡ degree_list xs
   degree_list-mapped xs all =
-      ap (λ (s : List ℕ). in_falling_order (map (degree (map f xs)) s)) (different-mapped xs all)
-      ∙ ap in_falling_order (map-mapped P f (degree xs) (degree (map f xs)) (degree-mapped xs all) (different xs) (All-different P xs all))
+      ap (λ (s : List ℕ). sorted_descending (map (degree (map f xs)) s)) (different-mapped xs all)
+      ∙ ap sorted_descending (map-mapped P f (degree xs) (degree (map f xs)) (degree-mapped xs all) (different xs) (All-different P xs all))

@@ -5,9 +5,9 @@ use Rattle.std.proofs.lemmas.Bool.{cases_Bool, cond_both}
 use Rattle.std.proofs.lemmas.List.{take-map, drop-map, get_or-map, length-map}
 use Rattle.std.proofs.lemmas.List.Elements.{All-drop, All-take, All-get_or, All-from_recursion, recursion_from_All}
 use Rattle.degree_sequences.specs.Degrees.{different}
-use Rattle.degree_sequences.proofs.Places.{All-range}
+use Rattle.degree_sequences.proofs.Indices.{All-range}
 use Rattle.cond_stats.specs.Frequency.{comes_before, by_frequency, frequent, remaining}
-use Rattle.cond_stats.specs.Leaves.{put_in_order, in_order, cuts, last_place, leaf_above, leaf_of}
+use Rattle.cond_stats.specs.Leaves.{put_in_order, in_order, cuts, last_place, last_leaf_where, leaf_of}
 use Rattle.cond_stats.proofs.LeavesFound.{cut_place, cut_place-within, cuts-from, no_cuts}
 use Rattle.cond_stats.proofs.Sorting.{all-in_order}
 use Rattle.relabelling_laws.proofs.Mapped.{KeepsEqual, All-different, any-mapped, degree-mapped, different-mapped, map-mapped, place-mapped}
@@ -73,7 +73,7 @@ module _ (P : ℕ → Type 0) (le other : ℕ → ℕ → Bool) (f : ℕ → ℕ
       All-mapped h (i ∷ is) low each = (each i low.0, All-mapped h is low.1 each)
 
   pub leaf-mapped : (p q : ℕ → Bool) → ((a : ℕ) → P a → q (f a) ≡ p a) → (s : List ℕ) → AllByRecursion P s
-      → leaf_above other (map f s) q ≡ leaf_above le s p
+      → last_leaf_where other (map f s) q ≡ last_leaf_where le s p
   leaf-mapped p q same s all = ap (last_place q) (cuts-mapped s all) ∙ last_place-mapped p q same (cuts le s) (All-cuts s all)
 
   pub leaf_of-mapped : (s : List ℕ) → AllByRecursion P s → (v : ℕ) → P v → leaf_of other (map f s) (f v) ≡ leaf_of le s v

@@ -10,7 +10,7 @@ use Rattle.cond_stats.specs.Leaves.{node_size}
 use Rattle.cond_stats.specs.Lists.{compressed_degrees, list_of_node, list_of_range, list_of_value, rest}
 use Rattle.cond_stats.specs.Rows.{filter_values, joined_keys, keys_where}
 use Rattle.cond_stats.proofs.ValueLists.{of_none, of_others}
-use Rattle.relabelling_laws.specs.Relabelling.{IsMissing, IsOneToOne, KeepsOrder, PassAlike, StandAlike}
+use Rattle.relabelling_laws.specs.Relabelling.{IsMissing, IsOneToOne, KeepsOrder, PassAlike, MatchAlike}
 use Rattle.relabelling_laws.proofs.Columns.{degrees_are, from_map, its_own, keeps}
 use Rattle.relabelling_laws.proofs.RowsMapped.{All-zip, OfRow, missing_not_frequent, node-mapped, passing-mapped, rest-mapped, value-mapped, zip-renamed}
 
@@ -47,11 +47,11 @@ absent_is accuracy f g column joined other value one one_key missing missing_val
     missing_is accuracy (map f column) (map g joined) other missing ∙ rest_is accuracy f g column joined one one_key
     ∙ sym (missing_is accuracy column joined value missing_value)
 
-pub stands_or_misses : (column : List ℕ) (value : ℕ) → Contains column value ⊎ (Contains column value → ⊥)
-stands_or_misses [] value = inr (λ has. omega (arith, has.1))
-stands_or_misses (first ∷ column) value = elim (cases_Bool (eqb first value)) [
+pub is_in_column_or_not : (column : List ℕ) (value : ℕ) → Contains column value ⊎ (Contains column value → ⊥)
+is_in_column_or_not [] value = inr (λ has. omega (arith, has.1))
+is_in_column_or_not (first ∷ column) value = elim (cases_Bool (eqb first value)) [
   | inl e ↦ inl (0, omega arith, eqb-true first value e)
-  | inr e ↦ (elim (stands_or_misses column value) [
+  | inr e ↦ (elim (is_in_column_or_not column value) [
     | inl has ↦ inl (suc has.0, omega (arith, has.1), has.2)
     | inr misses ↦ inr (λ has. misses (Contains-tail first column value (eqb-false first value e) has))
   ])
@@ -65,12 +65,12 @@ other_misses f column (Some number) never =
 
 pub any_value_is : (accuracy : ℕ) (f g : ℕ → ℕ) (column joined : List ℕ) (other value : Option ℕ) → IsOneToOne f column
     → IsOneToOne g joined
-    → StandAlike f column other value
+    → MatchAlike f column other value
     → list_of_value accuracy (zip (map f column) (map g joined)) other ≡ list_of_value accuracy (zip column joined) value
 any_value_is accuracy f g column joined other None one one_key alike =
     absent_is accuracy f g column joined other None one one_key
     (other_misses f column other (λ a has same. none-some a (sym ((alike a has).0 same)))) tt
-any_value_is accuracy f g column joined other (Some value) one one_key alike = elim (stands_or_misses column value) [
+any_value_is accuracy f g column joined other (Some value) one one_key alike = elim (is_in_column_or_not column value) [
   | inl has ↦ ap (list_of_value accuracy (zip (map f column) (map g joined))) (sym ((alike value has).1 refl))
       ∙ value_is accuracy f g column joined value one one_key has
   | inr misses ↦ absent_is accuracy f g column joined other (Some value) one one_key

@@ -19,8 +19,8 @@ AreEqualAlike key other rows = (i j : ℕ) → Contains rows i → Contains rows
 
 -- a number of a column is `value` if and only if its new number is `other`. If `value` or `other` is `None`, no number of the column matches
 -- the other one either
-abbrev pub StandAlike : (ℕ → ℕ) → List ℕ → Option ℕ → Option ℕ → Type 0
-StandAlike f column other value = (a : ℕ) → Contains column a → (Some (f a) ≡ other) ↔ (Some a ≡ value)
+abbrev pub MatchAlike : (ℕ → ℕ) → List ℕ → Option ℕ → Option ℕ → Type 0
+MatchAlike f column other value = (a : ℕ) → Contains column a → (Some (f a) ≡ other) ↔ (Some a ≡ value)
 
 -- no row of a column has the number, or the number is missing (`None`)
 abbrev pub IsMissing : List ℕ → Option ℕ → Type 0

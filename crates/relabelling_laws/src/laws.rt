@@ -5,10 +5,10 @@ ghost use Rattle.std.specs.List.{filter, zip};
 ghost use Rattle.degree_sequences.specs.Degrees.{degree, degree_list};
 ghost use Rattle.degree_sequences.specs.Domination.{DominatesKeys};
 ghost use Rattle.cond_stats.specs.Frequency.{frequent, remaining};
-ghost use Rattle.cond_stats.specs.Leaves.{cuts, leaf_above};
+ghost use Rattle.cond_stats.specs.Leaves.{cuts, last_leaf_where};
 ghost use Rattle.cond_stats.specs.Lists.{compressed_degrees, list_of_node, list_of_range, list_of_value, rest};
 ghost use Rattle.cond_stats.specs.Rows.{filter_values, joined_keys, keys_where};
-ghost use Rattle.relabelling_laws.specs.Relabelling.{AreEqualAlike, IsMissing, IsOneToOne, KeepsOrder, PassAlike, StandAlike};
+ghost use Rattle.relabelling_laws.specs.Relabelling.{AreEqualAlike, IsMissing, IsOneToOne, KeepsOrder, PassAlike, MatchAlike};
 
 /// A new number occurs in a column as often as the old number did. The frequent numbers of the new column are the new numbers of the old
 /// column's frequent numbers.
@@ -27,11 +27,11 @@ pub fn leaves_are_relabelled()
         → cuts other (map f column) ≡ map f (cuts at_most column) }
     ensures leaf { (at_most other : ℕ → ℕ → Bool) (f : ℕ → ℕ) (column : List ℕ) (passes other_passes : ℕ → Bool)
         → KeepsOrder at_most other f column → PassAlike passes other_passes f column
-        → leaf_above other (map f column) other_passes ≡ leaf_above at_most column passes }
+        → last_leaf_where other (map f column) other_passes ≡ last_leaf_where at_most column passes }
 {}
 
 /// The lists of a filter column and a joined column don't change if the numbers of both columns are replaced.
-pub fn lists_stay()
+pub fn lists_do_not_change()
     ensures whole { (accuracy : ℕ) (g : ℕ → ℕ) (joined : List ℕ) → IsOneToOne g joined
         → compressed_degrees accuracy (map g joined) ≡ compressed_degrees accuracy joined }
     // the list of a value that a row has
@@ -45,7 +45,7 @@ pub fn lists_stay()
         → list_of_value accuracy (zip (map f column) (map g joined)) other ≡ list_of_value accuracy (zip column joined) value }
     // the list of any value, which is `value` in the old numbers and `other` in the new numbers
     ensures any_value { (accuracy : ℕ) (f g : ℕ → ℕ) (column joined : List ℕ) (other value : Option ℕ)
-        → IsOneToOne f column → IsOneToOne g joined → StandAlike f column other value
+        → IsOneToOne f column → IsOneToOne g joined → MatchAlike f column other value
         → list_of_value accuracy (zip (map f column) (map g joined)) other ≡ list_of_value accuracy (zip column joined) value }
     ensures rest { (accuracy : ℕ) (f g : ℕ → ℕ) (column joined : List ℕ) → IsOneToOne f column → IsOneToOne g joined
         → rest accuracy (zip (map f column) (map g joined)) ≡ rest accuracy (zip column joined) }

@@ -8,10 +8,10 @@
 //! - No list changes: neither the list of all rows, nor that of a value, a value that no row has, a node or a range.
 //! - A list that dominates keys dominates all keys that are equal in the same rows.
 //!
-//! Callers cite `IsOneToOne`, `KeepsOrder`, `PassAlike`, `StandAlike` and `AreEqualAlike` (in `specs/Relabelling.antt`), and `laws`.
+//! Callers cite `IsOneToOne`, `KeepsOrder`, `PassAlike`, `MatchAlike` and `AreEqualAlike` (in `specs/Relabelling.antt`), and `laws`.
 //!
 //! ```text
-//! laws::lists_stay();
+//! laws::lists_do_not_change();
 //! // its clause `value`, where f and g are one to one on the two columns, and a row has the value v:
 //! // list_of_value k (zip (map f column) (map g joined)) (Some (f v)) ≡ list_of_value k (zip column joined) (Some v)
 //! ```

@@ -5,12 +5,12 @@ use Rattle.std.proofs.lemmas.List.{drop_more, drop_all, length-map}
 use Rattle.row_buf.specs.declared.TheConstants.{BUFFER_BYTES, KEY_BYTES, ROW_NUMBER_BYTES}
 use Rattle.row_buf.specs.Rows.{Rows, capacity}
 use Rattle.link_index.specs.Bytes.{chains_bytes, forest_bytes}
-use Rattle.link_index.specs.Places.{Loaded}
+use Rattle.link_index.specs.Places.{ChainsView}
 use Rattle.link_index.specs.Forest.{Level, capacities, empty_levels}
 use Rattle.reserve_plan.specs.declared.reserved.Reserved.{Reserved}
 use Rattle.reserve_plan.specs.declared.reserved.TheConstants.{CHAINS_BYTES}
 use Rattle.reserve_plan.specs.Memory.{lists_bytes, row_chain_bytes, rooms_bytes}
-use Rattle.reserve_plan.specs.Rooms.{buffer_for, chains_for, greatest, rooms, HasRooms, IsRoomFor, IsRoomForKeys, IsRoomForLevel}
+use Rattle.reserve_plan.specs.Rooms.{buffer_with_room_for, chains_with_room_for, greatest, rooms, HasRooms, IsRoomFor, IsRoomForKeys, IsRoomForLevel}
 
 -- ---- two lists whose elements are related pairwise
 
@@ -60,28 +60,28 @@ levels_have_room sizes levels is = subst (AllZip IsRoomForLevel sizes) (sym is) 
     each [] = tt
     each (size ∷ sizes) = (record { empty = refl; room = omega arith }, each sizes)
 
-pub chains_have_room : (lists entries : List ℕ) (chains : List Loaded) → chains ≡ map (λ entry. chains_for (get_or lists entry 0)) entries
+pub chains_have_room : (lists entries : List ℕ) (chains : List ChainsView) → chains ≡ map (λ entry. chains_with_room_for (get_or lists entry 0)) entries
     → AllZip IsRoomForKeys (map (λ entry. get_or lists entry 0) entries) chains
 chains_have_room lists entries chains is = subst (AllZip IsRoomForKeys (map (λ entry. get_or lists entry 0) entries)) (sym is) (each entries)
   where
-    each : (entries : List ℕ) → AllZip IsRoomForKeys (map (λ entry. get_or lists entry 0) entries) (map (λ entry. chains_for (get_or lists entry 0)) entries)
+    each : (entries : List ℕ) → AllZip IsRoomForKeys (map (λ entry. get_or lists entry 0) entries) (map (λ entry. chains_with_room_for (get_or lists entry 0)) entries)
     each [] = tt
     each (entry ∷ entries) = (record { empty = refl; room = omega arith; buckets = omega arith }, each entries)
 
-pub buffers_have_room : (sizes : List ℕ) (buffers : List (Rows ℕ)) → buffers ≡ map buffer_for sizes → AllZip IsRoomFor sizes buffers
+pub buffers_have_room : (sizes : List ℕ) (buffers : List (Rows ℕ)) → buffers ≡ map buffer_with_room_for sizes → AllZip IsRoomFor sizes buffers
 buffers_have_room sizes buffers is = subst (AllZip IsRoomFor sizes) (sym is) (each sizes)
   where
-    each : (sizes : List ℕ) → AllZip IsRoomFor sizes (map buffer_for sizes)
+    each : (sizes : List ℕ) → AllZip IsRoomFor sizes (map buffer_with_room_for sizes)
     each [] = tt
     each (size ∷ sizes) = (record { empty = refl; room = omega arith }, each sizes)
 
 -- ---- how many bytes the reserved buffers take
 
-buffer_capacities : (sizes : List ℕ) → map capacity (map buffer_for sizes) ≡ sizes
+buffer_capacities : (sizes : List ℕ) → map capacity (map buffer_with_room_for sizes) ≡ sizes
 buffer_capacities [] = refl
 buffer_capacities (size ∷ sizes) = let one : 0 + size ≡ size = omega arith in rw (one, buffer_capacities sizes) refl
 
-pub buffers_take : (sizes : List ℕ) (buffers : List (Rows ℕ)) (held : ℕ) → held ≡ length sizes → buffers ≡ map buffer_for sizes
+pub buffers_take : (sizes : List ℕ) (buffers : List (Rows ℕ)) (held : ℕ) → held ≡ length sizes → buffers ≡ map buffer_with_room_for sizes
     → BUFFER_BYTES * held + ROW_NUMBER_BYTES * sum (map capacity buffers) ≡ lists_bytes sizes
 buffers_take sizes buffers held count is =
     let now : map capacity buffers ≡ sizes = ap (map capacity) is ∙ buffer_capacities sizes in
@@ -91,12 +91,12 @@ level_capacities : (sizes : List ℕ) → capacities (empty_levels sizes) ≡ si
 level_capacities [] = refl
 level_capacities (size ∷ sizes) = let one : 0 + size ≡ size = omega arith in rw (one, level_capacities sizes) refl
 
-chain_bytes_of : (lists entries : List ℕ) → map chains_bytes (map (λ entry. chains_for (get_or lists entry 0)) entries) ≡ map row_chain_bytes (map (λ entry. get_or lists entry 0) entries)
+chain_bytes_of : (lists entries : List ℕ) → map chains_bytes (map (λ entry. chains_with_room_for (get_or lists entry 0)) entries) ≡ map row_chain_bytes (map (λ entry. get_or lists entry 0) entries)
 chain_bytes_of lists [] = refl
 chain_bytes_of lists (entry ∷ entries) = ap (λ (s : List ℕ). row_chain_bytes (get_or lists entry 0) ∷ s) (chain_bytes_of lists entries)
 
-pub reserved_take : (order lists sizes : List ℕ) (chains : List Loaded) (held : ℕ) (levels : List Level) (row : Rows ℕ) (keys : Rows ℕ)
-    → chains ≡ map (λ entry. chains_for (get_or lists entry 0)) (drop 1 order) → held ≡ length (drop 1 order) → levels ≡ empty_levels sizes → capacity row ≡ length order → capacity keys ≡ greatest lists
+pub reserved_take : (order lists sizes : List ℕ) (chains : List ChainsView) (held : ℕ) (levels : List Level) (row : Rows ℕ) (keys : Rows ℕ)
+    → chains ≡ map (λ entry. chains_with_room_for (get_or lists entry 0)) (drop 1 order) → held ≡ length (drop 1 order) → levels ≡ empty_levels sizes → capacity row ≡ length order → capacity keys ≡ greatest lists
     → CHAINS_BYTES * held + sum (map chains_bytes chains) + forest_bytes levels + ROW_NUMBER_BYTES * capacity row + KEY_BYTES * capacity keys ≡ rooms_bytes (rooms order lists sizes)
 reserved_take order lists sizes chains held levels row keys chains_are count levels_are row_is keys_are =
     let chained : map chains_bytes chains ≡ map row_chain_bytes (map (λ entry. get_or lists entry 0) (drop 1 order)) = ap (map chains_bytes) chains_are ∙ chain_bytes_of lists (drop 1 order) in
@@ -126,7 +126,7 @@ less_mapped ns ms (entry ∷ entries) low = (less_at ns ms entry low, less_mappe
 room_less : {T : Type 0} (n m : ℕ) (buffer : Rows T) → n ≤ m → IsRoomFor m buffer → IsRoomFor n buffer
 room_less n m buffer low has = record { empty = has.empty; room = omega (arith, low, has.room) }
 
-keys_less : (n m : ℕ) (chains : Loaded) → n ≤ m → IsRoomForKeys m chains → IsRoomForKeys n chains
+keys_less : (n m : ℕ) (chains : ChainsView) → n ≤ m → IsRoomForKeys m chains → IsRoomForKeys n chains
 keys_less n m chains low has = record { empty = has.empty; room = omega (arith, low, has.room); buckets = omega (arith, low, has.buckets) }
 
 level_less : (n m : ℕ) (level : Level) → n ≤ m → IsRoomForLevel m level → IsRoomForLevel n level

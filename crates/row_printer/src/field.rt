@@ -2,7 +2,7 @@
 ghost use Rattle.std.specs.Prelude.{◌≡◌, ◌++◌, codes};
 ghost use Rattle.std.specs.List.{list_any};
 ghost use Rattle.base_io.specs.Devices.{growth};
-ghost use Rattle.base_io.specs.Writes.{Put};
+ghost use Rattle.base_io.specs.Writes.{WroteBuffered};
 ghost use Rattle.row_printer.specs.Fields.{doubled, doubled_quote, field_text, is_special as special, lone_field_text};
 
 use base_io::{Buffer, Failed, Sink};
@@ -28,7 +28,7 @@ fn needs_quotes(field: &[u8]) -> bool
 }
 
 fn put_byte<N: Sink>(byte: u8, buffer: &mut Buffer, sink: &mut N) -> Result<(), Failed>
-    ensures { Put (growth N.taken N.faults sink.old sink.new) buffer.old buffer.new (doubled_quote byte) result }
+    ensures { WroteBuffered (growth N.taken N.faults sink.old sink.new) buffer.old buffer.new (doubled_quote byte) result }
 {
     if byte == b'"' {
         buffer.put(sink, TWO_QUOTES)
@@ -39,7 +39,7 @@ fn put_byte<N: Sink>(byte: u8, buffer: &mut Buffer, sink: &mut N) -> Result<(), 
 
 // Writes the field with each double quote doubled.
 fn put_doubled<N: Sink>(field: &[u8], buffer: &mut Buffer, sink: &mut N) -> Result<(), Failed>
-    ensures { Put (growth N.taken N.faults sink.old sink.new) buffer.old buffer.new (doubled field.now) result }
+    ensures { WroteBuffered (growth N.taken N.faults sink.old sink.new) buffer.old buffer.new (doubled field.now) result }
 {
     'bytes: for byte in field {
         put_byte(*byte, buffer, sink)?;
@@ -48,7 +48,7 @@ fn put_doubled<N: Sink>(field: &[u8], buffer: &mut Buffer, sink: &mut N) -> Resu
 }
 
 fn put_quoted<N: Sink>(field: &[u8], buffer: &mut Buffer, sink: &mut N) -> Result<(), Failed>
-    ensures { Put (growth N.taken N.faults sink.old sink.new) buffer.old buffer.new (codes "\"" ++ (doubled field.now ++ codes "\"")) result }
+    ensures { WroteBuffered (growth N.taken N.faults sink.old sink.new) buffer.old buffer.new (codes "\"" ++ (doubled field.now ++ codes "\"")) result }
 {
     buffer.put(sink, QUOTE)?;
     put_doubled(field, buffer, sink)?;
@@ -59,7 +59,7 @@ fn put_quoted<N: Sink>(field: &[u8], buffer: &mut Buffer, sink: &mut N) -> Resul
 /// double quote in the field is doubled. On `Failed`, the sink has taken a prefix of this text: what waited in the buffer, and then the
 /// field's text.
 pub fn put_field<N: Sink>(field: &[u8], buffer: &mut Buffer, sink: &mut N) -> Result<(), Failed>
-    ensures { Put (growth N.taken N.faults sink.old sink.new) buffer.old buffer.new (field_text field.now) result }
+    ensures { WroteBuffered (growth N.taken N.faults sink.old sink.new) buffer.old buffer.new (field_text field.now) result }
 {
     if needs_quotes(field) {
         put_quoted(field, buffer, sink)
@@ -69,12 +69,12 @@ pub fn put_field<N: Sink>(field: &[u8], buffer: &mut Buffer, sink: &mut N) -> Re
 }
 
 /// Writes the field of a record that has one field. An empty field is written as two double quotes, so that no record is an empty line.
-pub fn put_lone_field<N: Sink>(
+pub fn put_only_field<N: Sink>(
     field: &[u8],
     buffer: &mut Buffer,
     sink: &mut N,
 ) -> Result<(), Failed>
-    ensures { Put (growth N.taken N.faults sink.old sink.new) buffer.old buffer.new (lone_field_text field.now) result }
+    ensures { WroteBuffered (growth N.taken N.faults sink.old sink.new) buffer.old buffer.new (lone_field_text field.now) result }
 {
     match field {
         [] => buffer.put(sink, TWO_QUOTES),
@@ -84,14 +84,14 @@ pub fn put_lone_field<N: Sink>(
 
 /// Writes the comma between two fields.
 pub fn put_comma<N: Sink>(buffer: &mut Buffer, sink: &mut N) -> Result<(), Failed>
-    ensures { Put (growth N.taken N.faults sink.old sink.new) buffer.old buffer.new (codes ",") result }
+    ensures { WroteBuffered (growth N.taken N.faults sink.old sink.new) buffer.old buffer.new (codes ",") result }
 {
     buffer.put(sink, COMMA)
 }
 
 /// Writes the end of a record.
 pub fn put_record_end<N: Sink>(buffer: &mut Buffer, sink: &mut N) -> Result<(), Failed>
-    ensures { Put (growth N.taken N.faults sink.old sink.new) buffer.old buffer.new (codes "\r\n") result }
+    ensures { WroteBuffered (growth N.taken N.faults sink.old sink.new) buffer.old buffer.new (codes "\r\n") result }
 {
     buffer.put(sink, RECORD_END)
 }

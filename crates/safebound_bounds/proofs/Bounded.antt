@@ -16,25 +16,25 @@ use Rattle.tree_bounds.specs.Tables.{ChoicesAreDifferent}
 use Rattle.tree_bounds.specs.TreeBounds.{EntryBounds, HasList}
 use Rattle.bound_fold.specs.declared.lists.EntryLists.{EntryLists}
 use Rattle.bound_fold.specs.Lists.{list_of as list_held, rows_of}
-use Rattle.bound_fold.specs.Sets.{SetIsListed}
+use Rattle.bound_fold.specs.Sets.{SetHasBounds}
 use Rattle.bound_fold.proofs.TestedSets.{each_in_set, each_named}
-use Rattle.set_bounds.specs.AllSets.{bound_told, bounds_in_sets, bounds_of_sets}
+use Rattle.set_bounds.specs.AllSets.{bound_in_128_bits, bounds_in_sets, bounds_of_sets}
 use Rattle.safebound_lists.specs.declared.runs.Run.{Run}
 use Rattle.safebound_lists.specs.Runs.{AreRight, list_of}
-use Rattle.safebound_lists.specs.Written.{IsFilled}
+use Rattle.safebound_lists.specs.Written.{RoomBeginsWith}
 use Rattle.entry_sets.proofs.Listing.{entry_below}
 use Rattle.safebound_bounds.specs.declared.arguments.ColumnList.{ColumnList}
 use Rattle.safebound_bounds.specs.declared.arguments.Equality.{Equality}
 use Rattle.safebound_bounds.specs.Arguments.{equality_at, is_of, list_at, runs_of}
 use Rattle.safebound_bounds.specs.Causes.{IsRight}
 use Rattle.safebound_bounds.specs.Listed.{HoldsListed}
-use Rattle.safebound_bounds.specs.InSets.{IsFull}
-use Rattle.safebound_bounds.specs.Meaning.{all_bounds, bound_in, edge_of, edges_of, fitted, fitted_if, given, known, known_in, list_if, in_64_bits, no_bound, rows_in_set, rows_met, rows_with_value}
+use Rattle.safebound_bounds.specs.InSets.{CoversRows}
+use Rattle.safebound_bounds.specs.Meaning.{all_bounds, bound_in, edge_of, edges_of, fitted, fitted_if, given_list, known, known_in, list_if, in_64_bits, no_bound, rows_in_set, joinable_rows, rows_with_value}
 use Rattle.safebound_bounds.specs.Values.{SatisfiesValues, ValuedTables, ValuesFit}
 use Rattle.safebound_bounds.proofs.Fitting.{fitted_falls, fitted_sum, right_falls}
 use Rattle.safebound_bounds.proofs.Holding.{found, rows_there}
 use Rattle.safebound_bounds.proofs.Joined.{joined_within}
-use Rattle.safebound_bounds.proofs.MetRows.{HasAtLeast, all_rows, met_at_least, met_at_most, right_in_set}
+use Rattle.safebound_bounds.proofs.JoinableRows.{HasAtLeast, all_rows, met_at_least, joinable_at_most, right_in_set}
 
 some_of : {X : Type 0} (o : Option X) (x : X) → o ≡ Some x → IsSome o
 some_of o x e = rw e refl
@@ -86,7 +86,7 @@ module _ (rows : List ℕ) (equalities : List Equality) (lists : List ColumnList
         h (equality_at equalities k).right_entry (equality_at equalities k).right_column (right.equalities_right.each k here).right (right.listed k here).right,
       )
 
-  pub all_listed : (held : EntryLists) → HoldsListed rows (length rows) lists runs held → SetIsListed held (edges_of equalities) (2 ^ length rows - 1)
+  pub all_listed : (held : EntryLists) → HoldsListed rows (length rows) lists runs held → SetHasBounds held (edges_of equalities) (2 ^ length rows - 1)
   all_listed held h = record {
     rows = each_in_set (λ k. IsSome (rows_of held k)) (2 ^ length rows - 1) (λ k low has.
         some_of (rows_of held k) (get_or rows k 0) (rows_there rows (length rows) lists runs held h k
@@ -119,7 +119,7 @@ module _ (rows : List ℕ) (equalities : List Equality) (lists : List ColumnList
 -- ---- no bound is too low
 
 module _ (rows : List ℕ) (equalities : List Equality) (lists : List ColumnList) (runs : List Run) (right : IsRight rows equalities lists runs) where
-  pub set_within : (subset : ℕ) (tables : ValuedTables) → ValuesFit rows (given lists runs) tables (edges_of equalities) subset → (choices : List (ℕ → ℕ))
+  pub set_within : (subset : ℕ) (tables : ValuedTables) → ValuesFit rows (given_list lists runs) tables (edges_of equalities) subset → (choices : List (ℕ → ℕ))
       → AllByRecursion (SatisfiesValues tables (entries_of_set subset) (equalities_within subset (edges_of equalities))) choices
       → ChoicesAreDifferent (entries_of_set subset) choices → length choices ≤ bound_of_set (known_in rows lists runs (edges_of equalities) subset) (edges_of equalities) subset
   set_within subset tables fit choices satisfy differ =
@@ -142,15 +142,15 @@ told_narrowed b es fs n bounds like is =
     ∙ ap (λ (x : List Edge). all_bounds b x n) like
 
 pub how_many : (b : ℕ → EntryBounds) (es : List Edge) (n : ℕ) (bounds : List ℕ) → bounds ≡ bounds_in_sets b es n → length bounds ≡ 2 ^ n
-how_many b es n bounds is = ap length is ∙ length-map-range_with_len (λ (subset : ℕ). bound_told (b subset) es subset) 0 (2 ^ n)
+how_many b es n bounds is = ap length is ∙ length-map-range_with_len (λ (subset : ℕ). bound_in_128_bits (b subset) es subset) 0 (2 ^ n)
 
 pub whole_filled : (b : ℕ → EntryBounds) (es fs : List Edge) (n : ℕ) (told bounds old new : List ℕ) (count : ℕ) → es ≡ fs → told ≡ bounds_in_sets b es n → bounds ≡ told
-    → count ≡ length told → IsFilled (map in_64_bits bounds) old new (length bounds) → IsFilled (all_bounds b fs n) old new count
+    → count ≡ length told → RoomBeginsWith (map in_64_bits bounds) old new (length bounds) → RoomBeginsWith (all_bounds b fs n) old new count
 whole_filled b es fs n told bounds old new count like is same counted filled =
-    subst (λ (s : List ℕ). IsFilled s old new count) (ap (map in_64_bits) same ∙ told_narrowed b es fs n told like is)
-    (subst (IsFilled (map in_64_bits bounds) old new) (ap length same ∙ sym counted) filled)
+    subst (λ (s : List ℕ). RoomBeginsWith s old new count) (ap (map in_64_bits) same ∙ told_narrowed b es fs n told like is)
+    (subst (RoomBeginsWith (map in_64_bits bounds) old new) (ap length same ∙ sym counted) filled)
 
-pub one_narrowed : (b : ℕ → EntryBounds) (es fs : List Edge) (subset bound result : ℕ) → es ≡ fs → bound ≡ bound_told (b subset) es subset → result ≡ in_64_bits bound
+pub one_narrowed : (b : ℕ → EntryBounds) (es fs : List Edge) (subset bound result : ℕ) → es ≡ fs → bound ≡ bound_in_128_bits (b subset) es subset → result ≡ in_64_bits bound
     → result ≡ bound_in b fs subset
 one_narrowed b es fs subset bound result like is told =
     let same : in_64_bits (saturated (bound_of_set (b subset) es subset)) ≡ in_64_bits (bound_of_set (b subset) es subset) = omega arith in
@@ -162,7 +162,7 @@ either_told n bound told low is = elim (cases_lt bound (2 ^ 64 - 1)) [
   | inr large ↦ inr (omega (arith, is, large))
 ]
 
-pub told_in_room : (b : ℕ → EntryBounds) (es : List Edge) (n : ℕ) (old new : List ℕ) (count : ℕ) → IsFilled (all_bounds b es n) old new count → (subset : ℕ) → subset < 2 ^ n
+pub told_in_room : (b : ℕ → EntryBounds) (es : List Edge) (n : ℕ) (old new : List ℕ) (count : ℕ) → RoomBeginsWith (all_bounds b es n) old new count → (subset : ℕ) → subset < 2 ^ n
     → get_or new subset 0 ≡ bound_in b es subset
 told_in_room b es n old new count filled subset fits =
     ap (λ (s : List ℕ). get_or s subset 0) filled.filled
@@ -176,8 +176,8 @@ told_in_room b es n old new count filled subset fits =
 
 module _ (rows : List ℕ) (equalities : List Equality) (lists : List ColumnList) (runs : List Run) (right : IsRight rows equalities lists runs) where
   pub room_never_under : (old new : List ℕ) (count : ℕ)
-      → IsFilled (all_bounds (known_in rows lists runs (edges_of equalities)) (edges_of equalities) (length rows)) old new count
-      → (subset : ℕ) → subset < 2 ^ length rows → (tables : ValuedTables) → ValuesFit rows (given lists runs) tables (edges_of equalities) subset → (choices : List (ℕ → ℕ))
+      → RoomBeginsWith (all_bounds (known_in rows lists runs (edges_of equalities)) (edges_of equalities) (length rows)) old new count
+      → (subset : ℕ) → subset < 2 ^ length rows → (tables : ValuedTables) → ValuesFit rows (given_list lists runs) tables (edges_of equalities) subset → (choices : List (ℕ → ℕ))
       → AllByRecursion (SatisfiesValues tables (entries_of_set subset) (equalities_within subset (edges_of equalities))) choices
       → ChoicesAreDifferent (entries_of_set subset) choices → (length choices ≤ get_or new subset 0) ⊎ (get_or new subset 0 ≡ no_bound)
   room_never_under old new count filled subset fits tables fit choices satisfy differ =
@@ -186,15 +186,15 @@ module _ (rows : List ℕ) (equalities : List Equality) (lists : List ColumnList
       (told_in_room (known_in rows lists runs (edges_of equalities)) (edges_of equalities) (length rows) old new count filled subset fits)
 
   pub room_told : {E : Type 0} (old new : List ℕ) (r : Result ℕ E)
-      → IfOk r (IsFilled (all_bounds (known_in rows lists runs (edges_of equalities)) (edges_of equalities) (length rows)) old new)
-      → OnOk r ((subset : ℕ) → subset < 2 ^ length rows → (tables : ValuedTables) → ValuesFit rows (given lists runs) tables (edges_of equalities) subset → (choices : List (ℕ → ℕ))
+      → IfOk r (RoomBeginsWith (all_bounds (known_in rows lists runs (edges_of equalities)) (edges_of equalities) (length rows)) old new)
+      → OnOk r ((subset : ℕ) → subset < 2 ^ length rows → (tables : ValuedTables) → ValuesFit rows (given_list lists runs) tables (edges_of equalities) subset → (choices : List (ℕ → ℕ))
       → AllByRecursion (SatisfiesValues tables (entries_of_set subset) (equalities_within subset (edges_of equalities))) choices
       → ChoicesAreDifferent (entries_of_set subset) choices → (length choices ≤ get_or new subset 0) ⊎ (get_or new subset 0 ≡ no_bound))
   room_told old new (Ok count) filled = room_never_under old new count filled
   room_told old new (Err e) filled = tt
 
   pub bound_never_under : (subset bound : ℕ) → bound ≡ bound_in (known_in rows lists runs (edges_of equalities)) (edges_of equalities) subset
-      → (tables : ValuedTables) → ValuesFit rows (given lists runs) tables (edges_of equalities) subset → (choices : List (ℕ → ℕ))
+      → (tables : ValuedTables) → ValuesFit rows (given_list lists runs) tables (edges_of equalities) subset → (choices : List (ℕ → ℕ))
       → AllByRecursion (SatisfiesValues tables (entries_of_set subset) (equalities_within subset (edges_of equalities))) choices
       → ChoicesAreDifferent (entries_of_set subset) choices → (length choices ≤ bound) ⊎ (bound ≡ no_bound)
   bound_never_under subset bound is tables fit choices satisfy differ =
@@ -204,23 +204,23 @@ module _ (rows : List ℕ) (equalities : List Equality) (lists : List ColumnList
 -- ---- if the sum of every list is at least its entry's row bound, row bounds and lists are the same in every set
 
 module _ (rows : List ℕ) (equalities : List Equality) (lists : List ColumnList) (runs : List Run) (right : IsRight rows equalities lists runs)
-    (full : (i : ℕ) → i < length lists → IsFull rows runs (list_at lists i)) where
+    (full : (i : ℕ) → i < length lists → CoversRows rows runs (list_at lists i)) where
   column_full : (entry column : ℕ) → list_any (is_of entry column) lists ≡ true → get_or rows entry 0 ≤ rows_with_value lists runs (record { entry = entry; column = column })
   column_full entry column any =
       let l = given_right rows equalities lists runs right entry column any in
-      let found : IsFull rows runs l.0 × (is_of entry column l.0 ≡ true) = found_at entry column lists (IsFull rows runs) full l.0 l.1 in
+      let found : CoversRows rows runs l.0 × (is_of entry column l.0 ≡ true) = found_at entry column lists (CoversRows rows runs) full l.0 l.1 in
       let same : l.0.entry ≡ entry = eqb-true l.0.entry entry (and_parts (eqb l.0.entry entry) (eqb l.0.column column) found.1).0 in
-      let whole : sum (unwrap_or (given lists runs entry column) []) ≡ sum (list_of (runs_of runs l.0)) = ap (λ (o : Option ColumnList). sum (unwrap_or (list_if runs o) [])) l.1 in
+      let whole : sum (unwrap_or (given_list lists runs entry column) []) ≡ sum (list_of (runs_of runs l.0)) = ap (λ (o : Option ColumnList). sum (unwrap_or (list_if runs o) [])) l.1 in
       omega (arith, whole, found.0, ap (λ (k : ℕ). get_or rows k 0) same)
 
   pub all_keep_rows : (subset : ℕ) → known_in rows lists runs (edges_of equalities) subset ≡ known rows lists runs
   all_keep_rows subset = ap (λ (s : List ℕ). known s lists runs) (all_rows rows lists runs (edges_of equalities) subset keeps)
     where
-      keeps : (entry : ℕ) → entry < length rows → rows_met lists runs entry (equalities_within subset (edges_of equalities)) (get_or rows entry 0) ≡ get_or rows entry 0
+      keeps : (entry : ℕ) → entry < length rows → joinable_rows lists runs entry (equalities_within subset (edges_of equalities)) (get_or rows entry 0) ≡ get_or rows entry 0
       keeps entry low =
           omega (
             arith,
-            met_at_most lists runs entry (equalities_within subset (edges_of equalities)) (get_or rows entry 0),
+            joinable_at_most lists runs entry (equalities_within subset (edges_of equalities)) (get_or rows entry 0),
             met_at_least lists runs entry (equalities_within subset (edges_of equalities)) (get_or rows entry 0) (get_or rows entry 0) (omega arith)
                 (each_named (λ e c. HasAtLeast lists runs entry (get_or rows entry 0) (record { entry = e; column = c })) subset (edges_of equalities) (λ k d low joins.
                 both_listed rows equalities lists runs right (λ e c. HasAtLeast lists runs entry (get_or rows entry 0) (record { entry = e; column = c }))

@@ -4,9 +4,9 @@ use Rattle.std.specs.List.{AllByRecursion}
 use Rattle.std.proofs.lemmas.List.{append-nil, take_all, take_more}
 use Rattle.std.proofs.lemmas.List.Folds.{sum_by-replicate}
 use Rattle.std.proofs.lemmas.List.Sums.{sum_by-append}
-use Rattle.degree_sequences.specs.Falling.{IsFalling}
+use Rattle.degree_sequences.specs.Descending.{IsDescending}
 use Rattle.degree_sequences.specs.RunningSums.{cut_at}
-use Rattle.degree_sequences.proofs.Minima.{IsFalling-cut_at, running_sum-cut_at}
+use Rattle.degree_sequences.proofs.Minima.{IsDescending-cut_at, running_sum-cut_at}
 use Rattle.degree_sequences.proofs.RunningSums.{running_sum-past}
 use Rattle.safebound_lists.specs.declared.runs.Run.{Run}
 use Rattle.safebound_lists.specs.Runs.{AreRight, list_of, no_run, run_at}
@@ -16,7 +16,7 @@ use Rattle.safebound_bounds.specs.Meaning.{fitted}
 
 -- ---- a descending list with a run of no larger elements at its end
 
-run_falls : (n v : ℕ) → IsFalling (replicate n v)
+run_falls : (n v : ℕ) → IsDescending (replicate n v)
 run_falls zero v r = omega arith
 run_falls (suc zero) v zero = omega arith
 run_falls (suc (suc n)) v zero = omega arith
@@ -26,7 +26,7 @@ first_of_run : (n v : ℕ) → get_or (replicate n v) 0 0 ≤ v
 first_of_run zero v = omega arith
 first_of_run (suc n) v = omega arith
 
-pub falls_on : (s : List ℕ) (v n : ℕ) → IsFalling s → AllByRecursion (λ x. v ≤ x) s → IsFalling (s ++ replicate n v)
+pub falls_on : (s : List ℕ) (v n : ℕ) → IsDescending s → AllByRecursion (λ x. v ≤ x) s → IsDescending (s ++ replicate n v)
 falls_on [] v n fall all r = run_falls n v r
 falls_on (x ∷ []) v n fall all zero = omega (arith, first_of_run n v, all.0)
 falls_on (x ∷ (y ∷ s)) v n fall all zero = fall 0
@@ -34,19 +34,19 @@ falls_on (x ∷ s) v n fall all (suc r) = falls_on s v n (λ k. fall (suc k)) al
 
 -- ---- the list that right runs stand for is in descending order
 
-front_falls : (runs : List Run) → AreRight runs → (n : ℕ) → n ≤ length runs → IsFalling (list_of (take n runs))
+front_falls : (runs : List Run) → AreRight runs → (n : ℕ) → n ≤ length runs → IsDescending (list_of (take n runs))
 front_falls runs right zero low r = omega arith
 front_falls runs right (suc n) low r =
     let here : n < length runs = omega arith in
     let next : suc n ≡ n + 1 = omega arith in
-    let falls : IsFalling (list_of (take (suc n) runs)) =
-    subst IsFalling (sym (ap (λ k. list_of (take k runs)) next ∙ ap list_of (take_more runs n no_run here) ∙ list_of_more (take n runs) (run_at runs n)))
+    let falls : IsDescending (list_of (take (suc n) runs)) =
+    subst IsDescending (sym (ap (λ k. list_of (take k runs)) next ∙ ap list_of (take_more runs n no_run here) ∙ list_of_more (take n runs) (run_at runs n)))
     (falls_on (list_of (take n runs)) (run_at runs n).degree (run_at runs n).keys (front_falls runs right n (omega arith))
     (elements_at_least (run_at runs n).degree (take n runs) (right n here).falls)) in
     falls r
 
-pub right_falls : (runs : List Run) → AreRight runs → IsFalling (list_of runs)
-right_falls runs right = subst (λ (s : List Run). IsFalling (list_of s)) (take_all (length runs) runs (omega arith)) (front_falls runs right (length runs) (omega arith))
+pub right_falls : (runs : List Run) → AreRight runs → IsDescending (list_of runs)
+right_falls runs right = subst (λ (s : List Run). IsDescending (list_of s)) (take_all (length runs) runs (omega arith)) (front_falls runs right (length runs) (omega arith))
 
 -- ---- the sum and the elements of a fitted list
 
@@ -69,8 +69,8 @@ pub one_or_more : (s : List ℕ) → AllByRecursion (λ x. 0 < x) s → AllByRec
 one_or_more [] all = tt
 one_or_more (x ∷ s) all = (omega (arith, all.0), one_or_more s all.1)
 
-pub fitted_falls : (rows : ℕ) (s : List ℕ) → IsFalling s → IsFalling (fitted rows s)
-fitted_falls rows s fall = falls_on (cut_at s rows) 1 (rows - sum (cut_at s rows)) (IsFalling-cut_at s rows fall) (one_or_more (cut_at s rows) (positive-cut_at s rows fall))
+pub fitted_falls : (rows : ℕ) (s : List ℕ) → IsDescending s → IsDescending (fitted rows s)
+fitted_falls rows s fall = falls_on (cut_at s rows) 1 (rows - sum (cut_at s rows)) (IsDescending-cut_at s rows fall) (one_or_more (cut_at s rows) (positive-cut_at s rows fall))
 
 -- ---- the fitted list as the code makes it
 

@@ -5,9 +5,9 @@ use Rattle.berge_tree.specs.declared.edges.Edge.{Edge}
 use Rattle.tree_bounds.specs.TreeBounds.{EntryBounds}
 use Rattle.bound_fold.specs.declared.lists.EntryLists.{EntryLists}
 use Rattle.bound_fold.specs.Lists.{bounds_of}
-use Rattle.bound_fold.specs.Sets.{SetIsListed}
-use Rattle.set_bounds.specs.AllSets.{bound_told, bounds_in_sets, bounds_of_sets}
-use Rattle.set_bounds.specs.Parts.{LooksAtParts}
+use Rattle.bound_fold.specs.Sets.{SetHasBounds}
+use Rattle.set_bounds.specs.AllSets.{bound_in_128_bits, bounds_in_sets, bounds_of_sets}
+use Rattle.set_bounds.specs.Parts.{DependsOnPartsOnly}
 use Rattle.set_bounds.proofs.Listing.{first_listed}
 use Rattle.safebound_lists.specs.declared.refusal.Refusal.{Refusal}
 use Rattle.safebound_lists.specs.declared.refusal.Refusal.TheVariants as refusal
@@ -16,23 +16,23 @@ use Rattle.safebound_bounds.specs.declared.arguments.ColumnList.{ColumnList}
 use Rattle.safebound_bounds.specs.declared.arguments.Equality.{Equality}
 use Rattle.safebound_bounds.specs.Arguments.{list_at}
 use Rattle.safebound_bounds.specs.Causes.{IsBoundsCause, IsRight, IsSetCause, IsWithinCause}
-use Rattle.safebound_bounds.specs.InSets.{IsFull}
+use Rattle.safebound_bounds.specs.InSets.{CoversRows}
 use Rattle.safebound_bounds.specs.Listed.{HoldsListed}
 use Rattle.safebound_bounds.specs.Meaning.{edges_of, known, known_in, rows_in_set}
 use Rattle.safebound_bounds.proofs.Bounded.{all_listed, told_full}
 use Rattle.safebound_bounds.proofs.Holding.{bounds_known}
 use Rattle.safebound_bounds.proofs.InParts.{looks_at_parts}
-use Rattle.safebound_bounds.proofs.MetRows.{in_set_counted, right_in_set}
+use Rattle.safebound_bounds.proofs.JoinableRows.{in_set_counted, right_in_set}
 
 module _ (rows : List ℕ) (equalities : List Equality) (lists : List ColumnList) (runs : List Run) (right : IsRight rows equalities lists runs) where
-  pub whole_listed : (held : EntryLists) (es : List Edge) → es ≡ edges_of equalities → HoldsListed rows (length rows) lists runs held → SetIsListed held es (2 ^ length rows - 1)
+  pub whole_listed : (held : EntryLists) (es : List Edge) → es ≡ edges_of equalities → HoldsListed rows (length rows) lists runs held → SetHasBounds held es (2 ^ length rows - 1)
   whole_listed held es same holds =
-      subst (λ (fs : List Edge). SetIsListed held fs (2 ^ length rows - 1)) (sym same) (all_listed rows equalities lists runs right held holds)
+      subst (λ (fs : List Edge). SetHasBounds held fs (2 ^ length rows - 1)) (sym same) (all_listed rows equalities lists runs right held holds)
 
-  pub looks : (es : List Edge) → es ≡ edges_of equalities → LooksAtParts (known_in rows lists runs (edges_of equalities)) es
-  looks es same = subst (λ (fs : List Edge). LooksAtParts (known_in rows lists runs (edges_of equalities)) fs) (sym same) (looks_at_parts rows lists runs (edges_of equalities))
+  pub looks : (es : List Edge) → es ≡ edges_of equalities → DependsOnPartsOnly (known_in rows lists runs (edges_of equalities)) es
+  looks es same = subst (λ (fs : List Edge). DependsOnPartsOnly (known_in rows lists runs (edges_of equalities)) fs) (sym same) (looks_at_parts rows lists runs (edges_of equalities))
 
-  pub full_told : {E : Type 0} (held : EntryLists) (es : List Edge) → HoldsListed rows (length rows) lists runs held → ((i : ℕ) → i < length lists → IsFull rows runs (list_at lists i))
+  pub full_told : {E : Type 0} (held : EntryLists) (es : List Edge) → HoldsListed rows (length rows) lists runs held → ((i : ℕ) → i < length lists → CoversRows rows runs (list_at lists i))
       → (r : Result (List ℕ) E) → IfOk r (λ bounds. bounds ≡ bounds_of_sets (bounds_of held) es (length rows))
       → IfOk r (λ bounds. bounds ≡ bounds_in_sets (known_in rows lists runs (edges_of equalities)) es (length rows))
   full_told held es holds full (Ok bounds) is =
@@ -53,16 +53,16 @@ module _ (rows : List ℕ) (equalities : List Equality) (lists : List ColumnList
     made_counted : length made ≡ length rows
     made_counted = ap length made_are ∙ in_set_counted rows lists runs (edges_of equalities) subset
 
-    pub listed_here : (held : EntryLists) → subset < 2 ^ length rows → HoldsListed made (length made) lists runs held → SetIsListed held es subset
+    pub listed_here : (held : EntryLists) → subset < 2 ^ length rows → HoldsListed made (length made) lists runs held → SetHasBounds held es subset
     listed_here held fits holds =
-        subst (λ (fs : List Edge). SetIsListed held fs subset) (sym same)
+        subst (λ (fs : List Edge). SetHasBounds held fs subset) (sym same)
         (first_listed held (edges_of equalities) (length made) subset (all_listed made equalities lists runs right_here held holds)
         (subst (λ (n : ℕ). subset < 2 ^ n) (sym made_counted) fits))
 
-    pub told_here : {E : Type 0} (held : EntryLists) → HoldsListed made (length made) lists runs held → (r : Result ℕ E) → IfOk r (λ n. n ≡ bound_told (bounds_of held) es subset)
-        → IfOk r (λ n. n ≡ bound_told (known_in rows lists runs (edges_of equalities) subset) es subset)
+    pub told_here : {E : Type 0} (held : EntryLists) → HoldsListed made (length made) lists runs held → (r : Result ℕ E) → IfOk r (λ n. n ≡ bound_in_128_bits (bounds_of held) es subset)
+        → IfOk r (λ n. n ≡ bound_in_128_bits (known_in rows lists runs (edges_of equalities) subset) es subset)
     told_here held holds (Ok n) is =
-        is ∙ ap (λ (b : EntryBounds). bound_told b es subset) (bounds_known made lists runs held holds ∙ ap (λ (s : List ℕ). known s lists runs) made_are)
+        is ∙ ap (λ (b : EntryBounds). bound_in_128_bits b es subset) (bounds_known made lists runs held holds ∙ ap (λ (s : List ℕ). known s lists runs) made_are)
     told_here held holds (Err e) is = tt
 
 -- ---- NoMemory needs no cause

@@ -13,7 +13,7 @@ use Rattle.safebound_lists.specs.Runs.{list_of}
 use Rattle.safebound_bounds.specs.declared.arguments.ColumnList.{ColumnList}
 use Rattle.safebound_bounds.specs.Arguments.{is_of, runs_of}
 use Rattle.safebound_bounds.specs.Listed.{HoldsListed}
-use Rattle.safebound_bounds.specs.Meaning.{fitted, fitted_if, given, known, list_if}
+use Rattle.safebound_bounds.specs.Meaning.{fitted, fitted_if, given_list, known, list_if}
 
 -- ---- adding the row bounds
 
@@ -105,7 +105,7 @@ module _ (rows : List ℕ) (n : ℕ) (lists : List ColumnList) (runs : List Run)
   }
     where
       Held : ℕ → ℕ → Type 0
-      Held entry column = list_held new entry column ≡ option_map (fitted (get_or rows entry 0)) (given (lists ++ x ∷ []) runs entry column)
+      Held entry column = list_held new entry column ≡ option_map (fitted (get_or rows entry 0)) (given_list (lists ++ x ∷ []) runs entry column)
 
       here : Held x.entry x.column
       here =
@@ -147,6 +147,6 @@ bounds_known rows lists runs held h =
     unwrapped r None = refl
     unwrapped r (Some list) = refl
 
-    same_list : (entry column : ℕ) → unwrap_or (list_held held entry column) [] ≡ fitted_if (get_or rows entry 0) (given lists runs entry column)
+    same_list : (entry column : ℕ) → unwrap_or (list_held held entry column) [] ≡ fitted_if (get_or rows entry 0) (given_list lists runs entry column)
     same_list entry column =
-        ap (λ (o : Option (List ℕ)). unwrap_or o []) (h.columns entry column) ∙ unwrapped (get_or rows entry 0) (given lists runs entry column)
+        ap (λ (o : Option (List ℕ)). unwrap_or o []) (h.columns entry column) ∙ unwrapped (get_or rows entry 0) (given_list lists runs entry column)

@@ -10,13 +10,13 @@ use Rattle.berge_tree.specs.declared.edges.Place.{Place}
 use Rattle.entry_sets.specs.Sets.{IsWithin, has_entry}
 use Rattle.join_graph.specs.Kept.{equalities_within, joins_within}
 use Rattle.bound_fold.proofs.TestedSets.{each_in_set, each_named}
-use Rattle.set_bounds.specs.AllSets.{bound_told}
-use Rattle.set_bounds.specs.Parts.{AreUnjoined, LooksAtParts}
+use Rattle.set_bounds.specs.AllSets.{bound_in_128_bits}
+use Rattle.set_bounds.specs.Parts.{AreUnjoined, DependsOnPartsOnly}
 use Rattle.set_bounds.proofs.Listing.{joins_more}
 use Rattle.safebound_lists.specs.declared.runs.Run.{Run}
 use Rattle.safebound_bounds.specs.declared.arguments.ColumnList.{ColumnList}
-use Rattle.safebound_bounds.specs.Meaning.{fewer_at, fitted_if, given, known_in, rows_in_set, rows_met, rows_with_value}
-use Rattle.safebound_bounds.proofs.MetRows.{in_set_at, in_set_past}
+use Rattle.safebound_bounds.specs.Meaning.{at_most_with_value, fitted_if, given_list, known_in, rows_in_set, joinable_rows, rows_with_value}
+use Rattle.safebound_bounds.proofs.JoinableRows.{in_set_at, in_set_past}
 use Rattle.safebound_bounds.proofs.SameBounds.{HaveOneBound, HaveOneList, same_bound}
 
 -- ---- the row bound of an entry of a part
@@ -25,7 +25,7 @@ module _ (lists : List ColumnList) (runs : List Run) (subset part : ℕ) (within
   abbrev OnOneSide : Edge → Type 0
   OnOneSide e = has_entry part e.left.entry ≡ has_entry part e.right.entry
 
-  not_here : (p : Place) (n : ℕ) → has_entry part p.entry ≡ false → fewer_at lists runs entry p n ≡ n
+  not_here : (p : Place) (n : ℕ) → has_entry part p.entry ≡ false → at_most_with_value lists runs entry p n ≡ n
   not_here p n outside = by (eqb p.entry entry) refl
     where
       by : (t : Bool) → eqb p.entry entry ≡ t → (if t then min n (rows_with_value lists runs p) else n) ≡ n
@@ -37,19 +37,19 @@ module _ (lists : List ColumnList) (runs : List Run) (subset part : ℕ) (within
   left_out false b same none = refl
 
   one_more : (e : Edge) (own whole : List Edge) (s q : Bool) → joins_within subset e ≡ s → joins_within part e ≡ q → AllByRecursion OnOneSide (cond s (e ∷ whole) whole)
-      → (AllByRecursion OnOneSide whole → (m : ℕ) → rows_met lists runs entry own m ≡ rows_met lists runs entry whole m)
-      → (n : ℕ) → rows_met lists runs entry (cond q (e ∷ own) own) n ≡ rows_met lists runs entry (cond s (e ∷ whole) whole) n
-  one_more e own whole true true in_set in_part unjoined rest n = rest unjoined.1 (fewer_at lists runs entry e.right (fewer_at lists runs entry e.left n))
+      → (AllByRecursion OnOneSide whole → (m : ℕ) → joinable_rows lists runs entry own m ≡ joinable_rows lists runs entry whole m)
+      → (n : ℕ) → joinable_rows lists runs entry (cond q (e ∷ own) own) n ≡ joinable_rows lists runs entry (cond s (e ∷ whole) whole) n
+  one_more e own whole true true in_set in_part unjoined rest n = rest unjoined.1 (at_most_with_value lists runs entry e.right (at_most_with_value lists runs entry e.left n))
   one_more e own whole true false in_set in_part unjoined rest n =
       let left : has_entry part e.left.entry ≡ false = left_out (has_entry part e.left.entry) (has_entry part e.right.entry) unjoined.0 in_part in
       rest unjoined.1 n
-      ∙ ap (rows_met lists runs entry whole)
-      (sym (not_here e.right (fewer_at lists runs entry e.left n) (sym unjoined.0 ∙ left) ∙ not_here e.left n left))
+      ∙ ap (joinable_rows lists runs entry whole)
+      (sym (not_here e.right (at_most_with_value lists runs entry e.left n) (sym unjoined.0 ∙ left) ∙ not_here e.left n left))
   one_more e own whole false true in_set in_part unjoined rest n = absurd (false≢true (sym in_set ∙ joins_more part subset within e in_part))
   one_more e own whole false false in_set in_part unjoined rest n = rest unjoined n
 
   pub met_in_part : (es : List Edge) → AreUnjoined es subset part → (n : ℕ)
-      → rows_met lists runs entry (equalities_within part es) n ≡ rows_met lists runs entry (equalities_within subset es) n
+      → joinable_rows lists runs entry (equalities_within part es) n ≡ joinable_rows lists runs entry (equalities_within subset es) n
   met_in_part [] unjoined n = refl
   met_in_part (e ∷ es) unjoined n =
       one_more e (equalities_within part es) (equalities_within subset es) (joins_within subset e) (joins_within part e) refl refl unjoined (λ h m. met_in_part es h m) n
@@ -67,9 +67,9 @@ module _ (rows : List ℕ) (lists : List ColumnList) (runs : List Run) (es : Lis
     ]
 
     same_list : (entry column : ℕ) → has_entry part entry ≡ true → HaveOneList (known_in rows lists runs es part) (known_in rows lists runs es subset) entry column
-    same_list entry column has = ap (λ (n : ℕ). fitted_if n (given lists runs entry column)) (same_rows entry has)
+    same_list entry column has = ap (λ (n : ℕ). fitted_if n (given_list lists runs entry column)) (same_rows entry has)
 
-    same_told : bound_told (known_in rows lists runs es part) es part ≡ bound_told (known_in rows lists runs es subset) es part
+    same_told : bound_in_128_bits (known_in rows lists runs es part) es part ≡ bound_in_128_bits (known_in rows lists runs es subset) es part
     same_told =
         ap saturated
         (same_bound (known_in rows lists runs es part) (known_in rows lists runs es subset) es part
@@ -102,7 +102,7 @@ module _ (rows : List ℕ) (lists : List ColumnList) (runs : List Run) (es : Lis
         by true is k later = (one_unjoined e is k.0, later k.1)
         by false is k later = later k
 
-  pub looks_at_parts : LooksAtParts (known_in rows lists runs es) es
+  pub looks_at_parts : DependsOnPartsOnly (known_in rows lists runs es) es
   looks_at_parts subset part rest falls = (
     same_told subset part falls.within falls.unjoined,
     same_told subset rest (rest_within subset part rest falls.others) (rest_unjoined subset part rest falls.others es falls.unjoined),

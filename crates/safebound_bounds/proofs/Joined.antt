@@ -21,9 +21,9 @@ use Rattle.tree_bounds.specs.Tables.{ChoicesAreDifferent, Dominates, RowsFit, Se
 use Rattle.tree_bounds.proofs.Scanned.{scanned_within}
 use Rattle.safebound_lists.specs.declared.runs.Run.{Run}
 use Rattle.safebound_bounds.specs.declared.arguments.ColumnList.{ColumnList}
-use Rattle.safebound_bounds.specs.Meaning.{given, known_in, rows_in_set, rows_with_value}
+use Rattle.safebound_bounds.specs.Meaning.{given_list, known_in, rows_in_set, rows_with_value}
 use Rattle.safebound_bounds.specs.Values.{FitsColumn, Match, SatisfiesValues, ValuedTables, ValuesFit, present, value_of}
-use Rattle.safebound_bounds.proofs.MetRows.{HasAtLeast, in_set_at, in_set_past, met_at_least}
+use Rattle.safebound_bounds.proofs.JoinableRows.{HasAtLeast, in_set_at, in_set_past, met_at_least}
 use Rattle.safebound_bounds.proofs.WithValues.{cut_dominates, few_pass, keys_are_values, row_in}
 
 module _ (tables : ValuedTables) where
@@ -123,40 +123,40 @@ module _ (tables : ValuedTables) where
 
   -- ---- the row bounds and lists in a set fit the rows with values
 
-  module _ (rows : List ℕ) (lists : List ColumnList) (runs : List Run) (es : List Edge) (subset : ℕ) (fit : ValuesFit rows (given lists runs) tables es subset) where
+  module _ (rows : List ℕ) (lists : List ColumnList) (runs : List Run) (es : List Edge) (subset : ℕ) (fit : ValuesFit rows (given_list lists runs) tables es subset) where
     abbrev own : List Edge
     own = equalities_within subset es
 
-    abbrev tested : ℕ → List ℕ
-    tested = with_values own
+    abbrev rows_with_values : ℕ → List ℕ
+    rows_with_values = with_values own
 
     -- Let a column be one that the set's equalities name. A key is at most as frequent among the rows with values as in the column, and these rows
     -- are at most as many as the column's values.
     few_keys : (p : Place) → Contains (places_of own) p
-        → ((a : ℕ) → degree (map (key p.entry p.column) (tested p.entry)) a ≤ degree (present (tables.values p.entry p.column)) a)
-        × (length (tested p.entry) ≤ length (present (tables.values p.entry p.column)))
+        → ((a : ℕ) → degree (map (key p.entry p.column) (rows_with_values p.entry)) a ≤ degree (present (tables.values p.entry p.column)) a)
+        × (length (rows_with_values p.entry) ≤ length (present (tables.values p.entry p.column)))
     few_keys p there =
-        let fits : FitsColumn (given lists runs) tables p.entry p.column = each (λ (q : Place). FitsColumn (given lists runs) tables q.entry q.column) (places_of own) fit.columns p there in
+        let fits : FitsColumn (given_list lists runs) tables p.entry p.column = each (λ (q : Place). FitsColumn (given_list lists runs) tables q.entry q.column) (places_of own) fit.columns p there in
         let found = keys_are_values (has_values p.entry own) (key p.entry p.column) (tables.values p.entry p.column) (λ k low passes. at_place p.entry k own passes p there refl) in
         subst (λ (n : ℕ). ((a : ℕ) → degree (map (key p.entry p.column) (filter (has_values p.entry own) (range_with_len 0 n))) a
         ≤ degree (present (tables.values p.entry p.column)) a)
         × (length (filter (has_values p.entry own) (range_with_len 0 n)) ≤ length (present (tables.values p.entry p.column)))) fits.one_each found
 
-    enough : (entry : ℕ) (p : Place) → Contains (places_of own) p → HasAtLeast lists runs entry (length (tested entry)) p
+    enough : (entry : ℕ) (p : Place) → Contains (places_of own) p → HasAtLeast lists runs entry (length (rows_with_values entry)) p
     enough entry p there here =
-        let fits : FitsColumn (given lists runs) tables p.entry p.column = each (λ (q : Place). FitsColumn (given lists runs) tables q.entry q.column) (places_of own) fit.columns p there in
-        subst (λ (n : ℕ). length (tested n) ≤ rows_with_value lists runs p) here
-        (omega (arith, (few_keys p there).1, places_fit (unwrap_or (given lists runs p.entry p.column) []) (present (tables.values p.entry p.column)) fits.values))
+        let fits : FitsColumn (given_list lists runs) tables p.entry p.column = each (λ (q : Place). FitsColumn (given_list lists runs) tables q.entry q.column) (places_of own) fit.columns p there in
+        subst (λ (n : ℕ). length (rows_with_values n) ≤ rows_with_value lists runs p) here
+        (omega (arith, (few_keys p there).1, places_fit (unwrap_or (given_list lists runs p.entry p.column) []) (present (tables.values p.entry p.column)) fits.values))
 
-    rows_fit : (entry : ℕ) → tables.rows entry ≤ get_or rows entry 0 → length (tested entry) ≤ get_or (rows_in_set rows lists runs es subset) entry 0
+    rows_fit : (entry : ℕ) → tables.rows entry ≤ get_or rows entry 0 → length (rows_with_values entry) ≤ get_or (rows_in_set rows lists runs es subset) entry 0
     rows_fit entry within =
-        let few : length (tested entry) ≤ tables.rows entry = few_pass (has_values entry own) (tables.rows entry) in
+        let few : length (rows_with_values entry) ≤ tables.rows entry = few_pass (has_values entry own) (tables.rows entry) in
         elim (cases_lt entry (length rows)) [
           | inl low ↦ omega (
             arith,
             in_set_at rows lists runs es subset entry low,
-            met_at_least lists runs entry own (length (tested entry)) (get_or rows entry 0) (omega (arith, few, within))
-                (all_in (HasAtLeast lists runs entry (length (tested entry))) (places_of own) (enough entry)),
+            met_at_least lists runs entry own (length (rows_with_values entry)) (get_or rows entry 0) (omega (arith, few, within))
+                (all_in (HasAtLeast lists runs entry (length (rows_with_values entry))) (places_of own) (enough entry)),
           )
           | inr past ↦ omega (arith, in_set_past rows lists runs es subset entry past, few, within, get_or_past rows entry 0 past)
         ]
@@ -169,18 +169,18 @@ module _ (tables : ValuedTables) where
         (λ k d low joins. and_parts (has_entry subset (get_or es k d).left.entry) (has_entry subset (get_or es k d).right.entry) joins) in
         entry_at (λ entry. tables.rows entry ≤ get_or rows entry 0) subset fit.entries p.entry (each (λ (q : Place). has_entry subset q.entry ≡ true) (places_of own) inside p there)
 
-    pub fits_set : SetDominates (known_in rows lists runs es subset) (scanned tested key) es subset
+    pub fits_set : SetDominates (known_in rows lists runs es subset) (scanned rows_with_values key) es subset
     fits_set = record {
-      rows = each_in_set (RowsFit (known_in rows lists runs es subset) (scanned tested key)) subset
+      rows = each_in_set (RowsFit (known_in rows lists runs es subset) (scanned rows_with_values key)) subset
           (λ k low has. rows_fit k (entry_at (λ entry. tables.rows entry ≤ get_or rows entry 0) subset fit.entries k has));
-      columns = all_in (λ (p : Place). Dominates (known_in rows lists runs es subset) (scanned tested key) p.entry p.column) (places_of own) (λ p there.
-          let fits : FitsColumn (given lists runs) tables p.entry p.column = each (λ (q : Place). FitsColumn (given lists runs) tables q.entry q.column) (places_of own) fit.columns p there in
+      columns = all_in (λ (p : Place). Dominates (known_in rows lists runs es subset) (scanned rows_with_values key) p.entry p.column) (places_of own) (λ p there.
+          let fits : FitsColumn (given_list lists runs) tables p.entry p.column = each (λ (q : Place). FitsColumn (given_list lists runs) tables q.entry q.column) (places_of own) fit.columns p there in
           record {
-            keys = cut_dominates (map (key p.entry p.column) (tested p.entry)) (present (tables.values p.entry p.column)) (few_keys p there).0
+            keys = cut_dominates (map (key p.entry p.column) (rows_with_values p.entry)) (present (tables.values p.entry p.column)) (few_keys p there).0
                 (get_or (rows_in_set rows lists runs es subset) p.entry 0)
-                (omega (arith, length-map (tested p.entry) (key p.entry p.column), rows_fit p.entry (row_bound p there)))
-                (given lists runs p.entry p.column) fits.values;
-            key_per_row = length-map (tested p.entry) (key p.entry p.column);
+                (omega (arith, length-map (rows_with_values p.entry) (key p.entry p.column), rows_fit p.entry (row_bound p there)))
+                (given_list lists runs p.entry p.column) fits.values;
+            key_per_row = length-map (rows_with_values p.entry) (key p.entry p.column);
           });
     }
 
@@ -188,4 +188,4 @@ module _ (tables : ValuedTables) where
         → AllByRecursion (SatisfiesValues tables (entries_of_set subset) own) choices → ChoicesAreDifferent (entries_of_set subset) choices
         → length choices ≤ bound_of_set (known_in rows lists runs es subset) es subset
     joined_within listed choices satisfy differ =
-        scanned_within (known_in rows lists runs es subset) tested key es subset listed fits_set choices (are_scanned own (entries_of_set subset) choices satisfy) differ
+        scanned_within (known_in rows lists runs es subset) rows_with_values key es subset listed fits_set choices (are_scanned own (entries_of_set subset) choices satisfy) differ

@@ -1,5 +1,5 @@
 pub mod Fitting
-pub mod MetRows
+pub mod JoinableRows
 pub mod WithValues
 pub mod Joined
 pub mod SameBounds

@@ -15,11 +15,11 @@ IsRowsRightAt rows i = slice_index rows i ≤ greatest_rows
 
 -- ---- equalities
 
-abbrev pub no_equality : Equality
-no_equality = record { left_entry = 0; left_column = 0; right_entry = 0; right_column = 0 }
+abbrev pub default_equality : Equality
+default_equality = record { left_entry = 0; left_column = 0; right_entry = 0; right_column = 0 }
 
 abbrev pub equality_at : List Equality → ℕ → Equality
-equality_at equalities i = slice_index_or equalities i no_equality
+equality_at equalities i = slice_index_or equalities i default_equality
 
 -- both entries of the equality exist, and they are different
 pub record IsEqualityRight (entries : ℕ) (equality : Equality) : Type 0 where
@@ -29,11 +29,11 @@ pub record IsEqualityRight (entries : ℕ) (equality : Equality) : Type 0 where
 
 -- ---- lists
 
-abbrev pub no_list : ColumnList
-no_list = record { entry = 0; column = 0; first = 0; length = 0 }
+abbrev pub default_list : ColumnList
+default_list = record { entry = 0; column = 0; first = 0; length = 0 }
 
 abbrev pub list_at : List ColumnList → ℕ → ColumnList
-list_at lists i = slice_index_or lists i no_list
+list_at lists i = slice_index_or lists i default_list
 
 -- whether the list is that of this column
 abbrev pub is_of : ℕ → ℕ → ColumnList → Bool
@@ -44,18 +44,18 @@ abbrev pub no_values : ℕ
 no_values = 2 ^ 64 - 1
 
 -- the runs of a list exist. If the list has no runs, its field `first` says that no row has a value in the column
-pub record AreRunsThere (runs : ℕ) (list : ColumnList) : Type 0 where
+pub record RunsExist (runs : ℕ) (list : ColumnList) : Type 0 where
   pub there : 0 < list.length → list.first + list.length ≤ runs
   pub marked : list.length ≡ 0 → list.first ≡ no_values
 
 -- the list's entry exists, its runs exist, and no earlier list is that of the same column
 pub record IsListRight (entries runs : ℕ) (before : List ColumnList) (list : ColumnList) : Type 0 where
   pub entry : list.entry < entries
-  pub runs_there : AreRunsThere runs list
+  pub runs_there : RunsExist runs list
   pub once : list_any (is_of list.entry list.column) before ≡ false
 
-abbrev pub IsRightListAt : ℕ → ℕ → List ColumnList → ℕ → Type 0
-IsRightListAt entries runs lists i = IsListRight entries runs (take i lists) (list_at lists i)
+abbrev pub IsListRightAt : ℕ → ℕ → List ColumnList → ℕ → Type 0
+IsListRightAt entries runs lists i = IsListRight entries runs (take i lists) (list_at lists i)
 
 -- ---- runs
 

@@ -10,7 +10,7 @@ use Rattle.safebound_bounds.specs.declared.arguments.ColumnList.{ColumnList}
 use Rattle.safebound_bounds.specs.declared.arguments.Equality.{Equality}
 use Rattle.safebound_bounds.specs.Meaning.{edges_of, in_64_bits}
 use Rattle.safebound_bounds.specs.Work.{work_of}
-use Rattle.safebound_bounds.specs.Arguments.{ColumnsHaveLists, AreRunsRightAt, IsEqualityRight, IsRightListAt, IsRowsRightAt, IsWrongRun, equality_at}
+use Rattle.safebound_bounds.specs.Arguments.{ColumnsHaveLists, AreRunsRightAt, IsEqualityRight, IsListRightAt, IsRowsRightAt, IsWrongRun, equality_at}
 
 -- there are 1 to 12 entries, each with a row bound that is right
 pub record AreRowsRight (rows : List ℕ) : Type 0 where
@@ -25,7 +25,7 @@ pub record AreEqualitiesRight (entries : ℕ) (equalities : List Equality) : Typ
 
 -- each list is right, apart from its runs
 abbrev pub AreListsRight : ℕ → ℕ → List ColumnList → Type 0
-AreListsRight entries runs lists = (i : ℕ) → i < length lists → IsRightListAt entries runs lists i
+AreListsRight entries runs lists = (i : ℕ) → i < length lists → IsListRightAt entries runs lists i
 
 -- the runs of each list are right
 abbrev pub AreRunsRight : List ColumnList → List Run → Type 0
@@ -52,7 +52,7 @@ IsBoundsCause rows equalities lists runs room (refusal.Equality place) =
     × IsFirstWrong (λ i. IsEqualityRight (length rows) (equality_at equalities i)) (length equalities) place
 IsBoundsCause rows equalities lists runs room (refusal.List place) =
     AreRowsRight rows × AreEqualitiesRight (length rows) equalities
-    × IsFirstWrong (IsRightListAt (length rows) (length runs) lists) (length lists) place
+    × IsFirstWrong (IsListRightAt (length rows) (length runs) lists) (length lists) place
 IsBoundsCause rows equalities lists runs room (refusal.Run place) =
     AreRowsRight rows × AreEqualitiesRight (length rows) equalities × AreListsRight (length rows) (length runs) lists
     × IsWrongRun lists runs place

@@ -22,5 +22,5 @@ abbrev pub known_by : Given → ℕ → EntryBounds
 known_by given subset = known_in given.rows.now given.lists.now given.runs.now (edges_of given.equalities.now) subset
 
 -- the sum of a list is at least its entry's row bound
-abbrev pub IsFull : List ℕ → List Run → ColumnList → Type 0
-IsFull rows runs list = slice_index rows list.entry ≤ sum (list_of (runs_of runs list))
+abbrev pub CoversRows : List ℕ → List Run → ColumnList → Type 0
+CoversRows rows runs list = slice_index rows list.entry ≤ sum (list_of (runs_of runs list))

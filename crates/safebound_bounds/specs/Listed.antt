@@ -4,9 +4,9 @@ use Rattle.bound_fold.specs.declared.lists.EntryLists.{EntryLists}
 use Rattle.bound_fold.specs.Lists.{list_of as list_held, rows_of}
 use Rattle.safebound_lists.specs.declared.runs.Run.{Run}
 use Rattle.safebound_bounds.specs.declared.arguments.ColumnList.{ColumnList}
-use Rattle.safebound_bounds.specs.Meaning.{fitted, given}
+use Rattle.safebound_bounds.specs.Meaning.{fitted, given_list}
 
 -- `held` has the row bounds of the first n entries, and the lists, each fitted to the row bound of its entry
 pub record HoldsListed (rows : List ℕ) (n : ℕ) (lists : List ColumnList) (runs : List Run) (held : EntryLists) : Type 0 where
   pub entries : (entry : ℕ) → rows_of held entry ≡ (if nat_lt entry n then Some (slice_index rows entry) else None)
-  pub columns : (entry column : ℕ) → list_held held entry column ≡ option_map (fitted (slice_index rows entry)) (given lists runs entry column)
+  pub columns : (entry column : ℕ) → list_held held entry column ≡ option_map (fitted (slice_index rows entry)) (given_list lists runs entry column)

@@ -33,8 +33,8 @@ abbrev pub list_if : List Run → Option ColumnList → Option (List ℕ)
 list_if runs None = None
 list_if runs (Some list) = Some (list_of (runs_of runs list))
 
-abbrev pub given : List ColumnList → List Run → ℕ → ℕ → Option (List ℕ)
-given lists runs entry column = list_if runs (find (is_of entry column) lists)
+abbrev pub given_list : List ColumnList → List Run → ℕ → ℕ → Option (List ℕ)
+given_list lists runs entry column = list_if runs (find (is_of entry column) lists)
 
 -- the row bounds and lists of entries with these numbers of rows
 abbrev pub fitted_if : ℕ → Option (List ℕ) → List ℕ
@@ -44,28 +44,28 @@ fitted_if rows (Some list) = fitted rows list
 abbrev pub known : List ℕ → List ColumnList → List Run → EntryBounds
 known rows lists runs = record {
   rows = λ entry. slice_index rows entry;
-  list = λ entry column. fitted_if (slice_index rows entry) (given lists runs entry column);
+  list = λ entry column. fitted_if (slice_index rows entry) (given_list lists runs entry column);
 }
 
 -- ---- row bounds and lists in a set
 
 -- how many rows of an entry have a value in a column, at most: the sum of the column's list
 abbrev pub rows_with_value : List ColumnList → List Run → Place → ℕ
-rows_with_value lists runs p = sum (unwrap_or (given lists runs p.entry p.column) [])
+rows_with_value lists runs p = sum (unwrap_or (given_list lists runs p.entry p.column) [])
 
 -- if the column at `p` is one of the entry's, the lesser of `rows` and the number of rows with a value in this column. Otherwise `rows`
-abbrev pub fewer_at : List ColumnList → List Run → ℕ → Place → ℕ → ℕ
-fewer_at lists runs entry p rows = if p.entry == entry then min rows (rows_with_value lists runs p) else rows
+abbrev pub at_most_with_value : List ColumnList → List Run → ℕ → Place → ℕ → ℕ
+at_most_with_value lists runs entry p rows = if p.entry == entry then min rows (rows_with_value lists runs p) else rows
 
 -- the least of these numbers: `rows`, and for each of the entry's columns that the equalities name, the number of rows with a value in it
-abbrev pub rows_met : List ColumnList → List Run → ℕ → List Edge → ℕ → ℕ
-rows_met lists runs entry [] rows = rows
-rows_met lists runs entry (e ∷ es) rows = rows_met lists runs entry es (fewer_at lists runs entry e.right (fewer_at lists runs entry e.left rows))
+abbrev pub joinable_rows : List ColumnList → List Run → ℕ → List Edge → ℕ → ℕ
+joinable_rows lists runs entry [] rows = rows
+joinable_rows lists runs entry (e ∷ es) rows = joinable_rows lists runs entry es (at_most_with_value lists runs entry e.right (at_most_with_value lists runs entry e.left rows))
 
 -- for each entry, how many of its rows the equalities of a set can join at most. A row without a value matches no row
 abbrev pub rows_in_set : List ℕ → List ColumnList → List Run → List Edge → ℕ → List ℕ
 rows_in_set rows lists runs es subset =
-    map (λ entry. rows_met lists runs entry (equalities_within subset es) (slice_index rows entry)) (range_with_len 0 (length rows))
+    map (λ entry. joinable_rows lists runs entry (equalities_within subset es) (slice_index rows entry)) (range_with_len 0 (length rows))
 
 -- the row bounds and lists of the entries in a set: the rows that the set's equalities can join, and lists that are fitted to these numbers of rows
 abbrev pub known_in : List ℕ → List ColumnList → List Run → List Edge → ℕ → EntryBounds

@@ -20,12 +20,12 @@ abbrev pub runs_joined : List ColumnList → Edge → ℕ
 runs_joined lists e = runs_listed lists e.left + runs_listed lists e.right
 
 -- the work of a turn of a set: 1, plus the runs of the set's equalities
-abbrev pub turn_work : List ColumnList → List Edge → ℕ → ℕ
-turn_work lists es subset = 1 + sum (map (runs_joined lists) (equalities_within subset es))
+abbrev pub work_of_turn : List ColumnList → List Edge → ℕ → ℕ
+work_of_turn lists es subset = 1 + sum (map (runs_joined lists) (equalities_within subset es))
 
-abbrev pub set_work : List ColumnList → List Edge → ℕ → ℕ
-set_work lists es subset = turn_count subset es * turn_work lists es subset
+abbrev pub work_of_set : List ColumnList → List Edge → ℕ → ℕ
+work_of_set lists es subset = turn_count subset es * work_of_turn lists es subset
 
 -- the work of all sets of n entries
 abbrev pub work_of : List ColumnList → List Edge → ℕ → ℕ
-work_of lists es n = sum (map (set_work lists es) (range_with_len 0 (2 ^ n)))
+work_of lists es n = sum (map (work_of_set lists es) (range_with_len 0 (2 ^ n)))

@@ -5,12 +5,12 @@ ghost use Rattle.entry_sets.specs.Sets.{entries_of_set};
 ghost use Rattle.join_graph.specs.Kept.{equalities_within};
 ghost use Rattle.tree_bounds.specs.Tables.{ChoicesAreDifferent};
 ghost use Rattle.safebound_lists.specs.declared.refusal.Refusal.TheVariants as refusal;
-ghost use Rattle.safebound_lists.specs.Written.{IsFilled};
+ghost use Rattle.safebound_lists.specs.Written.{RoomBeginsWith};
 ghost use Rattle.safebound_bounds.specs.Arguments.{list_at};
 ghost use Rattle.set_bounds.specs.AllSets.{bounds_in_sets as told_in_sets};
 ghost use Rattle.safebound_bounds.specs.Causes.{IsBoundsCause, IsRight, IsSetCause, IsWithinCause};
-ghost use Rattle.safebound_bounds.specs.InSets.{IsFull, known_by};
-ghost use Rattle.safebound_bounds.specs.Meaning.{all_bounds, bound_in, edges_of, given, known_in, in_64_bits as narrowed_of, no_bound};
+ghost use Rattle.safebound_bounds.specs.InSets.{CoversRows, known_by};
+ghost use Rattle.safebound_bounds.specs.Meaning.{all_bounds, bound_in, edges_of, given_list, known_in, in_64_bits, no_bound};
 ghost use Rattle.safebound_bounds.specs.Values.{SatisfiesValues, ValuedTables, ValuesFit};
 ghost use Rattle.safebound_bounds.specs.Work.{work_of};
 
@@ -18,7 +18,7 @@ use crate::arguments::{ColumnList, Equality};
 use crate::checking::{
     first_missing, first_wrong_equality, first_wrong_list, first_wrong_rows, first_wrong_run_of,
 };
-use crate::in_sets::{Given, are_full};
+use crate::in_sets::{Given, cover_rows};
 use crate::listing::{entry_lists, parts_of};
 use crate::work::work;
 use base_io::{NoMemory, Seq};
@@ -30,7 +30,7 @@ use set_bounds::{KnownInSets, bounds_in_sets, bounds_of_sets};
 use std::alloc::Global;
 
 // Refuses the first value that is wrong.
-fn first_wrong(
+fn check_values(
     rows: &[u64],
     equalities: &[Equality],
     lists: &[ColumnList],
@@ -77,10 +77,14 @@ fn first_wrong(
 
 // The bounds of all sets, if every list counts at least as many rows as its entry's row bound. Then row bounds and lists are the same in
 // every set.
-fn full_bounds(alloc: Global, parts: &Parts, given: &Given) -> Result<Seq<u128>, NoMemory>
+fn bounds_if_lists_cover_rows(
+    alloc: Global,
+    parts: &Parts,
+    given: &Given,
+) -> Result<Seq<u128>, NoMemory>
     requires right { IsRight given.now.rows.now given.now.equalities.now given.now.lists.now given.now.runs.now }
     requires edges { parts.now.equalities ≡ edges_of given.now.equalities.now }
-    requires full { (i : ℕ) → i < length given.now.lists.now → IsFull given.now.rows.now given.now.runs.now (list_at given.now.lists.now i) }
+    requires full { (i : ℕ) → i < length given.now.lists.now → CoversRows given.now.rows.now given.now.runs.now (list_at given.now.lists.now i) }
     ensures { IfOk result (λ bounds. bounds ≡ told_in_sets (known_by given.now) parts.now.equalities (length given.now.rows.now)) }
 {
     let entries = entry_lists(alloc, given.rows, given.lists, given.runs)?;
@@ -88,19 +92,19 @@ fn full_bounds(alloc: Global, parts: &Parts, given: &Given) -> Result<Seq<u128>,
 }
 
 // The bounds of all sets. Rows may lack values.
-fn told_bounds(alloc: Global, parts: &Parts, given: &Given) -> Result<Seq<u128>, NoMemory>
+fn bounds_of_all_sets(alloc: Global, parts: &Parts, given: &Given) -> Result<Seq<u128>, NoMemory>
     requires right { IsRight given.now.rows.now given.now.equalities.now given.now.lists.now given.now.runs.now }
     requires edges { parts.now.equalities ≡ edges_of given.now.equalities.now }
     ensures { IfOk result (λ bounds. bounds ≡ told_in_sets (known_by given.now) parts.now.equalities (length given.now.rows.now)) }
 {
-    if are_full(given.rows, given.lists, given.runs) {
-        return full_bounds(alloc, parts, given);
+    if cover_rows(given.rows, given.lists, given.runs) {
+        return bounds_if_lists_cover_rows(alloc, parts, given);
     }
     bounds_in_sets(alloc, parts, given, given.rows.len() as u8)
 }
 
-fn narrowed(bound: u128) -> u64
-    ensures { result ≡ narrowed_of bound }
+fn in_64_bits(bound: u128) -> u64
+    ensures { result ≡ in_64_bits bound }
 {
     bound.min(u128::from(u64::MAX)) as u64
 }
@@ -108,10 +112,10 @@ fn narrowed(bound: u128) -> u64
 // Writes bounds as numbers of 64 bits.
 fn write_bounds(bounds: &[u128], into: &mut [u64])
     requires { length bounds.now ≤ length into.old }
-    ensures { IsFilled (map narrowed_of bounds.now) into.old into.new (length bounds.now) }
+    ensures { RoomBeginsWith (map in_64_bits bounds.now) into.old into.new (length bounds.now) }
 {
     for (set, bound) in bounds.iter().enumerate() {
-        into[set] = narrowed(*bound);
+        into[set] = in_64_bits(*bound);
     }
 }
 
@@ -120,17 +124,17 @@ fn fill(alloc: Global, parts: &Parts, given: &Given, into: &mut [u64]) -> Result
     requires right { IsRight given.now.rows.now given.now.equalities.now given.now.lists.now given.now.runs.now }
     requires edges { parts.now.equalities ≡ edges_of given.now.equalities.now }
     requires room { 2 ^ length given.now.rows.now ≤ length into.old }
-    ensures done { IfOk result (IsFilled (all_bounds (known_by given.now) (edges_of given.now.equalities.now) (length given.now.rows.now)) into.old into.new) }
+    ensures done { IfOk result (RoomBeginsWith (all_bounds (known_by given.now) (edges_of given.now.equalities.now) (length given.now.rows.now)) into.old into.new) }
     ensures refused { IfErr result (λ why. why ≡ refusal.NoMemory) }
     ensures kept { OnErr result (into.new ≡ into.old) }
 {
-    let bounds = told_bounds(alloc, parts, given)?;
+    let bounds = bounds_of_all_sets(alloc, parts, given)?;
     write_bounds(bounds.as_slice(), into);
     Ok(bounds.len() as u64)
 }
 
 // Refuses wrong values, and a buffer that is too small for the bounds.
-fn may_write(
+fn check_room(
     rows: &[u64],
     equalities: &[Equality],
     lists: &[ColumnList],
@@ -141,7 +145,7 @@ fn may_write(
     ensures room { OnOk result (2 ^ length rows.now ≤ room) }
     ensures refused { IfErr result (IsBoundsCause rows.now equalities.now lists.now runs.now room) }
 {
-    first_wrong(rows, equalities, lists, runs)?;
+    check_values(rows, equalities, lists, runs)?;
     let sets = 1usize << rows.len();
     if room < sets {
         return Err(Refusal::Room {
@@ -165,10 +169,10 @@ pub fn bounds(
     runs: &[Run],
     into: &mut [u64],
 ) -> Result<u64, Refusal>
-    ensures done { IfOk result (IsFilled
+    ensures done { IfOk result (RoomBeginsWith
         (all_bounds (known_in rows.now lists.now runs.now (edges_of equalities.now)) (edges_of equalities.now) (length rows.now)) into.old into.new) }
     ensures never_under { OnOk result ((subset : ℕ) → subset < 2 ^ length rows.now
-        → (tables : ValuedTables) → ValuesFit rows.now (given lists.now runs.now) tables (edges_of equalities.now) subset
+        → (tables : ValuedTables) → ValuesFit rows.now (given_list lists.now runs.now) tables (edges_of equalities.now) subset
         → (choices : List (ℕ → ℕ))
         → AllByRecursion (SatisfiesValues tables (entries_of_set subset) (equalities_within subset (edges_of equalities.now))) choices
         → ChoicesAreDifferent (entries_of_set subset) choices
@@ -177,7 +181,7 @@ pub fn bounds(
     ensures refused { IfErr result (IsBoundsCause rows.now equalities.now lists.now runs.now (length into.old)) }
     ensures kept { OnErr result (into.new ≡ into.old) }
 {
-    may_write(rows, equalities, lists, runs, into.len())?;
+    check_room(rows, equalities, lists, runs, into.len())?;
     let parts = parts_of(alloc, equalities)?;
     let given = Given {
         rows,
@@ -189,7 +193,7 @@ pub fn bounds(
 }
 
 // Refuses a call whose work is above the limit.
-fn may_work(alloc: Global, parts: &Parts, given: &Given, limit: u64) -> Result<(), Refusal>
+fn check_work(alloc: Global, parts: &Parts, given: &Given, limit: u64) -> Result<(), Refusal>
     requires right { IsRight given.now.rows.now given.now.equalities.now given.now.lists.now given.now.runs.now }
     requires edges { parts.now.equalities ≡ edges_of given.now.equalities.now }
     ensures within { OnOk result (work_of given.now.lists.now (edges_of given.now.equalities.now) (length given.now.rows.now) ≤ limit) }
@@ -199,7 +203,7 @@ fn may_work(alloc: Global, parts: &Parts, given: &Given, limit: u64) -> Result<(
     let work = work(alloc, given.lists, parts, given.rows.len() as u8)?;
     if work > u128::from(limit) {
         return Err(Refusal::Work {
-            needed: narrowed(work),
+            needed: in_64_bits(work),
         });
     }
     Ok(())
@@ -215,10 +219,10 @@ pub fn bounds_within(
     limit: u64,
     into: &mut [u64],
 ) -> Result<u64, Refusal>
-    ensures done { IfOk result (IsFilled
+    ensures done { IfOk result (RoomBeginsWith
         (all_bounds (known_in rows.now lists.now runs.now (edges_of equalities.now)) (edges_of equalities.now) (length rows.now)) into.old into.new) }
     ensures never_under { OnOk result ((subset : ℕ) → subset < 2 ^ length rows.now
-        → (tables : ValuedTables) → ValuesFit rows.now (given lists.now runs.now) tables (edges_of equalities.now) subset
+        → (tables : ValuedTables) → ValuesFit rows.now (given_list lists.now runs.now) tables (edges_of equalities.now) subset
         → (choices : List (ℕ → ℕ))
         → AllByRecursion (SatisfiesValues tables (entries_of_set subset) (equalities_within subset (edges_of equalities.now))) choices
         → ChoicesAreDifferent (entries_of_set subset) choices
@@ -228,7 +232,7 @@ pub fn bounds_within(
     ensures refused { IfErr result (IsWithinCause rows.now equalities.now lists.now runs.now limit (length into.old)) }
     ensures kept { OnErr result (into.new ≡ into.old) }
 {
-    may_write(rows, equalities, lists, runs, into.len())?;
+    check_room(rows, equalities, lists, runs, into.len())?;
     let parts = parts_of(alloc, equalities)?;
     let given = Given {
         rows,
@@ -236,7 +240,7 @@ pub fn bounds_within(
         lists,
         runs,
     };
-    may_work(alloc, &parts, &given, limit)?;
+    check_work(alloc, &parts, &given, limit)?;
     fill(alloc, &parts, &given, into)
 }
 
@@ -251,7 +255,7 @@ pub fn set_bound(
 ) -> Result<u64, Refusal>
     ensures done { IfOk result (λ bound. bound ≡ bound_in (known_in rows.now lists.now runs.now (edges_of equalities.now)) (edges_of equalities.now) set) }
     ensures never_under { IfOk result (λ bound.
-        (tables : ValuedTables) → ValuesFit rows.now (given lists.now runs.now) tables (edges_of equalities.now) set
+        (tables : ValuedTables) → ValuesFit rows.now (given_list lists.now runs.now) tables (edges_of equalities.now) set
         → (choices : List (ℕ → ℕ))
         → AllByRecursion (SatisfiesValues tables (entries_of_set set) (equalities_within set (edges_of equalities.now))) choices
         → ChoicesAreDifferent (entries_of_set set) choices
@@ -260,7 +264,7 @@ pub fn set_bound(
     ensures there { OnOk result (set < 2 ^ length rows.now) }
     ensures refused { IfErr result (IsSetCause rows.now equalities.now lists.now runs.now set) }
 {
-    first_wrong(rows, equalities, lists, runs)?;
+    check_values(rows, equalities, lists, runs)?;
     if set >= 1u64 << rows.len() {
         return Err(Refusal::Set { given: set });
     }
@@ -272,5 +276,5 @@ pub fn set_bound(
         runs,
     };
     let bound = given.folded(alloc, &parts, EntrySet::from_bits(set as u16), false)?;
-    Ok(narrowed(bound))
+    Ok(in_64_bits(bound))
 }

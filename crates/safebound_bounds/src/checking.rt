@@ -2,7 +2,7 @@
 ghost use Rattle.std.specs.Prelude.{◌≡◌, ◌<◌, ◌≤◌, ◌↔◌, ℕ, find, length, IsTrue, MatchOption};
 ghost use Rattle.std.specs.List.{list_any};
 ghost use Rattle.safebound_lists.specs.First.{IsFirstWrong};
-ghost use Rattle.safebound_bounds.specs.Arguments.{ColumnsHaveLists, AreRunsRightAt, AreRunsThere, IsEqualityRight, IsListRight, IsRightListAt, IsRowsRightAt, IsWrongRun, equality_at, is_of, list_at, runs_of};
+ghost use Rattle.safebound_bounds.specs.Arguments.{ColumnsHaveLists, AreRunsRightAt, RunsExist, IsEqualityRight, IsListRight, IsListRightAt, IsRowsRightAt, IsWrongRun, equality_at, is_of, list_at, runs_of};
 
 use crate::arguments::{ColumnList, Equality, NO_VALUES};
 use berge_tree::Place;
@@ -51,7 +51,7 @@ fn is_listed(lists: &[ColumnList], entry: u32, column: u32) -> bool
 }
 
 fn are_runs_there(runs: usize, list: ColumnList) -> bool
-    ensures { IsTrue result ↔ AreRunsThere runs list }
+    ensures { IsTrue result ↔ RunsExist runs list }
 {
     if list.length == 0 {
         return list.first == NO_VALUES;
@@ -69,8 +69,8 @@ fn is_list_right(entries: usize, runs: usize, before: &[ColumnList], list: Colum
 }
 
 pub(crate) fn first_wrong_list(entries: usize, runs: usize, lists: &[ColumnList]) -> Option<usize>
-    ensures { MatchOption result ((i : ℕ) → i < length lists.now → IsRightListAt entries runs lists.now i)
-        (IsFirstWrong (IsRightListAt entries runs lists.now) (length lists.now)) }
+    ensures { MatchOption result ((i : ℕ) → i < length lists.now → IsListRightAt entries runs lists.now i)
+        (IsFirstWrong (IsListRightAt entries runs lists.now) (length lists.now)) }
 {
     for (place, list) in lists.iter().enumerate() {
         if !is_list_right(entries, runs, &lists[..place], *list) {
@@ -100,7 +100,7 @@ pub(crate) fn list_of(lists: &[ColumnList], place: Place) -> Option<ColumnList>
 
 /// The runs of a list. If no row has a value in the column, there are no runs.
 pub(crate) fn own_runs<'a>(runs: &'a [Run], list: ColumnList) -> &'a [Run]
-    requires { AreRunsThere (length runs.now) list }
+    requires { RunsExist (length runs.now) list }
     ensures { result.now ≡ runs_of runs.now list }
 {
     if list.length == 0 {
@@ -110,7 +110,7 @@ pub(crate) fn own_runs<'a>(runs: &'a [Run], list: ColumnList) -> &'a [Run]
 }
 
 pub(crate) fn first_wrong_run_of(lists: &[ColumnList], runs: &[Run]) -> Option<u64>
-    requires { (i : ℕ) → i < length lists.now → AreRunsThere (length runs.now) (list_at lists.now i) }
+    requires { (i : ℕ) → i < length lists.now → RunsExist (length runs.now) (list_at lists.now i) }
     ensures { MatchOption result ((i : ℕ) → i < length lists.now → AreRunsRightAt lists.now runs.now i) (IsWrongRun lists.now runs.now) }
 {
     for list in lists {

@@ -5,9 +5,9 @@ ghost use Rattle.std.specs.List.{sum};
 ghost use Rattle.limits.specs.Profile.{most_entries};
 ghost use Rattle.join_graph.specs.Kept.{equalities_within};
 ghost use Rattle.safebound_lists.specs.Runs.{AreRight, list_of as list_of_runs};
-ghost use Rattle.safebound_bounds.specs.Arguments.{AreRunsRightAt, AreRunsThere, IsRightListAt, list_at, runs_of};
-ghost use Rattle.safebound_bounds.specs.InSets.{AreGiven, IsFull, known_by};
-ghost use Rattle.safebound_bounds.specs.Meaning.{fewer_at as fewer_there, rows_in_set as rows_of_set, rows_met as met_by, rows_with_value as with_value};
+ghost use Rattle.safebound_bounds.specs.Arguments.{AreRunsRightAt, RunsExist, IsListRightAt, list_at, runs_of};
+ghost use Rattle.safebound_bounds.specs.InSets.{AreGiven, CoversRows, known_by};
+ghost use Rattle.safebound_bounds.specs.Meaning.{at_most_with_value as fewer_there, rows_in_set as rows_of_set, joinable_rows as joinable_by, rows_with_value as with_value};
 
 use crate::arguments::{ColumnList, Equality};
 use crate::checking::{list_of, own_runs};
@@ -43,7 +43,7 @@ fn total(runs: &[Run]) -> u64
 
 // How many rows have a value in a column, at most.
 fn rows_with_value(lists: &[ColumnList], runs: &[Run], place: Place) -> u64
-    requires there { (i : ℕ) → i < length lists.now → AreRunsThere (length runs.now) (list_at lists.now i) }
+    requires there { (i : ℕ) → i < length lists.now → RunsExist (length runs.now) (list_at lists.now i) }
     requires right { (i : ℕ) → i < length lists.now → AreRunsRightAt lists.now runs.now i }
     ensures { result ≡ with_value lists.now runs.now place }
 {
@@ -54,8 +54,8 @@ fn rows_with_value(lists: &[ColumnList], runs: &[Run], place: Place) -> u64
 }
 
 // If the column at `place` is one of the entry's, the lesser of `rows` and the number of rows with a value in this column. Otherwise `rows`.
-fn fewer_at(lists: &[ColumnList], runs: &[Run], entry: u8, place: Place, rows: u64) -> u64
-    requires there { (i : ℕ) → i < length lists.now → AreRunsThere (length runs.now) (list_at lists.now i) }
+fn at_most_with_value(lists: &[ColumnList], runs: &[Run], entry: u8, place: Place, rows: u64) -> u64
+    requires there { (i : ℕ) → i < length lists.now → RunsExist (length runs.now) (list_at lists.now i) }
     requires right { (i : ℕ) → i < length lists.now → AreRunsRightAt lists.now runs.now i }
     ensures { result ≡ fewer_there lists.now runs.now entry place rows }
 {
@@ -65,8 +65,8 @@ fn fewer_at(lists: &[ColumnList], runs: &[Run], entry: u8, place: Place, rows: u
     rows.min(rows_with_value(lists, runs, place))
 }
 
-// `rows` is a row bound of `entry`. It is lowered by `fewer_at` for both columns of the equality, if both its entries are in the set.
-fn met_at(
+// `rows` is a row bound of `entry`. It is lowered by `at_most_with_value` for both columns of the equality, if both its entries are in the set.
+fn joinable_at(
     lists: &[ColumnList],
     runs: &[Run],
     entry: u8,
@@ -74,19 +74,19 @@ fn met_at(
     edge: Edge,
     rows: u64,
 ) -> u64
-    requires there { (i : ℕ) → i < length lists.now → AreRunsThere (length runs.now) (list_at lists.now i) }
+    requires there { (i : ℕ) → i < length lists.now → RunsExist (length runs.now) (list_at lists.now i) }
     requires right { (i : ℕ) → i < length lists.now → AreRunsRightAt lists.now runs.now i }
-    ensures { result ≡ met_by lists.now runs.now entry (equalities_within subset (edge ∷ [])) rows }
+    ensures { result ≡ joinable_by lists.now runs.now entry (equalities_within subset (edge ∷ [])) rows }
 {
     if !joins_within(subset, edge) {
         return rows;
     }
-    let left = fewer_at(lists, runs, entry, edge.left, rows);
-    fewer_at(lists, runs, entry, edge.right, left)
+    let left = at_most_with_value(lists, runs, entry, edge.left, rows);
+    at_most_with_value(lists, runs, entry, edge.right, left)
 }
 
 // How many rows of an entry the equalities of a set can join, at most.
-fn rows_met(
+fn joinable_rows(
     lists: &[ColumnList],
     runs: &[Run],
     entry: u8,
@@ -94,13 +94,13 @@ fn rows_met(
     edges: &[Edge],
     most: u64,
 ) -> u64
-    requires there { (i : ℕ) → i < length lists.now → AreRunsThere (length runs.now) (list_at lists.now i) }
+    requires there { (i : ℕ) → i < length lists.now → RunsExist (length runs.now) (list_at lists.now i) }
     requires right { (i : ℕ) → i < length lists.now → AreRunsRightAt lists.now runs.now i }
-    ensures { result ≡ met_by lists.now runs.now entry (equalities_within subset edges.now) most }
+    ensures { result ≡ joinable_by lists.now runs.now entry (equalities_within subset edges.now) most }
 {
     let mut rows = most;
     for edge in edges {
-        rows = met_at(lists, runs, entry, subset, *edge, rows);
+        rows = joinable_at(lists, runs, entry, subset, *edge, rows);
     }
     rows
 }
@@ -113,14 +113,14 @@ fn rows_in_set(
     subset: EntrySet,
 ) -> Result<Seq<u64>, NoMemory>
     requires few { length given.now.rows.now ≤ most_entries }
-    requires there { (i : ℕ) → i < length given.now.lists.now → AreRunsThere (length given.now.runs.now) (list_at given.now.lists.now i) }
+    requires there { (i : ℕ) → i < length given.now.lists.now → RunsExist (length given.now.runs.now) (list_at given.now.lists.now i) }
     requires right { (i : ℕ) → i < length given.now.lists.now → AreRunsRightAt given.now.lists.now given.now.runs.now i }
     ensures { IfOk result (λ met. met ≡ rows_of_set given.now.rows.now given.now.lists.now given.now.runs.now edges.now subset) }
 {
     let mut met = Seq::new(alloc);
     for entry in 0..given.rows.len() as u8 {
         let most = given.rows[entry as usize];
-        met.push(rows_met(given.lists, given.runs, entry, subset, edges, most))?;
+        met.push(joinable_rows(given.lists, given.runs, entry, subset, edges, most))?;
     }
     Ok(met)
 }
@@ -145,24 +145,24 @@ impl KnownInSets for Given<'_> {
 }
 
 // Whether the sum of the list is at least its entry's row bound.
-fn is_full(rows: &[u64], runs: &[Run], list: ColumnList) -> bool
+fn covers_rows(rows: &[u64], runs: &[Run], list: ColumnList) -> bool
     requires entry { list.entry < length rows.now }
-    requires there { AreRunsThere (length runs.now) list }
+    requires there { RunsExist (length runs.now) list }
     requires right { AreRight (runs_of runs.now list) }
-    ensures { result ≡ true → IsFull rows.now runs.now list }
+    ensures { result ≡ true → CoversRows rows.now runs.now list }
 {
     total(own_runs(runs, list)) >= rows[list.entry as usize]
 }
 
 /// Whether the sum of every list is at least its entry's row bound, so that no row lacks a value. Then row bounds and lists are the same in
 /// every set.
-pub(crate) fn are_full(rows: &[u64], lists: &[ColumnList], runs: &[Run]) -> bool
-    requires lists { (i : ℕ) → i < length lists.now → IsRightListAt (length rows.now) (length runs.now) lists.now i }
+pub(crate) fn cover_rows(rows: &[u64], lists: &[ColumnList], runs: &[Run]) -> bool
+    requires lists { (i : ℕ) → i < length lists.now → IsListRightAt (length rows.now) (length runs.now) lists.now i }
     requires runs { (i : ℕ) → i < length lists.now → AreRunsRightAt lists.now runs.now i }
-    ensures { result ≡ true → (i : ℕ) → i < length lists.now → IsFull rows.now runs.now (list_at lists.now i) }
+    ensures { result ≡ true → (i : ℕ) → i < length lists.now → CoversRows rows.now runs.now (list_at lists.now i) }
 {
     for list in lists {
-        if !is_full(rows, runs, *list) {
+        if !covers_rows(rows, runs, *list) {
             return false;
         }
     }

@@ -3,7 +3,7 @@ ghost use Rattle.std.specs.Prelude.{◌≡◌, [], ◌<◌, ◌≤◌, ℕ, leng
 ghost use Rattle.std.specs.List.{sum};
 ghost use Rattle.limits.specs.Profile.{greatest_rows, most_entries};
 ghost use Rattle.safebound_lists.specs.Runs.{AreRight, list_of};
-ghost use Rattle.safebound_bounds.specs.Arguments.{AreRunsRightAt, IsEqualityRight, IsRightListAt, IsRowsRightAt, equality_at};
+ghost use Rattle.safebound_bounds.specs.Arguments.{AreRunsRightAt, IsEqualityRight, IsListRightAt, IsRowsRightAt, equality_at};
 ghost use Rattle.safebound_bounds.specs.Listed.{HoldsListed};
 ghost use Rattle.safebound_bounds.specs.Meaning.{edge_of as edge_of_equality, edges_of, fitted as fitted_to};
 
@@ -54,7 +54,7 @@ pub(crate) fn entry_lists(
 ) -> Result<EntryLists, NoMemory>
     requires few { length rows.now ≤ most_entries }
     requires rows { (i : ℕ) → i < length rows.now → IsRowsRightAt rows.now i }
-    requires lists { (i : ℕ) → i < length lists.now → IsRightListAt (length rows.now) (length runs.now) lists.now i }
+    requires lists { (i : ℕ) → i < length lists.now → IsListRightAt (length rows.now) (length runs.now) lists.now i }
     requires runs { (i : ℕ) → i < length lists.now → AreRunsRightAt lists.now runs.now i }
     ensures { IfOk result (λ known. HoldsListed rows.now (length rows.now) lists.now runs.now known) }
 {

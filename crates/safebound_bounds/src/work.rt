@@ -2,7 +2,7 @@
 ghost use Rattle.std.specs.Prelude.{◌≡◌, ◌+◌, ◌^◌, ◌<◌, ◌≤◌, if◌then◌else◌, ℕ, length, map, slice_index, IfOk};
 ghost use Rattle.limits.specs.Profile.{most_conjuncts, most_entries};
 ghost use Rattle.join_graph.specs.Kept.{joins_within};
-ghost use Rattle.safebound_bounds.specs.Work.{runs_joined as runs_of_both, runs_listed as runs_of_list, set_work as work_of_set, turn_work as work_of_turn, work_of};
+ghost use Rattle.safebound_bounds.specs.Work.{runs_joined as runs_of_both, runs_listed as runs_of_list, work_of_set, work_of_turn, work_of};
 
 use crate::arguments::ColumnList;
 use crate::checking::list_of;
@@ -52,7 +52,7 @@ fn with_runs(work: u128, subset: EntrySet, edge: Edge, runs: u128) -> u128
     }
 }
 
-fn turn_work(lists: &[ColumnList], edges: &[Edge], each: &[u128], subset: EntrySet) -> u128
+fn work_of_turn(lists: &[ColumnList], edges: &[Edge], each: &[u128], subset: EntrySet) -> u128
     requires many { length edges.now ≤ most_conjuncts }
     requires are { each.now ≡ map (runs_of_both lists.now) edges.now }
     requires few { (i : ℕ) → slice_index each.now i < 2 ^ 65 }
@@ -66,14 +66,14 @@ fn turn_work(lists: &[ColumnList], edges: &[Edge], each: &[u128], subset: EntryS
     work
 }
 
-fn set_work(lists: &[ColumnList], parts: &Parts, each: &[u128], subset: EntrySet) -> u128
+fn work_of_set(lists: &[ColumnList], parts: &Parts, each: &[u128], subset: EntrySet) -> u128
     requires many { length parts.now.equalities ≤ most_conjuncts }
     requires are { each.now ≡ map (runs_of_both lists.now) parts.now.equalities }
     requires few { (i : ℕ) → slice_index each.now i < 2 ^ 65 }
     ensures is { result ≡ work_of_set lists.now parts.now.equalities subset }
     ensures few { result ≤ 2 ^ 78 }
 {
-    let turn = turn_work(lists, parts.equalities.as_slice(), each, subset);
+    let turn = work_of_turn(lists, parts.equalities.as_slice(), each, subset);
     u128::from(turns(parts, subset)) * turn
 }
 
@@ -86,7 +86,7 @@ fn work_of_sets(lists: &[ColumnList], parts: &Parts, each: &[u128], entries: u8)
 {
     let mut work = 0;
     for bits in 0..1u16 << entries {
-        work += set_work(lists, parts, each, EntrySet::from_bits(bits));
+        work += work_of_set(lists, parts, each, EntrySet::from_bits(bits));
     }
     work
 }

@@ -12,7 +12,7 @@ abbrev pub join_of : ℕ → Option Join
 join_of kind = if kind == 1 then Some Left else if kind == 2 then Some Right else if kind == 3 then Some Full else if kind == 4 then Some Semi else if kind == 5 then Some Anti else None
 
 -- `kind` is the number of a join, and `bound` is the most rows that this join can have, or 2^64 - 1 if they are more
-pub record IsJoined (kind inner left right bound : ℕ) : Type 0 where
+pub record IsJoinBound (kind inner left right bound : ℕ) : Type 0 where
   pub join : Join
   pub named : join_of kind ≡ Some join
   pub exact : bound ≡ in_64_bits (most_joined join inner left right)

@@ -4,14 +4,14 @@ ghost use Rattle.std.specs.List.{AllByRecursion};
 ghost use Rattle.entry_sets.specs.Sets.{entries_of_set};
 ghost use Rattle.join_graph.specs.Kept.{equalities_within};
 ghost use Rattle.tree_bounds.specs.Tables.{ChoicesAreDifferent};
-ghost use Rattle.safebound_lists.specs.Written.{IsFilled};
+ghost use Rattle.safebound_lists.specs.Written.{RoomBeginsWith};
 ghost use Rattle.safebound_bounds.specs.Causes.{IsBoundsCause, IsRight, IsSetCause, IsWithinCause};
-ghost use Rattle.safebound_bounds.specs.Meaning.{all_bounds, bound_in, edges_of, given, known_in, no_bound};
+ghost use Rattle.safebound_bounds.specs.Meaning.{all_bounds, bound_in, edges_of, given_list, known_in, no_bound};
 ghost use Rattle.safebound_bounds.specs.Values.{SatisfiesValues, ValuedTables, ValuesFit};
 ghost use Rattle.safebound_bounds.specs.Work.{work_of};
 ghost use Rattle.safebound_c.specs.Status.{TellsAnswer, done};
 
-use crate::status::told;
+use crate::status::answer_status;
 use safebound_bounds::{ColumnList, Equality, bounds, bounds_within, set_bound};
 use safebound_lists::Run;
 use std::alloc::Global;
@@ -30,17 +30,17 @@ pub extern "C" fn safebound_bounds(
     into: &mut [u64],
     detail: &mut u64,
 ) -> u32
-    ensures exact { TellsAnswer (IsFilled (all_bounds (known_in rows.now lists.now runs.now (edges_of equalities.now)) (edges_of equalities.now) (length rows.now)) into.old into.new)
+    ensures exact { TellsAnswer (RoomBeginsWith (all_bounds (known_in rows.now lists.now runs.now (edges_of equalities.now)) (edges_of equalities.now) (length rows.now)) into.old into.new)
         (IsBoundsCause rows.now equalities.now lists.now runs.now (length into.old)) into.old into.new detail.old result detail.new }
     ensures right { result ≡ done → IsRight rows.now equalities.now lists.now runs.now }
     ensures never_under { result ≡ done → (subset : ℕ) → subset < 2 ^ length rows.now
-        → (tables : ValuedTables) → ValuesFit rows.now (given lists.now runs.now) tables (edges_of equalities.now) subset
+        → (tables : ValuedTables) → ValuesFit rows.now (given_list lists.now runs.now) tables (edges_of equalities.now) subset
         → (choices : List (ℕ → ℕ))
         → AllByRecursion (SatisfiesValues tables (entries_of_set subset) (equalities_within subset (edges_of equalities.now))) choices
         → ChoicesAreDifferent (entries_of_set subset) choices
         → (length choices ≤ slice_index into.new subset) ⊎ (slice_index into.new subset ≡ no_bound) }
 {
-    told(bounds(alloc, rows, equalities, lists, runs, into), detail)
+    answer_status(bounds(alloc, rows, equalities, lists, runs, into), detail)
 }
 
 /// Writes the bounds of all sets of entries, if their work is within a limit.
@@ -55,18 +55,18 @@ pub extern "C" fn safebound_bounds_within(
     into: &mut [u64],
     detail: &mut u64,
 ) -> u32
-    ensures exact { TellsAnswer (IsFilled (all_bounds (known_in rows.now lists.now runs.now (edges_of equalities.now)) (edges_of equalities.now) (length rows.now)) into.old into.new)
+    ensures exact { TellsAnswer (RoomBeginsWith (all_bounds (known_in rows.now lists.now runs.now (edges_of equalities.now)) (edges_of equalities.now) (length rows.now)) into.old into.new)
         (IsWithinCause rows.now equalities.now lists.now runs.now limit (length into.old)) into.old into.new detail.old result detail.new }
     ensures right { result ≡ done → IsRight rows.now equalities.now lists.now runs.now }
     ensures within { result ≡ done → work_of lists.now (edges_of equalities.now) (length rows.now) ≤ limit }
     ensures never_under { result ≡ done → (subset : ℕ) → subset < 2 ^ length rows.now
-        → (tables : ValuedTables) → ValuesFit rows.now (given lists.now runs.now) tables (edges_of equalities.now) subset
+        → (tables : ValuedTables) → ValuesFit rows.now (given_list lists.now runs.now) tables (edges_of equalities.now) subset
         → (choices : List (ℕ → ℕ))
         → AllByRecursion (SatisfiesValues tables (entries_of_set subset) (equalities_within subset (edges_of equalities.now))) choices
         → ChoicesAreDifferent (entries_of_set subset) choices
         → (length choices ≤ slice_index into.new subset) ⊎ (slice_index into.new subset ≡ no_bound) }
 {
-    told(
+    answer_status(
         bounds_within(alloc, rows, equalities, lists, runs, limit, into),
         detail,
     )
@@ -88,11 +88,11 @@ pub extern "C" fn safebound_set_bound(
     ensures right { result ≡ done → IsRight rows.now equalities.now lists.now runs.now }
     ensures there { result ≡ done → set < 2 ^ length rows.now }
     ensures never_under { result ≡ done
-        → (tables : ValuedTables) → ValuesFit rows.now (given lists.now runs.now) tables (edges_of equalities.now) set
+        → (tables : ValuedTables) → ValuesFit rows.now (given_list lists.now runs.now) tables (edges_of equalities.now) set
         → (choices : List (ℕ → ℕ))
         → AllByRecursion (SatisfiesValues tables (entries_of_set set) (equalities_within set (edges_of equalities.now))) choices
         → ChoicesAreDifferent (entries_of_set set) choices
         → (length choices ≤ detail.new) ⊎ (detail.new ≡ no_bound) }
 {
-    told(set_bound(alloc, rows, equalities, lists, runs, set), detail)
+    answer_status(set_bound(alloc, rows, equalities, lists, runs, set), detail)
 }

@@ -3,10 +3,10 @@ ghost use Rattle.std.specs.Prelude.{◌≡◌, ℕ, [], length, IfErr, IfOk, Som
 ghost use Rattle.joined_tables.specs.Bounds.{IsWithin};
 ghost use Rattle.joined_tables.specs.Tables.{Condition, Table, inner_join, joined};
 ghost use Rattle.joined_tables.specs.declared.joins.Join.{Join};
-ghost use Rattle.safebound_c.specs.Kinds.{IsJoined, IsKindCause, join_of};
+ghost use Rattle.safebound_c.specs.Kinds.{IsJoinBound, IsKindCause, join_of};
 ghost use Rattle.safebound_c.specs.Status.{TellsAnswer, done};
 
-use crate::status::told;
+use crate::status::answer_status;
 use joined_tables::{Join, joined_rows};
 use safebound_lists::Refusal;
 
@@ -36,7 +36,7 @@ fn join_named(kind: u64) -> Option<Join>
 
 // How many rows a joined table has at most, if the inner join has at most `inner` rows, and the tables have at most `left` and `right` rows.
 fn rows_of_kind(kind: u64, inner: u64, left: u64, right: u64) -> Result<u64, Refusal>
-    ensures done { IfOk result (IsJoined kind inner left right) }
+    ensures done { IfOk result (IsJoinBound kind inner left right) }
     ensures never_under { IfOk result (λ rows. (join : Join) → join_of kind ≡ Some join
         → (is_true : Condition) (left_table right_table : Table)
         → IsWithin (length (inner_join is_true left_table right_table)) inner
@@ -63,12 +63,12 @@ pub extern "C" fn safebound_joined_rows(
     right: u64,
     detail: &mut u64,
 ) -> u32
-    ensures exact { TellsAnswer {A = ℕ} (IsJoined kind inner left right) (IsKindCause kind) [] [] detail.old result detail.new }
+    ensures exact { TellsAnswer {A = ℕ} (IsJoinBound kind inner left right) (IsKindCause kind) [] [] detail.old result detail.new }
     ensures never_under { result ≡ done → (join : Join) → join_of kind ≡ Some join
         → (is_true : Condition) (left_table right_table : Table)
         → IsWithin (length (inner_join is_true left_table right_table)) inner
         → IsWithin (length left_table.rows) left → IsWithin (length right_table.rows) right
         → IsWithin (length (joined join is_true left_table right_table)) detail.new }
 {
-    told(rows_of_kind(kind, inner, left, right), detail)
+    answer_status(rows_of_kind(kind, inner, left, right), detail)
 }

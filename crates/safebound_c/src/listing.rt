@@ -6,11 +6,11 @@ ghost use Rattle.degree_sequences.specs.Compression.{compressed};
 ghost use Rattle.degree_sequences.specs.Degrees.{degree_list};
 ghost use Rattle.degree_sequences.specs.RunningSums.{cut_at, lesser};
 ghost use Rattle.safebound_lists.specs.Causes.{IsAppendCause, IsCompressCause, IsCutCause, IsDegreesCause, IsGreaterCause, IsLesserCause};
-ghost use Rattle.safebound_lists.specs.Runs.{AreBothRight, AreRight, MayBeAdded, MayBeCompressed, MayBeRaised, list_of};
+ghost use Rattle.safebound_lists.specs.Runs.{AreBothRight, AreRight, MayBeAdded, MayBeCompressed, MayTakeGreater, list_of};
 ghost use Rattle.safebound_lists.specs.Written.{IsWritten};
 ghost use Rattle.safebound_c.specs.Status.{TellsAnswer, done};
 
-use crate::status::told;
+use crate::status::answer_status;
 use safebound_lists::{Run, append, compress, cut, degrees, greater_of, lesser_of};
 use std::alloc::Global;
 
@@ -26,7 +26,7 @@ pub extern "C" fn safebound_degrees(
         into.old into.new detail.old result detail.new }
     ensures few { result ≡ done → length keys.now ≤ greatest_rows }
 {
-    told(degrees(alloc, keys, into), detail)
+    answer_status(degrees(alloc, keys, into), detail)
 }
 
 /// Writes few runs that dominate a list, by compression at an accuracy.
@@ -42,7 +42,7 @@ pub extern "C" fn safebound_compress(
         (IsCompressCause runs.now accuracy (length into.old)) into.old into.new detail.old result detail.new }
     ensures right { result ≡ done → MayBeCompressed runs.now accuracy }
 {
-    told(compress(alloc, runs, accuracy, into), detail)
+    answer_status(compress(alloc, runs, accuracy, into), detail)
 }
 
 /// Writes the rank-wise sum of two lists.
@@ -58,7 +58,7 @@ pub extern "C" fn safebound_append(
         (IsAppendCause runs.now others.now (length into.old)) into.old into.new detail.old result detail.new }
     ensures right { result ≡ done → MayBeAdded runs.now others.now }
 {
-    told(append(alloc, runs, others, into), detail)
+    answer_status(append(alloc, runs, others, into), detail)
 }
 
 /// Writes the list in which each running sum is the lesser of the two lists' running sums. If each of the two lists dominates the rows of a
@@ -75,7 +75,7 @@ pub extern "C" fn safebound_lesser(
         (IsLesserCause runs.now others.now (length into.old)) into.old into.new detail.old result detail.new }
     ensures right { result ≡ done → AreBothRight runs.now others.now }
 {
-    told(lesser_of(alloc, runs, others, into), detail)
+    answer_status(lesser_of(alloc, runs, others, into), detail)
 }
 
 /// Writes the greater of two lists, rank by rank. The result dominates the rows of each of the two lists alone: for example the rows of
@@ -90,9 +90,9 @@ pub extern "C" fn safebound_greater(
 ) -> u32
     ensures exact { TellsAnswer (IsWritten (rank_maximum (list_of runs.now) (list_of others.now)) into.old into.new)
         (IsGreaterCause runs.now others.now (length into.old)) into.old into.new detail.old result detail.new }
-    ensures right { result ≡ done → MayBeRaised runs.now others.now }
+    ensures right { result ≡ done → MayTakeGreater runs.now others.now }
 {
-    told(greater_of(alloc, runs, others, into), detail)
+    answer_status(greater_of(alloc, runs, others, into), detail)
 }
 
 /// Writes a list that is cut at `rows`. If the list dominates some rows, the cut list dominates any `rows` or fewer of these rows.
@@ -108,5 +108,5 @@ pub extern "C" fn safebound_cut(
         (IsCutCause runs.now rows (length into.old)) into.old into.new detail.old result detail.new }
     ensures right { result ≡ done → AreRight runs.now }
 {
-    told(cut(alloc, runs, rows, into), detail)
+    answer_status(cut(alloc, runs, rows, into), detail)
 }

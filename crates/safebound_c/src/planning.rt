@@ -6,7 +6,7 @@ ghost use Rattle.safebound_plans.specs.Orders.{IsBestOrder};
 ghost use Rattle.safebound_plans.specs.Trees.{IsBestTree};
 ghost use Rattle.safebound_c.specs.Status.{TellsAnswer};
 
-use crate::status::told;
+use crate::status::answer_status;
 use safebound_plans::{JoinNode, Level, order, order_memory, tree, tree_memory};
 use std::alloc::Global;
 
@@ -22,7 +22,7 @@ pub extern "C" fn safebound_order(
     ensures exact { TellsAnswer (IsBestOrder bounds.now budget into.old into.new) (IsOrderCause bounds.now budget (length into.old))
         into.old into.new detail.old result detail.new }
 {
-    told(order(alloc, bounds, budget, into), detail)
+    answer_status(order(alloc, bounds, budget, into), detail)
 }
 
 /// Writes the joins of the best join tree by the bounds of all sets.
@@ -37,7 +37,7 @@ pub extern "C" fn safebound_tree(
     ensures exact { TellsAnswer (IsBestTree bounds.now budget into.old into.new) (IsTreeCause bounds.now budget (length into.old))
         into.old into.new detail.old result detail.new }
 {
-    told(tree(alloc, bounds, budget, into), detail)
+    answer_status(tree(alloc, bounds, budget, into), detail)
 }
 
 /// The bytes that an engine's buffers take for an order: the bytes of a list of rows for each entry, of the levels, and of the chains (hash
@@ -47,7 +47,7 @@ pub extern "C" fn safebound_memory(rows: &[u64], levels: &[Level], detail: &mut 
     ensures exact { TellsAnswer (IsOrderMemory rows.now levels.now) (IsOrderMemoryCause rows.now levels.now)
         levels.now levels.now detail.old result detail.new }
 {
-    told(order_memory(rows, levels), detail)
+    answer_status(order_memory(rows, levels), detail)
 }
 
 /// The bytes that an engine's buffers take for a join tree.
@@ -56,5 +56,5 @@ pub extern "C" fn safebound_tree_memory(rows: &[u64], joins: &[JoinNode], detail
     ensures exact { TellsAnswer (IsTreeMemory rows.now joins.now) (IsTreeMemoryCause rows.now joins.now)
         joins.now joins.now detail.old result detail.new }
 {
-    told(tree_memory(rows, joins), detail)
+    answer_status(tree_memory(rows, joins), detail)
 }

@@ -117,7 +117,7 @@ fn detail_with(refusal: Refusal, old: u64) -> u64
 }
 
 /// The status of an answer (a number or a refusal). If the answer has a number, or its refusal has one, this number is written to `detail`.
-pub(crate) fn told(answer: Result<u64, Refusal>, detail: &mut u64) -> u32
+pub(crate) fn answer_status(answer: Result<u64, Refusal>, detail: &mut u64) -> u32
     ensures status { result ≡ status_of answer }
     ensures detail { detail.new ≡ detail_of answer detail.old }
 {

@@ -1,17 +1,17 @@
 //! The library's version.
 ghost use Rattle.std.specs.Prelude.{◌≡◌, length, IfErr, IfOk, OnErr};
-ghost use Rattle.safebound_lists.specs.Written.{IsFilled, NeedsRoom};
+ghost use Rattle.safebound_lists.specs.Written.{RoomBeginsWith, NeedsRoom};
 ghost use Rattle.safebound_c.specs.Status.{TellsAnswer};
 ghost use Rattle.safebound_c.specs.Version.{version_text};
 
-use crate::status::told;
+use crate::status::answer_status;
 use safebound_lists::Refusal;
 
 // The text of the version, and then a byte 0.
 const VERSION: &[u8; 6] = b"0.3.0\0";
 
 fn version(into: &mut [u8]) -> Result<u64, Refusal>
-    ensures done { IfOk result (IsFilled version_text into.old into.new) }
+    ensures done { IfOk result (RoomBeginsWith version_text into.old into.new) }
     ensures refused { IfErr result (NeedsRoom (length version_text) (length into.old)) }
     ensures kept { OnErr result (into.new ≡ into.old) }
 {
@@ -28,8 +28,8 @@ fn version(into: &mut [u8]) -> Result<u64, Refusal>
 /// Writes the library's version as a text that ends with a byte 0.
 #[unsafe(no_mangle)]
 pub extern "C" fn safebound_version(into: &mut [u8], detail: &mut u64) -> u32
-    ensures exact { TellsAnswer (IsFilled version_text into.old into.new) (NeedsRoom (length version_text) (length into.old))
+    ensures exact { TellsAnswer (RoomBeginsWith version_text into.old into.new) (NeedsRoom (length version_text) (length into.old))
         into.old into.new detail.old result detail.new }
 {
-    told(version(into), detail)
+    answer_status(version(into), detail)
 }

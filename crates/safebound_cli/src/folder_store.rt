@@ -11,7 +11,7 @@ use std::rt::Files;
 struct Opened<F> {
     name: String,
     file: F,
-    place: u64,
+    offset: u64,
 }
 
 /// A store of files whose names are relative to the working folder. Contracts say nothing about the bytes of the files. The file that was
@@ -44,7 +44,7 @@ impl<'a, R: Files + AllocGlobal> FolderStore<'a, R> {
             _ => Ok(Opened {
                 name: String::from_str(self.rt.alloc(), name)?,
                 file: fs::open(self.rt, name)?,
-                place: 0,
+                offset: 0,
             }),
         }
     }
@@ -55,11 +55,11 @@ impl<'a, R: Files + AllocGlobal> FolderStore<'a, R> {
         ensures faults { self.new.faults ≡ self.old.faults }
     {
         let mut opened = self.opened(name)?;
-        if opened.place != at {
+        if opened.offset != at {
             opened.file.seek(SeekFrom::Start(at))?;
         }
         let count = opened.file.read(into)?;
-        opened.place = at.saturating_add(count as u64);
+        opened.offset = at.saturating_add(count as u64);
         self.last = Some(opened);
         Ok(count)
     }

@@ -22,7 +22,7 @@ fn words(rt: &HostRuntime) -> io::Result<Vec<String>> {
     Ok(all)
 }
 
-fn texts<'a>(alloc: Global, words: &'a [String]) -> Result<Vec<&'a str>, AllocError> {
+fn as_str_slices<'a>(alloc: Global, words: &'a [String]) -> Result<Vec<&'a str>, AllocError> {
     let mut all = Vec::new(alloc);
     for word in words {
         all.push(word.as_str())?;
@@ -38,7 +38,7 @@ fn main(rt: HostRuntime) -> ExitCode {
         }
         Err(_) => return ExitCode::from(NO_WORDS),
     };
-    let Ok(words) = texts(rt.alloc(), words.as_slice()) else {
+    let Ok(words) = as_str_slices(rt.alloc(), words.as_slice()) else {
         return ExitCode::from(NO_MEMORY);
     };
     let mut store = FolderStore::new(&rt);

@@ -1,4 +1,4 @@
-pub mod Behind
+pub mod WithoutName
 pub mod Refusing
 pub mod SameRooms
 pub mod WordFacts

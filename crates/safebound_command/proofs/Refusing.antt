@@ -7,7 +7,7 @@ use Rattle.outcomes.specs.declared.refusal.Refusal.TheVariants as refusal
 use Rattle.outcomes.specs.declared.status.Status.{Status}
 use Rattle.outcomes.specs.declared.status.Status.TheVariants as status
 use Rattle.safebound_words.proofs.WordCounts.{too_many}
-use Rattle.safebound_top.specs.Course.{StatusTold}
+use Rattle.safebound_top.specs.Course.{StatusReported}
 use Rattle.safebound_top.specs.Faults.{status_line}
 use Rattle.safebound_top.specs.Headline.{Headline}
 use Rattle.safebound_top.proofs.Courses.{headline}
@@ -16,22 +16,22 @@ use Rattle.safebound_top.proofs.ShopCourses.{course_of_words}
 use Rattle.prepared_runs.proofs.CommandFacts.{no_command, no_shop}
 use Rattle.prepared_runs.specs.Shops.{shop_of, store_read}
 use Rattle.safebound_command.specs.Command.{read_from, stream}
-use Rattle.safebound_command.proofs.Behind.{tells_behind, with_name, without_name}
+use Rattle.safebound_command.proofs.WithoutName.{tells_behind, with_name, without_name}
 use Rattle.safebound_command.proofs.SameRooms.{prefix_name}
 
-module _ (name : ℕ) (before : List ℕ) (name' : ℕ) (text : List ℕ) (f f' : ℕ) (line : List ℕ) (told : StatusTold (with_name name before (Some (name' ∷ text)) f f') line) where
+module _ (name : ℕ) (before : List ℕ) (name' : ℕ) (text : List ℕ) (f f' : ℕ) (line : List ℕ) (told : StatusReported (with_name name before (Some (name' ∷ text)) f f') line) where
   pub told_name : name' ≡ name
   told_name = prefix_name name before (Some (name' ∷ text)) line told.tells.prefix
 
-  told_bare : StatusTold (without_name before (Some (name' ∷ text)) f f') line
+  told_bare : StatusReported (without_name before (Some (name' ∷ text)) f f') line
   told_bare = record { tells = tells_behind name before (Some (name' ∷ text)) f f' line told.tells; later = told.later }
 
-  pub told_stream : before ≡ [] → f ≡ 0 → StatusTold (stream text f') line
+  pub told_stream : before ≡ [] → f ≡ 0 → StatusReported (stream text f') line
   told_stream b g =
-      subst (λ (x : ℕ). StatusTold (without_name [] (Some (name' ∷ text)) x f') line) g
-      (subst (λ (x : List ℕ). StatusTold (without_name x (Some (name' ∷ text)) f f') line) b told_bare)
+      subst (λ (x : ℕ). StatusReported (without_name [] (Some (name' ∷ text)) x f') line) g
+      (subst (λ (x : List ℕ). StatusReported (without_name x (Some (name' ∷ text)) f f') line) b told_bare)
 
-pub refused_many : (words : List (List ℕ)) (files : Files) (s : Status) (notes : Growth) → 16 < length words → s ≡ status.Refused refusal.Usage → StatusTold notes (status_line s None None)
+pub refused_many : (words : List (List ℕ)) (files : Files) (s : Status) (notes : Growth) → 16 < length words → s ≡ status.Refused refusal.Usage → StatusReported notes (status_line s None None)
     → Headline (record { words = words; status = s; store = store_read (shop_of words) (read_from files files 0 0); out = stream [] 0; notes = notes })
 refused_many words files s notes many is told =
     let asked = sym (too_many words many) in

@@ -9,13 +9,13 @@ use Rattle.outcomes.specs.declared.status.Status.{Status}
 use Rattle.outcomes.specs.declared.status.Status.TheVariants as status
 use Rattle.safebound_top.specs.Call.{Call, CutThenTold, GrewOrWasCut}
 use Rattle.safebound_top.specs.Faults.{fault_text}
-use Rattle.safebound_top.specs.Headline.{DidNotGrow, GrewWhole, Headline, WasCut, WasCutAndTold, grown}
+use Rattle.safebound_top.specs.Headline.{DidNotGrow, GrewWhole, Headline, TookPrefix, TookPrefixThenLine, grown}
 use Rattle.prepared_runs.specs.RunOutcome.{RunOutcome}
 use Rattle.safebound_top.specs.OutcomeTexts.{notes_text as notes_of, out_text as out_of}
 use Rattle.prepared_runs.specs.Shops.{store_read}
 use Rattle.prepared_runs.specs.Verdict.{verdict}
 use Rattle.demo_files.specs.Files.{demo_files}
-use Rattle.safebound_command.proofs.Behind.{LeftByCutNotes, LeftByCutOut, LeftByDone, headline_behind, named_call, with_name, without_name}
+use Rattle.safebound_command.proofs.WithoutName.{LeftByCutNotes, LeftByCutOut, LeftByDone, headline_without_name, call_with_name, with_name, without_name}
 
 abbrev pub name_in : Option (List ℕ) → ℕ
 name_in None = 0
@@ -35,12 +35,12 @@ whole_name name before after f f' None h = ap name_in h.0
 whole_name name before after f f' (Some text) h = ap name_in h
 
 was_cut_name : (name : ℕ) (before : List ℕ) (after : Option (List ℕ)) (f f' : ℕ) (text : Option (List ℕ))
-    → WasCut (with_name name before after f f') text → name_in after ≡ name
+    → TookPrefix (with_name name before after f f') text → name_in after ≡ name
 was_cut_name name before after f f' None h = absurd h
 was_cut_name name before after f f' (Some text) h = prefix_name name before after text h
 
 was_cut_and_told_name : (name : ℕ) (before : List ℕ) (after : Option (List ℕ)) (f f' : ℕ) (text : Option (List ℕ)) (line : List ℕ)
-    → WasCutAndTold (with_name name before after f f') text line → name_in after ≡ name
+    → TookPrefixThenLine (with_name name before after f f') text line → name_in after ≡ name
 was_cut_and_told_name name before after f f' None line h = absurd h
 was_cut_and_told_name name before after f f' (Some text) line h = cut_name name before after text line h
 
@@ -57,7 +57,7 @@ module _ (words : List (List ℕ)) (store : Reading) (files : Files) (tells : st
     (out_name : ℕ) (out_before : List ℕ) (out_after : Option (List ℕ)) (o o' : ℕ)
     (notes_name : ℕ) (notes_before : List ℕ) (notes_after : Option (List ℕ)) (n n' : ℕ) where
   abbrev call_with : Status → Call
-  call_with s = named_call words s store out_name out_before out_after o o' notes_name notes_before notes_after n n'
+  call_with s = call_with_name words s store out_name out_before out_after o o' notes_name notes_before notes_after n n'
 
   abbrev Same : Type 0
   Same = (name_in out_after ≡ out_name) × (name_in notes_after ≡ notes_name)
@@ -118,7 +118,7 @@ module _ (words : List (List ℕ)) (status : Status) (shop : Option ℕ) (store 
     (out_name : ℕ) (out_before : List ℕ) (out_name' : ℕ) (out_text : List ℕ) (o o' : ℕ)
     (notes_name : ℕ) (notes_before : List ℕ) (notes_name' : ℕ) (notes_text : List ℕ) (n n' : ℕ) where
   abbrev pub told_call : Call
-  told_call = named_call words status (store_read shop store) out_name out_before (Some (out_name' ∷ out_text)) o o'
+  told_call = call_with_name words status (store_read shop store) out_name out_before (Some (out_name' ∷ out_text)) o o'
       notes_name notes_before (Some (notes_name' ∷ notes_text)) n n'
 
   pub same_rooms : (files : Files) → store.files ≡ Some files → Headline told_call → (out_name' ≡ out_name) × (notes_name' ≡ notes_name)
@@ -139,7 +139,7 @@ module _ (words : List (List ℕ)) (status : Status) (shop : Option ℕ) (store 
   pub begun_empty : out_before ≡ [] → o ≡ 0 → notes_before ≡ [] → n ≡ 0 → Headline told_call → Headline (bare [] 0 [] 0)
   begun_empty b f d g h =
       let whole : Headline (bare out_before o notes_before n)
-      = headline_behind words status (store_read shop store) out_name out_before (Some (out_name' ∷ out_text)) o o'
+      = headline_without_name words status (store_read shop store) out_name out_before (Some (out_name' ∷ out_text)) o o'
       notes_name notes_before (Some (notes_name' ∷ notes_text)) n n' h in
       subst (λ (x : ℕ). Headline (bare [] 0 [] x)) g
       (subst (λ (x : List ℕ). Headline (bare [] 0 x n)) d

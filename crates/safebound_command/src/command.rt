@@ -4,7 +4,7 @@ ghost use Rattle.slice_devices.specs.Slices.{files_of};
 ghost use Rattle.safebound_command.specs.Command.{CallEnds, written};
 
 use crate::rooms::{refuse_over, run_over};
-use crate::words::{NoWords, texts};
+use crate::words::{WordsFault, texts_of_words};
 use outcomes::NO_WORDS;
 use slice_devices::SliceFile;
 use std::alloc::Global;
@@ -25,10 +25,10 @@ pub extern "C" fn safebound_command(
 {
     *out_length = 0;
     *notes_length = 0;
-    let ended = match texts(words) {
+    let ended = match texts_of_words(words) {
         Ok(texts) => run_over(alloc, texts.as_slice(), files, out, notes),
-        Err(NoWords::TooMany) => refuse_over(words, files, out, notes),
-        Err(NoWords::NotUtf8) => return NO_WORDS as u32,
+        Err(WordsFault::TooMany) => refuse_over(words, files, out, notes),
+        Err(WordsFault::NotUtf8) => return NO_WORDS as u32,
     };
     *out_length = ended.out;
     *notes_length = ended.notes;

@@ -12,7 +12,7 @@ use std::alloc::Global;
 
 /// How a run ended: its status, how many bytes it wrote into each room, and how often it asked for a file that isn't among the files.
 #[derive(Clone, Copy, Debug)]
-pub(crate) struct Ended {
+pub(crate) struct RunResult {
     pub status: Status,
     pub out: u64,
     pub notes: u64,
@@ -26,7 +26,7 @@ pub(crate) fn run_over(
     files: &[SliceFile<'_>],
     out: &mut [u8],
     notes: &mut [u8],
-) -> Ended
+) -> RunResult
     ensures { Ran (map (λ w. w.now) words.now) (files_of files.now) (written out.new result.out) (written notes.new result.notes)
         result.misses (code_of result.status) }
 {
@@ -35,7 +35,7 @@ pub(crate) fn run_over(
     let mut notes = SliceSink::new(notes);
     let mut kept = None;
     let status = run(alloc, words, &mut store, &mut out, &mut notes, &mut kept);
-    Ended {
+    RunResult {
         status,
         out: out.used as u64,
         notes: notes.used as u64,
@@ -49,14 +49,14 @@ pub(crate) fn refuse_over(
     files: &[SliceFile<'_>],
     _out: &[u8],
     notes: &mut [u8],
-) -> Ended
+) -> RunResult
     requires { MOST_WORDS < length words.now }
     ensures { Ran (map (λ w. w.now) words.now) (files_of files.now) (written _out.now result.out) (written notes.new result.notes)
         result.misses (code_of result.status) }
 {
     let mut notes = SliceSink::new(notes);
     let status = refuse(words, files, &mut notes);
-    Ended {
+    RunResult {
         status,
         out: 0,
         notes: notes.used as u64,

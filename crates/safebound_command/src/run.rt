@@ -1,7 +1,7 @@
 //! The top call over files and buffers that the caller lends.
 ghost use Rattle.std.specs.Prelude.{◌≡◌, ◌<◌, [], None, length, map, take};
 ghost use Rattle.safebound_top.specs.Headline.{Headline};
-ghost use Rattle.prepared_runs.specs.Kept.{KeepsItsBuffers};
+ghost use Rattle.prepared_runs.specs.KeptBuffers.{KeepsItsBuffers};
 ghost use Rattle.prepared_runs.specs.Shops.{shop_of, store_read};
 ghost use Rattle.prepared_runs.specs.Verdict.{verdict};
 ghost use Rattle.slice_devices.specs.Slices.{files_of};

@@ -8,11 +8,11 @@ use Rattle.csv_tables.specs.declared.types.Database.{Database}
 use Rattle.stats_file_bounds.specs.Bounds.{scan_bounds_of_file}
 use Rattle.stats_file_exactness.proofs.Exactness.{none_missing, scans_same, sets_same}
 use Rattle.stats_file_of_query.proofs.Rules.{file_keeps}
-use Rattle.stats_file_of_query.specs.Databases.{IsOverSchema}
+use Rattle.stats_file_of_query.specs.Databases.{FitsQueryAndTexts}
 use Rattle.stats_file_of_query.specs.Files.{file_of_query}
 use Rattle.order_search.specs.declared.refusal.PlanError.{PlanError}
 use Rattle.outcomes.specs.Errors.{stats_refusal}
-use Rattle.outcomes.specs.Reads.{◌>>=◌, seen, told}
+use Rattle.outcomes.specs.Reads.{◌>>=◌, mapped, with_refusal}
 use Rattle.outcomes.specs.declared.names.FileId.TheVariants as file
 use Rattle.outcomes.specs.declared.refusal.Refusal.{Refusal}
 use Rattle.outcomes.specs.declared.refusal.Refusal.TheVariants as refusal
@@ -51,12 +51,12 @@ use Rattle.safebound_laws.proofs.Databases.{database_found}
 -- ---- a limit of memory
 
 test_alike : (test : Bool) (r : Refusal) (x y : RunOutcome) → printed x ≡ printed y
-    → seen printed (if test then Ok x else Err r) ≡ seen printed (if test then Ok y else Err r)
+    → mapped printed (if test then Ok x else Err r) ≡ mapped printed (if test then Ok y else Err r)
 test_alike true r x y same = ap (λ (p : Option (List ℕ) × Option (List ℕ)). Ok p) same
 test_alike false r x y same = refl
 
 limits_alike : (memory : Option ℕ) (bytes : ℕ) (x y : RunOutcome) → printed x ≡ printed y
-    → seen printed (within_limit memory bytes x) ≡ seen printed (within_limit memory bytes y)
+    → mapped printed (within_limit memory bytes x) ≡ mapped printed (within_limit memory bytes y)
 limits_alike None bytes x y same = ap (λ (p : Option (List ℕ) × Option (List ℕ)). Ok p) same
 limits_alike (Some limit) bytes x y same = test_alike (nat_le bytes limit) (refusal.MemoryLimit bytes) x y same
 
@@ -69,13 +69,13 @@ module _ (query : Query) (file : StatsFile) (rows : List (List Row)) (terms : Pl
   by_tables : Result AnyPlan PlanError → Result RunOutcome Refusal
   by_tables answer = planned_within terms.memory (λ plan. Planned (run_asked (plan_of_columns terms accuracy) query rows plan)) answer
 
-  print_alike : (answer : Result AnyPlan PlanError) → seen printed (by_file answer) ≡ seen printed (by_tables answer)
+  print_alike : (answer : Result AnyPlan PlanError) → mapped printed (by_file answer) ≡ mapped printed (by_tables answer)
   unfolding by_file by_tables
   print_alike (Ok plan) =
       limits_alike terms.memory (shape_bytes plan) (made_from_file terms query file plan) (Planned (run_asked (plan_of_columns terms accuracy) query rows plan)) refl
   print_alike (Err e) = refl
 
-module _ (schema : Schema) (query : Query) (db : Database) (over : IsOverSchema schema query db) (accuracy : ℕ) (least : 0 < accuracy)
+module _ (schema : Schema) (query : Query) (db : Database) (over : FitsQueryAndTexts schema query db) (accuracy : ℕ) (least : 0 < accuracy)
     (most : accuracy ≤ most_accuracy) (terms : PlanTerms) where
   abbrev file_of : StatsFile
   file_of = file_of_query schema query (tables_of db) accuracy
@@ -106,17 +106,17 @@ module _ (schema : Schema) (query : Query) (db : Database) (over : IsOverSchema 
   unfolding stats_stage
   read_back name files columns there =
       ap (λ text. text >>= stats_of_text schema) there
-      ∙ ap (told stats_refusal) (written schema file_of over.of.schema_is columns (file_keeps schema query db over accuracy least most))
+      ∙ ap (with_refusal stats_refusal) (written schema file_of over.of.schema_is columns (file_keeps schema query db over accuracy least most))
 
   pub works_alike : (name : List ℕ) (files : Files) → HasByteColumns schema → tables_in (entry_rows db) ≡ tables_of db
       → tables_stage schema query.from files ≡ Ok (entry_rows db) → read file.Stats most_file name files ≡ Ok (file_text schema file_of)
-      → seen printed (work_run (works.PlanFromStats name terms) schema query files) ≡ seen printed (work_run (works.Plan (plan_of_columns terms accuracy)) schema query files)
+      → mapped printed (work_run (works.PlanFromStats name terms) schema query files) ≡ mapped printed (work_run (works.Plan (plan_of_columns terms accuracy)) schema query files)
   works_alike name files columns tables rows there =
-      ap (λ stats. seen printed (stats >>= λ stats. stats_file_plan_stage terms query stats)) (read_back name files columns there)
-      ∙ ap (seen printed) from_file
+      ap (λ stats. mapped printed (stats >>= λ stats. stats_file_plan_stage terms query stats)) (read_back name files columns there)
+      ∙ ap (mapped printed) from_file
       ∙ print_alike query file_of (entry_rows db) terms accuracy (plan_asked (plan_of_columns terms accuracy) schema query (tables_of db))
-      ∙ sym (ap (seen printed) (from_tables tables))
-      ∙ sym (ap (λ rows. seen printed (rows >>= plan_stage (plan_of_columns terms accuracy) schema query)) rows)
+      ∙ sym (ap (mapped printed) (from_tables tables))
+      ∙ sym (ap (λ rows. mapped printed (rows >>= plan_stage (plan_of_columns terms accuracy) schema query)) rows)
 
 -- ---- the stages of the whole command
 
@@ -162,8 +162,8 @@ pub files_alike : (schema_file query_file stats_file : List ℕ) (accuracy : ℕ
     → 0 < accuracy → accuracy ≤ most_accuracy
     → command_run (over_query None schema_file query_file (works.WriteStats accuracy)) files ≡ Ok written → out_text written ≡ Some text
     → read file.Stats most_file stats_file files ≡ Ok text
-    → seen printed (command_run (over_query None schema_file query_file (works.PlanFromStats stats_file terms)) files)
-    ≡ seen printed (command_run (over_query None schema_file query_file (works.Plan (plan_of_columns terms accuracy))) files)
+    → mapped printed (command_run (over_query None schema_file query_file (works.PlanFromStats stats_file terms)) files)
+    ≡ mapped printed (command_run (over_query None schema_file query_file (works.Plan (plan_of_columns terms accuracy))) files)
 files_alike schema_file query_file stats_file accuracy terms files outcome text least most ran wrote there =
     let made = file_made schema_file query_file accuracy files outcome ran in
     let schema = made.schema in
@@ -177,7 +177,7 @@ files_alike schema_file query_file stats_file accuracy terms files outcome text 
     let those : file_text schema (file_of_query schema query (tables_in made.rows) accuracy) ≡ text = cc in
     let is : text ≡ file_text schema (file_of_query schema query (tables_of found.database) accuracy)
     = sym those ∙ ap (λ tables. file_text schema (file_of_query schema query tables accuracy)) tables in
-    ap (seen printed) (asked_work schema_file query_file files schema query made.schema_is made.query_is (works.PlanFromStats stats_file terms))
+    ap (mapped printed) (asked_work schema_file query_file files schema query made.schema_is made.query_is (works.PlanFromStats stats_file terms))
     ∙ works_alike schema query found.database found.over accuracy least most terms stats_file files columns found.tables_are
     (made.rows_are ∙ ap (λ rows. Ok rows) found.rows_are) (there ∙ ap (λ text. Ok text) is)
-    ∙ sym (ap (seen printed) (asked_work schema_file query_file files schema query made.schema_is made.query_is (works.Plan (plan_of_columns terms accuracy))))
+    ∙ sym (ap (mapped printed) (asked_work schema_file query_file files schema query made.schema_is made.query_is (works.Plan (plan_of_columns terms accuracy))))

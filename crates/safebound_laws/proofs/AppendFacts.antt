@@ -24,7 +24,7 @@ use Rattle.safebound_words.specs.declared.command.Command.{Command}
 use Rattle.safebound_words.specs.declared.command.NewRows.{NewRows}
 use Rattle.safebound_words.specs.declared.command.Aim.TheVariants as aims
 use Rattle.prepared_runs.specs.StatsFiles.{stats_stage}
-use Rattle.prepared_runs.specs.RunOutcome.{Appended, HoldsWhereItStands, NoBoundIsTooLow, RunOutcome, PlannedFromStats}
+use Rattle.prepared_runs.specs.RunOutcome.{Appended, BoundsHoldForItsTables, NoBoundIsTooLow, RunOutcome, PlannedFromStats}
 use Rattle.prepared_runs.specs.Verdict.{aim_run, command_run, command_stage, or_usage, schema_stage, verdict}
 use Rattle.prepared_runs.proofs.StatsFileRuns.{stats_keep}
 use Rattle.prepared_runs.proofs.Runs.{bounds_hold, schema_ok}
@@ -91,5 +91,5 @@ module _ (files : Files) (schema stats name rows : List ℕ) (outcome : RunOutco
 
   pub append_plans : PlansAfter grows.before grows.section.table grows.rows grows.after
   append_plans words later plan tables grown is from' stood has =
-      let holds : HoldsWhereItStands plan = holds_of NoBoundIsTooLow (verdict words later) (PlannedFromStats plan) is (bounds_hold words later) in
+      let holds : BoundsHoldForItsTables plan = holds_of NoBoundIsTooLow (verdict words later) (PlannedFromStats plan) is (bounds_hold words later) in
       holds grown (rw from' (append_stands plan.query tables grown stood has))

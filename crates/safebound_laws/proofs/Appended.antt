@@ -7,7 +7,7 @@ use Rattle.std.proofs.lemmas.List.Elements.{All-nil}
 use Rattle.std.proofs.lemmas.Map.Made.{AllPairs-from_IsDistinct}
 use Rattle.std.proofs.lemmas.Slice.Eq.{bytes_eq-Decides}
 use Rattle.appended_stats.specs.Appended.{file_after, section_after}
-use Rattle.appended_stats.specs.Cells.{one_by_cells}
+use Rattle.appended_stats.specs.Cells.{section_after_by_cells}
 use Rattle.appended_stats.specs.Conditions.{MayAppend}
 use Rattle.appended_stats.proofs.FileKept.{file_is, file_keeps}
 use Rattle.base_io.specs.Files.{Files, file_of}
@@ -39,7 +39,7 @@ use Rattle.safebound_laws.proofs.AppendFacts as appends
 use Rattle.safebound_laws.proofs.TableCells.{IsPool, TableFound, table_found}
 use Rattle.safebound_top.proofs.Promises.{declares}
 use Rattle.safebound_top.specs.Promise.{DeclaresSchema}
-use Rattle.safebound_laws.proofs.Ended.{byte_columns, is_valid}
+use Rattle.safebound_laws.proofs.DoneRun.{byte_columns, is_valid}
 
 no_texts : IsPool []
 unfolding IsDistinct
@@ -108,7 +108,7 @@ module _ (files : Files) (schema_file stats_file name rows_file : List ℕ) (out
   pub after_keeps : KeepsRules grows.schema grows.after
   after_keeps =
       let kept = file_keeps grows.schema grows.before grows.section.table cells_found.new cells_found.cells may grows.before.accuracy
-      (map (one_by_cells cells_found.new cells_found.cells grows.before.accuracy grows.section.table) grows.before.tables) refl refl in
+      (map (section_after_by_cells cells_found.new cells_found.cells grows.before.accuracy grows.section.table) grows.before.tables) refl refl in
       subst (KeepsRules grows.schema)
       (file_is grows.schema grows.before grows.section.table cells_found.new cells_found.cells may
       ∙ ap (file_after grows.before grows.section.table) cells_found.same ∙ sym grows.after_is) kept

@@ -15,7 +15,7 @@ use Rattle.csv_tables.specs.declared.types.Database.{Database}
 use Rattle.csv_tables.proofs.GrowFacts.{begins_itself, begins_then}
 use Rattle.csv_tables.proofs.TableFacts.{columns-grown, rows_of_columns-grown}
 use Rattle.stats_file_of_query.proofs.Read.{over_all}
-use Rattle.stats_file_of_query.specs.Databases.{IsOverSchema}
+use Rattle.stats_file_of_query.specs.Databases.{FitsQueryAndTexts}
 use Rattle.outcomes.specs.Reads.{◌>>=◌}
 use Rattle.query_types.specs.Validity.{IsOf}
 use Rattle.query_types.specs.declared.types.Query.{Query}
@@ -24,7 +24,7 @@ use Rattle.schema_types.specs.declared.types.Schema.{Schema}
 use Rattle.sql_meaning.specs.Tables.{tables_of}
 use Rattle.table_files.specs.EntryTables.{AreCellsOfEach, entry_rows, rows_of_tables, tables_in}
 use Rattle.table_files.specs.Stage.{no_table, rows_by_entry, rows_of_each, table_at, table_rows, tables_of_query, tables_stage}
-use Rattle.table_files.proofs.Asked.{database_is, numbers_low}
+use Rattle.table_files.proofs.DatabaseOfQuery.{database_is, numbers_low}
 use Rattle.table_files.proofs.EntryLaws.{two_steps}
 use Rattle.table_files.proofs.EntryRows.{db, has_cells, rows_by_place}
 use Rattle.table_files.proofs.FewRows.{HasFewRows, cells_are_few}
@@ -87,7 +87,7 @@ pub record DatabaseFound (schema : Schema) (query : Query) (rows : List (List Ro
   pub database : Database
   pub rows_are : rows ≡ entry_rows database
   pub tables_are : tables_in (entry_rows database) ≡ tables_of database
-  pub over : IsOverSchema schema query database
+  pub over : FitsQueryAndTexts schema query database
 
 database_of : (schema : Schema) (query : Query) (all : List (List Row)) → IsValid schema → IsOf schema query → EachFound schema (tables_of_query query.from) all []
     → DatabaseFound schema query (rows_by_entry query.from all)

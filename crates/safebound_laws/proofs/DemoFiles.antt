@@ -19,7 +19,7 @@ use Rattle.order_search.specs.declared.refusal.PlanError.TheVariants as plan_err
 use Rattle.text_answers.specs.QueryTexts.{query_answer}
 use Rattle.text_answers.specs.SchemaTexts.{schema_answer}
 use Rattle.outcomes.specs.Errors.{plan_refusal, query_refusal, schema_refusal}
-use Rattle.outcomes.specs.Reads.{◌>>=◌, MissesNothing, told}
+use Rattle.outcomes.specs.Reads.{◌>>=◌, MissesNothing, with_refusal}
 use Rattle.outcomes.specs.declared.names.FileId.{FileId}
 use Rattle.outcomes.specs.declared.refusal.Refusal.{Refusal}
 use Rattle.outcomes.specs.declared.refusal.Refusal.TheVariants as refusal
@@ -46,7 +46,7 @@ use Rattle.safebound_top.proofs.Promises.{query_of_schema}
 
 -- ---- no reader of a text gives the refusal Missing
 
-schemas_miss : {A : Type 0} (r : Result A SchemaError) → MissesNothing (told schema_refusal r)
+schemas_miss : {A : Type 0} (r : Result A SchemaError) → MissesNothing (with_refusal schema_refusal r)
 schemas_miss (Ok schema) id e = cc
 schemas_miss (Err (schema_error.Syntax at)) id e = cc
 schemas_miss (Err (schema_error.Name at)) id e = cc
@@ -54,7 +54,7 @@ schemas_miss (Err (schema_error.Nullable at)) id e = cc
 schemas_miss (Err (schema_error.Limit which found)) id e = cc
 schemas_miss (Err schema_error.NoMemory) id e = cc
 
-queries_miss : {A : Type 0} (r : Result A QueryError) → MissesNothing (told query_refusal r)
+queries_miss : {A : Type 0} (r : Result A QueryError) → MissesNothing (with_refusal query_refusal r)
 queries_miss (Ok query) id e = cc
 queries_miss (Err (query_error.Syntax at)) id e = cc
 queries_miss (Err (query_error.Name at)) id e = cc
@@ -62,7 +62,7 @@ queries_miss (Err (query_error.Kind at)) id e = cc
 queries_miss (Err (query_error.Limit which found)) id e = cc
 queries_miss (Err query_error.NoMemory) id e = cc
 
-plans_miss : {A : Type 0} (r : Result A PlanError) → MissesNothing (told plan_refusal r)
+plans_miss : {A : Type 0} (r : Result A PlanError) → MissesNothing (with_refusal plan_refusal r)
 plans_miss (Ok plan) id e = cc
 plans_miss (Err (plan_error.Budget least)) id e = cc
 plans_miss (Err plan_error.PastBits) id e = cc
@@ -89,7 +89,7 @@ module _ (number : ℕ) where
     plan_misses : (schema : Schema) (query : Query) (rows : List (List Row)) → MissesNothing (plan_stage task schema query rows)
     unfolding plan_stage
     plan_misses schema query rows =
-        then_misses (told plan_refusal (plan_asked task schema query (tables_in rows))) (λ plan. within_limit task.terms.memory (shape_bytes plan) (Planned (run_asked task query rows plan)))
+        then_misses (with_refusal plan_refusal (plan_asked task schema query (tables_in rows))) (λ plan. within_limit task.terms.memory (shape_bytes plan) (Planned (run_asked task query rows plan)))
         (plans_miss (plan_asked task schema query (tables_in rows)))
         (λ plan _. within_misses task.terms.memory (shape_bytes plan) (Planned (run_asked task query rows plan)))
 

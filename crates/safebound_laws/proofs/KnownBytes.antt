@@ -10,7 +10,7 @@ use Rattle.csv_tables.specs.declared.types.Database.{Database}
 use Rattle.stats_file_of_query.proofs.Finding.{found_in}
 use Rattle.stats_file_of_query.proofs.Rules.{file_keeps}
 use Rattle.stats_file_of_query.proofs.Standing.{file_stands, share_rows}
-use Rattle.stats_file_of_query.specs.Databases.{IsOverSchema}
+use Rattle.stats_file_of_query.specs.Databases.{FitsQueryAndTexts}
 use Rattle.stats_file_of_query.specs.Files.{file_of_query, first_entry, section_of_table}
 use Rattle.stats_file_of_query.specs.Needs.{table_of}
 use Rattle.stats_file_of_query.specs.Standing.{StandsFor, section_of}
@@ -44,9 +44,9 @@ use Rattle.safebound_top.specs.Headline.{GrewWhole}
 use Rattle.safebound_top.specs.OutcomeTexts.{out_text}
 use Rattle.safebound_laws.specs.FileCalls.{AppendCall, AppendedEach, AppendedTo, StatsCall, WroteStats, last_bytes}
 use Rattle.safebound_laws.specs.OtherQueries.{IsOfTables}
-use Rattle.safebound_laws.specs.FilePlans.{AddEach, Added, AddsRowsOfFile, with_added}
+use Rattle.safebound_laws.specs.FilePlans.{AddRowsEach, AddedRows, AddsRowsOfFile, with_added}
 use Rattle.safebound_laws.proofs.Appended.{after_keeps, its_section, rows_read, section_before, table_there}
-use Rattle.safebound_laws.proofs.Ended.{byte_columns, ended, is_valid, ranges, same_schema, stats_are, took_text}
+use Rattle.safebound_laws.proofs.DoneRun.{byte_columns, ended, is_valid, ranges, same_schema, stats_are, took_text}
 
 pub record Known (schema : Schema) (query : Query) (bytes : List ℕ) (tables : Tables) : Type 0 where
   pub file : StatsFile
@@ -76,7 +76,7 @@ module _ (schema : Schema) (query : Query) (tables : Tables) (accuracy : ℕ) wh
 pub record FromStats (made : StatsCall) (bytes : List ℕ) (schema : Schema) : Type 0 where
   pub query : Query
   pub database : Database
-  pub over : IsOverSchema schema query database
+  pub over : FitsQueryAndTexts schema query database
   pub read : (entry : ℕ) → entry < length query.from → table_rows schema (table_of query entry) made.files ≡ Ok (tables_of database entry)
   pub least : 0 < made.accuracy
   pub most : made.accuracy ≤ most_accuracy
@@ -136,14 +136,14 @@ has_added query tables table rows entry low = elim (cases_Bool (table_of query e
   | inr e ↦ rw e (append-nil (tables entry))
 ]
 
-added_then : (query : Query) (tables : Tables) (one : Added) (more : List Added) → with_added query (with_added query tables (one ∷ [])) more ≡ with_added query tables (one ∷ more)
+added_then : (query : Query) (tables : Tables) (one : AddedRows) (more : List AddedRows) → with_added query (with_added query tables (one ∷ [])) more ≡ with_added query tables (one ∷ more)
 added_then query tables one more = fun_ext (λ entry.
     let first : List Row = cond (table_of query entry == one.table) one.rows [] in
-    let later : List Row = flat_map (λ (next : Added). cond (table_of query entry == next.table) next.rows []) more in
+    let later : List Row = flat_map (λ (next : AddedRows). cond (table_of query entry == next.table) next.rows []) more in
     ap (λ (s : List Row). (tables entry ++ s) ++ later) (append-nil first) ∙ append_assoc (tables entry) first later)
 
 pub record FromAppend (query : Query) (tables : Tables) (append : AppendCall) (schema : Schema) : Type 0 where
-  pub added : Added
+  pub added : AddedRows
   pub adds : AddsRowsOfFile schema append added
   pub known : Known schema query append.bytes (with_added query tables (added ∷ []))
 
@@ -169,7 +169,7 @@ module _ (schema : Schema) (query : Query) (before : List ℕ) (tables : Tables)
   stands_before : StandsFor query grows.before tables
   stands_before = subst (λ (f : StatsFile). StandsFor query f tables) (sym before_is) known.stands
 
-  its_added : Added
+  its_added : AddedRows
   its_added = record { table = grows.section.table; rows = grows.rows }
 
   it_adds : AddsRowsOfFile grows.schema append its_added
@@ -212,8 +212,8 @@ module _ (schema : Schema) (query : Query) (before : List ℕ) (tables : Tables)
 -- ---- any number of appends
 
 pub record FromAppends (schema : Schema) (query : Query) (tables : Tables) (appends : List AppendCall) (last : List ℕ) : Type 0 where
-  pub added : List Added
-  pub adds : AddEach schema appends added
+  pub added : List AddedRows
+  pub adds : AddRowsEach schema appends added
   pub known : Known schema query last (with_added query tables added)
 
 none_added : (query : Query) (tables : Tables) → tables ≡ with_added query tables []

@@ -16,7 +16,7 @@ pub mod NearRuns
 pub mod TableCells
 pub mod TableErrors
 pub mod Appended
-pub mod Ended
+pub mod DoneRun
 pub mod KnownBytes
 pub mod Near
 pub mod OtherQueries

@@ -1,11 +1,11 @@
 -- A plan from the file that `stats` wrote is the plan from the tables themselves.
 use Rattle.std.proofs.Common.{◌≡◌, ℕ, ◌<◌, false, List, length, Some, Ok, ap, sym, ◌∙◌, subst}
-use Rattle.appended_stats.specs.Appended.{alone}
+use Rattle.appended_stats.specs.Appended.{tables_of_rows}
 use Rattle.csv_tables.specs.Rows.{Row}
 use Rattle.stats_file_bounds.proofs.Telling.{IsThere, is_there, section_is}
 use Rattle.stats_file_bounds.specs.Bounds.{scan_bounds_of_file}
 use Rattle.stats_file_bounds.specs.Found.{is_missing, pair_in, section_for}
-use Rattle.stats_file_exactness.proofs.Exactness.{KnowsTables, scans_known, sets_known}
+use Rattle.stats_file_exactness.proofs.Exactness.{HasPairsOfTables, scans_known, sets_known}
 use Rattle.stats_file_exactness.proofs.Sections as sections
 use Rattle.stats_file_exactness.proofs.Sections.{IsSectionOf, found_is}
 use Rattle.stats_file_of_query.proofs.SameSections.{first_is}
@@ -20,7 +20,7 @@ use Rattle.query_types.specs.declared.types.Query.{Query}
 use Rattle.schema_types.specs.declared.types.Schema.{Schema}
 use Rattle.sql_meaning.specs.Tables.{Tables, row_counts, tables_of}
 use Rattle.stats_file.specs.Rules.{KeepsRules}
-use Rattle.stats_file.specs.declared.types.Pair.{Pair}
+use Rattle.stats_file.specs.declared.types.PairStats.{PairStats}
 use Rattle.stats_file.specs.declared.types.StatsFile.{StatsFile}
 use Rattle.stats_file.specs.declared.types.TableStats.{TableStats}
 use Rattle.safebound_top.specs.Promise.{AsksQuery}
@@ -35,7 +35,7 @@ use Rattle.safebound_laws.proofs.KnownBytes.{FromStats, from_stats}
 use Rattle.safebound_laws.proofs.NearRuns.{parts_near}
 use Rattle.safebound_laws.proofs.OtherQueries.{stands_for_other}
 use Rattle.safebound_laws.proofs.Planned as planned_facts
-use Rattle.safebound_laws.proofs.Planned.{moved}
+use Rattle.safebound_laws.proofs.Planned.{tables_for_other}
 
 module _ (schema : Schema) (bytes : List ℕ) (made : StatsCall) (planned : PlanCall) (wrote : WroteStats made schema bytes) (from : PlannedFrom schema bytes planned) where
   start : FromStats made bytes schema
@@ -54,7 +54,7 @@ module _ (schema : Schema) (bytes : List ℕ) (made : StatsCall) (planned : Plan
   file = file_of_query schema start.query (tables_of start.database) made.accuracy
 
   abbrev tables : Tables
-  tables = moved start.query (tables_of start.database) outcome_query
+  tables = tables_for_other start.query (tables_of start.database) outcome_query
 
   file_is : (planned_facts.its made schema bytes start bytes (tables_of start.database) start.known planned from).stats ≡ file
   file_is = planned_facts.stats_same made schema bytes start bytes read start.known planned from ∙ start.file_is
@@ -77,7 +77,7 @@ module _ (schema : Schema) (bytes : List ℕ) (made : StatsCall) (planned : Plan
       let t = its_there place low in
       ap (λ (s : TableStats). s.rows) (section_is outcome_query file place t) ∙ (stands place t.section low t.is).rows
 
-  pairs_known : (place : ℕ) → place < length outcome_query.from → (filter_column joined : ℕ) (p : Pair)
+  pairs_known : (place : ℕ) → place < length outcome_query.from → (filter_column joined : ℕ) (p : PairStats)
       → pair_in (section_for outcome_query file place) filter_column joined ≡ Some p → p ≡ pair_in_table tables made.accuracy place filter_column joined
   pairs_known place low filter_column joined p found =
       let t = its_there place low in
@@ -89,10 +89,10 @@ module _ (schema : Schema) (bytes : List ℕ) (made : StatsCall) (planned : Plan
       found_is schema start.query start.database start.over made.accuracy first.0 at.0 t.section its filter_column joined p
       (ap (λ (s : TableStats). pair_in s filter_column joined) (sym (section_is outcome_query file place t)) ∙ found) in
       of_first
-      ∙ ap (λ (rows : List Row). pair_in_table (alone rows) made.accuracy 0 filter_column joined)
+      ∙ ap (λ (rows : List Row). pair_in_table (tables_of_rows rows) made.accuracy 0 filter_column joined)
       (planned_facts.same_old made schema bytes start bytes read start.known planned from first.0 place at.0 low at.1)
 
-  knows : KnowsTables outcome_query file tables made.accuracy
+  knows : HasPairsOfTables outcome_query file tables made.accuracy
   knows = record {
     is_file = record { schema = schema; keeps = subst (KeepsRules schema) start.file_is start.known.keeps };
     names = names_its_entries schema outcome_query (planned_facts.of_schema made schema bytes start bytes read start.known planned from);
@@ -114,7 +114,7 @@ module _ (schema : Schema) (bytes : List ℕ) (made : StatsCall) (planned : Plan
       sym plans_same ∙ ap (λ (f : StatsFile). plan_from_file_asked planned.terms outcome_query f) (sym file_is)
       ∙ (planned_facts.its made schema bytes start bytes (tables_of start.database) start.known planned from).planned
 
-  its_over : IsOver made planned schema outcome_query (moved start.query (tables_of start.database) outcome_query)
+  its_over : IsOver made planned schema outcome_query (tables_for_other start.query (tables_of start.database) outcome_query)
   its_over = planned_facts.over made schema bytes start bytes read start.known planned from
 
   pub plan_of_tables : PlanIsOfTables made planned schema

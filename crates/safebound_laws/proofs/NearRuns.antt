@@ -15,7 +15,7 @@ use Rattle.schema_types.specs.declared.types.Schema.{Schema}
 use Rattle.query_types.specs.Validity.{IsOf}
 use Rattle.query_types.specs.declared.types.Query.{Query}
 use Rattle.sql_meaning.specs.Tables.{Tables}
-use Rattle.outcomes.specs.Reads.{◌>>=◌, seen}
+use Rattle.outcomes.specs.Reads.{◌>>=◌, mapped}
 use Rattle.outcomes.specs.declared.refusal.Refusal.{Refusal}
 use Rattle.table_files.specs.EntryTables.{tables_in}
 use Rattle.prepared_runs.specs.AcceptedQuery.{AcceptedQuery, tables}
@@ -36,30 +36,30 @@ use Rattle.safebound_words.specs.declared.command.Shape.TheVariants as shapes
 use Rattle.safebound_top.proofs.Promises.{Stages, query_of_schema, stages}
 use Rattle.safebound_laws.specs.FilePlans.{PartsAreNear}
 
-seen_along : (r : Result Plan PlanError) (plan : Plan) → seen (λ p. shaped.OrderPlan p) r ≡ Ok (shaped.OrderPlan plan) → r ≡ Ok plan
-seen_along (Ok p) plan e = (let same : p ≡ plan = cc in ap Ok same)
-seen_along (Err s) plan e = cc
+order_from_map : (r : Result Plan PlanError) (plan : Plan) → mapped (λ p. shaped.OrderPlan p) r ≡ Ok (shaped.OrderPlan plan) → r ≡ Ok plan
+order_from_map (Ok p) plan e = (let same : p ≡ plan = cc in ap Ok same)
+order_from_map (Err s) plan e = cc
 
-seen_over : (r : Result BushyPlan PlanError) (plan : BushyPlan) → seen (λ p. shaped.TreePlan p) r ≡ Ok (shaped.TreePlan plan) → r ≡ Ok plan
-seen_over (Ok p) plan e = (let same : p ≡ plan = cc in ap Ok same)
-seen_over (Err s) plan e = cc
+tree_from_map : (r : Result BushyPlan PlanError) (plan : BushyPlan) → mapped (λ p. shaped.TreePlan p) r ≡ Ok (shaped.TreePlan plan) → r ≡ Ok plan
+tree_from_map (Ok p) plan e = (let same : p ≡ plan = cc in ap Ok same)
+tree_from_map (Err s) plan e = cc
 
-no_order : (r : Result BushyPlan PlanError) (plan : Plan) → seen (λ p. shaped.TreePlan p) r ≡ Ok (shaped.OrderPlan plan) → ⊥
+no_order : (r : Result BushyPlan PlanError) (plan : Plan) → mapped (λ p. shaped.TreePlan p) r ≡ Ok (shaped.OrderPlan plan) → ⊥
 no_order (Ok p) plan e = cc
 no_order (Err s) plan e = cc
 
-no_tree : (r : Result Plan PlanError) (plan : BushyPlan) → seen (λ p. shaped.OrderPlan p) r ≡ Ok (shaped.TreePlan plan) → ⊥
+no_tree : (r : Result Plan PlanError) (plan : BushyPlan) → mapped (λ p. shaped.OrderPlan p) r ≡ Ok (shaped.TreePlan plan) → ⊥
 no_tree (Ok p) plan e = cc
 no_tree (Err s) plan e = cc
 
 order_answer : (shape : Shape) (sets scans : List ℕ) (budget : ℕ) (plan : Plan) → answer_of shape sets scans budget ≡ Ok (shaped.OrderPlan plan)
     → plan_answer sets scans budget ≡ Ok plan
-order_answer shapes.Order sets scans budget plan e = seen_along (plan_answer sets scans budget) plan e
+order_answer shapes.Order sets scans budget plan e = order_from_map (plan_answer sets scans budget) plan e
 order_answer shapes.Tree sets scans budget plan e = absurd (no_order (tree_answer sets scans budget) plan e)
 
 tree_is_answer : (shape : Shape) (sets scans : List ℕ) (budget : ℕ) (plan : BushyPlan) → answer_of shape sets scans budget ≡ Ok (shaped.TreePlan plan)
     → tree_answer sets scans budget ≡ Ok plan
-tree_is_answer shapes.Tree sets scans budget plan e = seen_over (tree_answer sets scans budget) plan e
+tree_is_answer shapes.Tree sets scans budget plan e = tree_from_map (tree_answer sets scans budget) plan e
 tree_is_answer shapes.Order sets scans budget plan e = absurd (no_tree (plan_answer sets scans budget) plan e)
 
 order_planned : (shape : Shape) (schema : Schema) (query : Query) (ts : Tables) (accuracy budget : ℕ) (plan : Plan)

@@ -1,30 +1,30 @@
 -- A statistics file that stands for a query's tables also stands for those of another query, if both have the same rows.
 use Rattle.std.proofs.Common.{ℕ, List, get_or, ap, ◌∙◌, subst}
-use Rattle.appended_stats.specs.Appended.{alone}
+use Rattle.appended_stats.specs.Appended.{tables_of_rows}
 use Rattle.csv_tables.specs.Rows.{Row}
 use Rattle.stats_file_of_query.proofs.SameSections.{first_is}
 use Rattle.stats_file_of_query.specs.Needs.{table_of}
 use Rattle.stats_file_of_query.specs.Standing.{PairStandsFor, SectionStandsFor, StandsFor, section_of}
 use Rattle.query_types.specs.declared.types.Query.{Query}
 use Rattle.sql_meaning.specs.Tables.{Tables}
-use Rattle.stats_file.specs.declared.types.Pair.{Pair}
+use Rattle.stats_file.specs.declared.types.PairStats.{PairStats}
 use Rattle.stats_file.specs.declared.types.StatsFile.{StatsFile}
 use Rattle.stats_file.specs.declared.types.TableStats.{TableStats}
 use Rattle.safebound_laws.specs.OtherQueries.{HaveSameRows, IsOfTables}
 
-pair_alone : (pair : Pair) (tables : Tables) (entry : ℕ) (key : ℕ → ℕ) → PairStandsFor pair tables entry key → PairStandsFor pair (alone (tables entry)) 0 key
+pair_alone : (pair : PairStats) (tables : Tables) (entry : ℕ) (key : ℕ → ℕ) → PairStandsFor pair tables entry key → PairStandsFor pair (tables_of_rows (tables entry)) 0 key
 pair_alone pair tables entry key stands = record { rows = stands.rows; whole = stands.whole; value = stands.value; node = stands.node }
 
-pair_of_entry : (pair : Pair) (tables : Tables) (entry : ℕ) (key : ℕ → ℕ) → PairStandsFor pair (alone (tables entry)) 0 key → PairStandsFor pair tables entry key
+pair_of_entry : (pair : PairStats) (tables : Tables) (entry : ℕ) (key : ℕ → ℕ) → PairStandsFor pair (tables_of_rows (tables entry)) 0 key → PairStandsFor pair tables entry key
 pair_of_entry pair tables entry key stands = record { rows = stands.rows; whole = stands.whole; value = stands.value; node = stands.node }
 
-section_alone : (section : TableStats) (tables : Tables) (entry : ℕ) → SectionStandsFor section tables entry → SectionStandsFor section (alone (tables entry)) 0
+section_alone : (section : TableStats) (tables : Tables) (entry : ℕ) → SectionStandsFor section tables entry → SectionStandsFor section (tables_of_rows (tables entry)) 0
 section_alone section tables entry stands = record {
   rows = stands.rows;
   pairs = λ i d low key tells. pair_alone (get_or section.pairs i d) tables entry key (stands.pairs i d low key tells);
 }
 
-section_of_entry : (section : TableStats) (tables : Tables) (entry : ℕ) → SectionStandsFor section (alone (tables entry)) 0 → SectionStandsFor section tables entry
+section_of_entry : (section : TableStats) (tables : Tables) (entry : ℕ) → SectionStandsFor section (tables_of_rows (tables entry)) 0 → SectionStandsFor section tables entry
 section_of_entry section tables entry stands = record {
   rows = stands.rows;
   pairs = λ i d low key tells. pair_of_entry (get_or section.pairs i d) tables entry key (stands.pairs i d low key tells);
@@ -37,4 +37,4 @@ stands_for_other query other file tables also stands of same place section low f
     let first = first_is query (table_of other place) named.0 named.1 in
     let its : SectionStandsFor section tables named.0 = stands named.0 section first.0 (ap (section_of file) first.1 ∙ found) in
     section_of_entry section also place
-    (subst (λ (rows : List Row). SectionStandsFor section (alone rows) 0) (same named.0 place first.0 low first.1) (section_alone section tables named.0 its))
+    (subst (λ (rows : List Row). SectionStandsFor section (tables_of_rows rows) 0) (same named.0 place first.0 low first.1) (section_alone section tables named.0 its))

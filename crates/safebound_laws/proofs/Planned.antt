@@ -17,7 +17,7 @@ use Rattle.stats_file_of_query.specs.Needs.{table_of}
 use Rattle.stats_file_of_query.specs.Standing.{ShareRows, StandsFor, section_of}
 use Rattle.join_steps.specs.Lists.{scans_of}
 use Rattle.outcomes.specs.Errors.{plan_refusal}
-use Rattle.outcomes.specs.Reads.{told}
+use Rattle.outcomes.specs.Reads.{with_refusal}
 use Rattle.query_types.specs.Validity.{IsOf}
 use Rattle.query_types.specs.declared.types.Query.{Query}
 use Rattle.query_types.specs.declared.types.Source.{Source}
@@ -32,13 +32,13 @@ use Rattle.table_files.specs.Stage.{no_table, table_at, table_rows}
 use Rattle.table_files.proofs.EntryLaws.{two_steps}
 use Rattle.table_files.proofs.StagedFiles.{table_ok, told_ok}
 use Rattle.prepared_runs.proofs.LimitFacts.{within_ok}
-use Rattle.prepared_runs.proofs.ShapeFacts.{over_so}
+use Rattle.prepared_runs.proofs.ShapeFacts.{plan_over_fits}
 use Rattle.prepared_runs.specs.StatsFiles.{made_from_file, plan_from_file_asked, stats_file_plan_stage, stats_stage, unless_missing}
 use Rattle.prepared_runs.specs.Limits.{IsWithinLimit, within_limit}
 use Rattle.prepared_runs.specs.Shapes.{IsPlanOver, planned_within, shape_bytes}
 use Rattle.prepared_runs.specs.declared.shapes.AnyPlan.{AnyPlan}
 use Rattle.safebound_words.specs.declared.command.PlanTerms.{PlanTerms}
-use Rattle.prepared_runs.specs.RunOutcome.{PlanFromStatsFile, HoldsWhereItStands, NoBoundIsTooLow, RunOutcome}
+use Rattle.prepared_runs.specs.RunOutcome.{PlanFromStatsFile, BoundsHoldForItsTables, NoBoundIsTooLow, RunOutcome}
 use Rattle.prepared_runs.specs.Verdict.{aim_run, command_run, query_stage, schema_stage, work_run}
 use Rattle.safebound_top.proofs.Promises.{asks, query_of_schema, text_prints}
 use Rattle.safebound_top.specs.Call.{Grew}
@@ -48,8 +48,8 @@ use Rattle.safebound_top.specs.Promise.{AreInFile, PrintsPlan}
 use Rattle.safebound_top.specs.Texts.{plan_text_of}
 use Rattle.safebound_laws.specs.FileCalls.{AppendCall, AppendedEach, PlanCall, PlannedFrom, StatsCall, WroteStats, last_bytes}
 use Rattle.safebound_laws.specs.OtherQueries.{HaveSameRows}
-use Rattle.safebound_laws.specs.FilePlans.{Added, GrownPlanHolds, IsOver, PlanHolds, added_rows, with_added}
-use Rattle.safebound_laws.proofs.Ended.{byte_columns, ended, is_valid, same_schema, stats_are}
+use Rattle.safebound_laws.specs.FilePlans.{AddedRows, GrownPlanHolds, IsOver, PlanHolds, added_rows, with_added}
+use Rattle.safebound_laws.proofs.DoneRun.{byte_columns, ended, is_valid, same_schema, stats_are}
 use Rattle.safebound_laws.proofs.KnownBytes.{FromAppends, FromStats, Known, from_appends, from_stats}
 use Rattle.safebound_laws.proofs.OtherQueries.{stands_for_other}
 
@@ -83,7 +83,7 @@ plan_made schema_file query_file stats_file terms files outcome ran =
     let third = two_steps (stats_stage stats_file first.0 files) (stats_file_plan_stage terms second.0) outcome second.2 in
     let there = two_steps (unless_missing (first_missing second.0 third.0))
     (λ u. planned_within terms.memory (made_from_file terms second.0 third.0) (plan_from_file_asked terms second.0 third.0)) outcome third.2 in
-    let last = two_steps (told plan_refusal (plan_from_file_asked terms second.0 third.0))
+    let last = two_steps (with_refusal plan_refusal (plan_from_file_asked terms second.0 third.0))
     (λ plan. within_limit terms.memory (shape_bytes plan) (made_from_file terms second.0 third.0 plan)) outcome there.2 in
     let kept = within_ok terms.memory (shape_bytes last.0) (made_from_file terms second.0 third.0 last.0) outcome last.2 in
     record {
@@ -103,11 +103,11 @@ plan_made schema_file query_file stats_file terms files outcome ran =
 -- ---- the rows of another query's entries
 
 -- an entry of the query `other` gets the rows of the first entry of `query` that has the same table
-abbrev pub moved : Query → Tables → Query → Tables
-moved query tables other place = tables (unwrap_or (first_entry query (table_of other place)) 0)
+abbrev pub tables_for_other : Query → Tables → Query → Tables
+tables_for_other query tables other place = tables (unwrap_or (first_entry query (table_of other place)) 0)
 
 module _ (query : Query) (tables : Tables) (share : ShareRows query tables) (other : Query) where
-  pub same_rows : HaveSameRows query tables other (moved query tables other)
+  pub same_rows : HaveSameRows query tables other (tables_for_other query tables other)
   same_rows entry place low also same = by (first_entry query (table_of other place)) refl
     where
       by : (found : Option ℕ) → first_entry query (table_of other place) ≡ found → tables entry ≡ tables (unwrap_or (first_entry query (table_of other place)) 0)
@@ -120,7 +120,7 @@ module _ (query : Query) (tables : Tables) (share : ShareRows query tables) (oth
           let its = first_is query (table_of other place) first is in
           share entry first low its.0 (same ∙ sym its.1) ∙ ap (λ (o : Option ℕ). tables (unwrap_or o 0)) (sym is)
 
-added_same : (query : Query) (tables : Tables) (other : Query) (also : Tables) (added : List Added) → HaveSameRows query tables other also
+added_same : (query : Query) (tables : Tables) (other : Query) (also : Tables) (added : List AddedRows) → HaveSameRows query tables other also
     → HaveSameRows query (with_added query tables added) other (with_added other also added)
 added_same query tables other also added have entry place low within same =
     ap (λ (rows : List Row). rows ++ added_rows (table_of query entry) added) (have entry place low within same) ∙ ap (λ (t : ℕ). also place ++ added_rows t added) same
@@ -180,17 +180,17 @@ module _ (made : StatsCall) (schema : Schema) (first_bytes : List ℕ) (start : 
       let there : IsThere its.query its.stats place = is_there its.query its.stats place (not_missing place low) in
       known.of (table_of its.query place) there.section (ap (λ (f : StatsFile). section_of f (table_of its.query place)) (sym stats_same) ∙ there.is)
 
-  pub same_old : HaveSameRows start.query (tables_of start.database) its.query (moved start.query (tables_of start.database) its.query)
+  pub same_old : HaveSameRows start.query (tables_of start.database) its.query (tables_for_other start.query (tables_of start.database) its.query)
   same_old = same_rows start.query (tables_of start.database) (share_rows schema start.query start.database start.over) its.query
 
-  rows_there : (place : ℕ) → place < length its.query.from → AreInFile made.files schema its.query place (moved start.query (tables_of start.database) its.query place)
+  rows_there : (place : ℕ) → place < length its.query.from → AreInFile made.files schema its.query place (tables_for_other start.query (tables_of start.database) its.query place)
   rows_there place low =
       let first = found place low in
       let at = first_is start.query (table_of its.query place) first.0 first.1 in
-      in_file made.files schema its.query place (moved start.query (tables_of start.database) its.query place) of_schema low
+      in_file made.files schema its.query place (tables_for_other start.query (tables_of start.database) its.query place) of_schema low
       (ap (λ (t : ℕ). table_rows schema t made.files) (sym at.1) ∙ start.read first.0 at.0 ∙ ap (λ (rows : List Row). Ok rows) (same_old first.0 place at.0 low at.1))
 
-  pub over : IsOver made planned schema its.query (moved start.query (tables_of start.database) its.query)
+  pub over : IsOver made planned schema its.query (tables_for_other start.query (tables_of start.database) its.query)
   over = record { asks = asks planned.query_file planned.files schema its.query query_there; rows = rows_there }
 
   -- ---- the plan's text
@@ -201,10 +201,10 @@ module _ (made : StatsCall) (schema : Schema) (first_bytes : List ℕ) (start : 
   pub holds_for : (grown : Tables) → StandsFor its.query known.file grown
       → PrintsPlan planned.terms.shape planned.terms.memory its.query grown (scans_of its.query grown) (plan_text_of its.query.from its.plan planned.terms.memory)
   holds_for grown stands =
-      let holds : HoldsWhereItStands its_plan = subst NoBoundIsTooLow (sym its.is) (ended planned.call command planned.files from.done).holds in
+      let holds : BoundsHoldForItsTables its_plan = subst NoBoundIsTooLow (sym its.is) (ended planned.call command planned.files from.done).holds in
       let plan : IsPlanOver its.query grown (scans_of its.query grown) its.plan = holds grown (subst (λ (f : StatsFile). StandsFor its.query f grown) (sym stats_same) stands) in
       text_prints planned.terms.shape (set_bounds_of_file its.query its.stats) (scan_bounds_of_file its.query its.stats) planned.terms.budget planned.terms.memory its.query grown
-      (scans_of its.query grown) its.plan its.planned (over_so its.query grown (scans_of its.query grown) its.plan plan) its.within
+      (scans_of its.query grown) its.plan its.planned (plan_over_fits its.query grown (scans_of its.query grown) its.plan plan) its.within
 
   pub written : Grew planned.call.notes (plan_text_of its.query.from its.plan planned.terms.memory)
   written = subst (λ (o : RunOutcome). GrewWhole planned.call.notes (notes_text o)) (sym its.is) (ended planned.call command planned.files from.done).notes
@@ -219,7 +219,7 @@ module _ (schema : Schema) (bytes : List ℕ) (made : StatsCall) (planned : Plan
   plan_holds =
       let s : FromStats made bytes schema = start in
       let plan = its made schema bytes s bytes (tables_of s.database) s.known planned from in
-      let tables : Tables = moved s.query (tables_of s.database) plan.query in
+      let tables : Tables = tables_for_other s.query (tables_of s.database) plan.query in
       record {
         query = plan.query;
         tables = tables;
@@ -248,7 +248,7 @@ module _ (schema : Schema) (bytes : List ℕ) (made : StatsCall) (appends : List
       let read : Tables = tables_of s.database in
       let grown : Tables = with_added s.query read more.added in
       let plan = its made schema bytes s last grown more.known planned from in
-      let tables : Tables = moved s.query read plan.query in
+      let tables : Tables = tables_for_other s.query read plan.query in
       record {
         query = plan.query;
         tables = tables;

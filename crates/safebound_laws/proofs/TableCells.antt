@@ -20,7 +20,7 @@ use Rattle.csv.specs.Reading.{default_config, records_from, records_next, strip_
 use Rattle.csv.specs.Records.{AllText}
 use Rattle.csv.specs.declared.parser.State.{State}
 use Rattle.csv.specs.declared.parser.State.TheVariants as st
-use Rattle.schema_types.proofs.Places.{bytes_eq-comm}
+use Rattle.schema_types.proofs.NameIndexes.{bytes_eq-comm}
 use Rattle.schema_types.specs.Validity.{IsValidTable}
 use Rattle.schema_types.specs.declared.types.Column.{Column}
 use Rattle.schema_types.specs.declared.types.Kind.{Kind}
@@ -30,7 +30,7 @@ use Rattle.csv_tables.specs.Cells.{AreCellsOf, rows_of_cells, rows_of_columns}
 use Rattle.csv_tables.specs.Files.{after_header, header_of, rows_in_records, rows_of_file, rows_under_header}
 use Rattle.csv_tables.specs.Header.{column_place, column_places}
 use Rattle.csv_tables.specs.Keys.{rows_with_keys}
-use Rattle.csv_tables.specs.Numbers.{bits_of, decimal_after, greatest_magnitude, is_minus, is_numeral, signed, size_of, without_sign}
+use Rattle.csv_tables.specs.Numbers.{bits_of, decimal_after, greatest_magnitude, is_minus, is_numeral, signed, magnitude_of, without_sign}
 use Rattle.csv_tables.specs.Pools.{PoolBeginsWith}
 use Rattle.csv_tables.specs.Reads.{AreCellsOfRow, IsCellOf, add_row, kinds_of}
 use Rattle.csv_tables.specs.Records.{Record, records_of}
@@ -52,7 +52,7 @@ pub record IsPool (texts : List (List ℕ)) : Type 0 where
   pub utf8 : All IsUtf8 texts
   pub once : IsDistinct bytes_eq texts
 
-pub record GrowsByFile (old new : List (List ℕ)) (most : ℕ) : Type 0 where
+pub record PoolGrows (old new : List (List ℕ)) (most : ℕ) : Type 0 where
   pub pool : IsPool new
   pub begins : PoolBeginsWith old new
   pub few : length new ≤ length old + most
@@ -69,24 +69,24 @@ bytes_alike = record {
 record CellFound (k : Kind) (value : Value) (old : List (List ℕ)) : Type 0 where
   new : List (List ℕ)
   cell : ℕ
-  grows : GrowsByFile old new 1
+  grows : PoolGrows old new 1
   is : IsCellOf new k value cell
 
-record PlaceIn (texts : List (List ℕ)) (text : List ℕ) : Type 0 where
+record IndexOfText (texts : List (List ℕ)) (text : List ℕ) : Type 0 where
   place : ℕ
   low : place < length texts
   is : get_or texts place [] ≡ text
 
-place_in : (texts : List (List ℕ)) (text : List ℕ) → list_any (bytes_eq text) texts ≡ true → PlaceIn texts text
-place_in [] text e = absurd (cc)
-place_in (t ∷ texts) text e = elim (bytes_eq text t) as (λ b. bytes_eq text t ≡ b → PlaceIn (t ∷ texts) text) [
+index_of_text : (texts : List (List ℕ)) (text : List ℕ) → list_any (bytes_eq text) texts ≡ true → IndexOfText texts text
+index_of_text [] text e = absurd (cc)
+index_of_text (t ∷ texts) text e = elim (bytes_eq text t) as (λ b. bytes_eq text t ≡ b → IndexOfText (t ∷ texts) text) [
   | true ↦ λ same. record { place = 0; low = omega arith; is = sym (same_text text t same) }
-  | false ↦ λ differs. (let rest = place_in texts text (rw differs at e) in record { place = suc rest.place; low = omega (arith, rest.low); is = rest.is })
+  | false ↦ λ differs. (let rest = index_of_text texts text (rw differs at e) in record { place = suc rest.place; low = omega (arith, rest.low); is = rest.is })
 ] refl
 
 text_cell : (most : ℕ) (text : List ℕ) (old : List (List ℕ)) → IsPool old → IsUtf8 text → CellFound (kind.Text most) (Text text) old
 text_cell most text old pool utf8 = elim (list_any (bytes_eq text) old) as (λ b. list_any (bytes_eq text) old ≡ b → CellFound (kind.Text most) (Text text) old) [
-  | true ↦ λ there. (let at = place_in old text there in record {
+  | true ↦ λ there. (let at = index_of_text old text there in record {
     new = old;
     cell = at.place;
     grows = record { pool = pool; begins = begins_itself old; few = omega arith };
@@ -137,7 +137,7 @@ text_value most false field value old pool utf8 e = absurd cc
 
 value_cell : (k : Kind) (field : List ℕ) (value : Value) (old : List (List ℕ)) → IsPool old → IsUtf8 field → value_of_field k field ≡ Some value → CellFound k value old
 value_cell kind.Int field value old pool utf8 e =
-    number_cell (is_minus field) (size_of (greatest_magnitude (is_minus field)) (without_sign field)) value old pool
+    number_cell (is_minus field) (magnitude_of (greatest_magnitude (is_minus field)) (without_sign field)) value old pool
     (λ size is. sized (is_numeral (without_sign field)) (nat_le (decimal_after 0 (without_sign field)) (greatest_magnitude (is_minus field)))
     (decimal_after 0 (without_sign field)) (greatest_magnitude (is_minus field)) size refl is) e
 value_cell (kind.Text most) field value old pool utf8 e = text_value most (nat_le (length (chars field)) most) field value old pool utf8 e
@@ -175,7 +175,7 @@ text_at (field ∷ fields) (suc place) all = text_at fields place all.1
 record RowFound (kinds : List Kind) (row : Row) (old : List (List ℕ)) (most : ℕ) : Type 0 where
   new : List (List ℕ)
   cells : List ℕ
-  grows : GrowsByFile old new most
+  grows : PoolGrows old new most
   are : AreCellsOfRow new kinds row cells
 
 row_found : (number at : ℕ) (columns : List Column) (places : List ℕ) (fields : Record) (row : Row) (old : List (List ℕ)) → IsPool old → AllText fields

@@ -67,12 +67,12 @@ pub record PlanIsNear (made : StatsCall) (planned : PlanCall) (schema : Schema) 
 -- ---- the rows that were appended
 
 -- new rows for the table with this number in the schema
-pub record Added : Type 0 where
+pub record AddedRows : Type 0 where
   pub table : ℕ
   pub rows : List Row
 
 -- the words of `append` name the table and a file, and the added rows are the rows in this file
-pub record AddsRowsOfFile (schema : Schema) (append : AppendCall) (added : Added) : Type 0 where
+pub record AddsRowsOfFile (schema : Schema) (append : AppendCall) (added : AddedRows) : Type 0 where
   pub table : Table
   pub is_table : slice_get schema.tables added.table ≡ Some table
   pub named : str_eq_ignore_ascii_case table.name append.names.table ≡ true
@@ -81,18 +81,18 @@ pub record AddsRowsOfFile (schema : Schema) (append : AppendCall) (added : Added
   pub read : rows_of_file table bytes ≡ Ok added.rows
 
 -- the two lists are equally long, and call i of `append` added the rows at index i of the other list
-abbrev pub AddEach : Schema → List AppendCall → List Added → Type 0
-AddEach schema [] [] = ⊤
-AddEach schema [] (added ∷ more) = ⊥
-AddEach schema (append ∷ appends) [] = ⊥
-AddEach schema (append ∷ appends) (added ∷ more) = AddsRowsOfFile schema append added × AddEach schema appends more
+abbrev pub AddRowsEach : Schema → List AppendCall → List AddedRows → Type 0
+AddRowsEach schema [] [] = ⊤
+AddRowsEach schema [] (added ∷ more) = ⊥
+AddRowsEach schema (append ∷ appends) [] = ⊥
+AddRowsEach schema (append ∷ appends) (added ∷ more) = AddsRowsOfFile schema append added × AddRowsEach schema appends more
 
 -- all rows that were added to a table, in the order of the calls
-abbrev pub added_rows : ℕ → List Added → List Row
-added_rows table added = flat_map (λ (one : Added). if table == one.table then one.rows else []) added
+abbrev pub added_rows : ℕ → List AddedRows → List Row
+added_rows table added = flat_map (λ (one : AddedRows). if table == one.table then one.rows else []) added
 
 -- the rows of each entry, followed by the rows that were added to its table
-abbrev pub with_added : Query → Tables → List Added → Tables
+abbrev pub with_added : Query → Tables → List AddedRows → Tables
 with_added query tables added entry = tables entry ++ added_rows (table_of query entry) added
 
 -- `plan --stats` wrote the text of a plan to notes. Over the rows that `stats` read, with all added rows after them, no scan and no level
@@ -101,8 +101,8 @@ pub record GrownPlanHolds (made : StatsCall) (appends : List AppendCall) (planne
   pub query : Query
   pub tables : Tables
   pub over : IsOver made planned schema query tables
-  pub added : List Added
-  pub adds : AddEach schema appends added
+  pub added : List AddedRows
+  pub adds : AddRowsEach schema appends added
   pub text : List ℕ
   pub plan : PrintsPlan planned.terms.shape planned.terms.memory query (with_added query tables added) (scans_of query (with_added query tables added)) text
   pub written : Grew planned.call.notes text

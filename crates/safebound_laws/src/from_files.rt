@@ -2,7 +2,7 @@
 ghost use Rattle.std.specs.Prelude.{◌≡◌, ◌⊎◌, ◌<◌, ◌≤◌, ℕ, List, Result, Ok, Err, None, Some};
 ghost use Rattle.limits.specs.Profile.{most_accuracy, most_file};
 ghost use Rattle.base_io.specs.Files.{Files};
-ghost use Rattle.outcomes.specs.Reads.{seen};
+ghost use Rattle.outcomes.specs.Reads.{mapped};
 ghost use Rattle.outcomes.specs.declared.names.FileId.TheVariants as file;
 ghost use Rattle.safebound_words.specs.Commands.{over_query};
 ghost use Rattle.safebound_words.specs.declared.command.PlanTerms.{PlanTerms};
@@ -40,6 +40,6 @@ pub fn files_plan_as_their_tables()
         → 0 < accuracy → accuracy ≤ most_accuracy
         → command_run (over_query None schema_file query_file (works.WriteStats accuracy)) files ≡ Ok written → out_text written ≡ Some text
         → read file.Stats most_file stats_file files ≡ Ok text
-        → seen printed (command_run (over_query None schema_file query_file (works.PlanFromStats stats_file terms)) files)
-        ≡ seen printed (command_run (over_query None schema_file query_file (works.Plan (plan_of_columns terms accuracy))) files) }
+        → mapped printed (command_run (over_query None schema_file query_file (works.PlanFromStats stats_file terms)) files)
+        ≡ mapped printed (command_run (over_query None schema_file query_file (works.Plan (plan_of_columns terms accuracy))) files) }
 {}

@@ -8,14 +8,14 @@ use Rattle.degree_sequences.specs.RunningSums.{running_sum}
 use Rattle.degree_sequences.proofs.Counting.{sum_by-both-le, sum_by-filter, sum_by-map}
 
 module _ (picked : ℕ → Bool) (key : ℕ → ℕ) where
-  abbrev pub number : (ℕ → Bool) → List ℕ → ℕ
-  number passes rows = count_by picked (map key (filter passes rows))
+  abbrev pub picked_count : (ℕ → Bool) → List ℕ → ℕ
+  picked_count passes rows = count_by picked (map key (filter passes rows))
 
-  one : ℕ → ℕ
-  one row = cond (picked (key row)) 1 0
+  if_picked : ℕ → ℕ
+  if_picked row = cond (picked (key row)) 1 0
 
-  number_is : (passes : ℕ → Bool) (rows : List ℕ) → number passes rows ≡ sum_by (λ row. cond (passes row) (one row) 0) rows
-  unfolding one
+  number_is : (passes : ℕ → Bool) (rows : List ℕ) → picked_count passes rows ≡ sum_by (λ row. cond (passes row) (if_picked row) 0) rows
+  unfolding if_picked
   number_is passes rows =
       sum_by-map (λ a. cond (picked a) 1 0) key (filter passes rows) ∙ sym (sum_by-filter passes (λ row. cond (picked (key row)) 1 0) rows)
 
@@ -35,33 +35,33 @@ module _ (picked : ℕ → Bool) (key : ℕ → ℕ) where
   no_more_together false q n = omega arith
 
   module _ (first second : ℕ → Bool) (rows : List ℕ) where
-    pub both_first : number (λ row. first row && second row) rows ≤ number first rows
+    pub both_first : picked_count (λ row. first row && second row) rows ≤ picked_count first rows
     both_first =
         omega (
           arith,
           number_is (λ row. first row && second row) rows,
           number_is first rows,
-          sum_by-le-sum_by (λ row. cond (first row && second row) (one row) 0) (λ row. cond (first row) (one row) 0) rows (λ row. no_more (first row) (second row) (one row)),
+          sum_by-le-sum_by (λ row. cond (first row && second row) (if_picked row) 0) (λ row. cond (first row) (if_picked row) 0) rows (λ row. no_more (first row) (second row) (if_picked row)),
         )
 
-    pub both_second : number (λ row. first row && second row) rows ≤ number second rows
+    pub both_second : picked_count (λ row. first row && second row) rows ≤ picked_count second rows
     both_second =
         omega (
           arith,
           number_is (λ row. first row && second row) rows,
           number_is second rows,
-          sum_by-le-sum_by (λ row. cond (first row && second row) (one row) 0) (λ row. cond (second row) (one row) 0) rows (λ row. no_more_too (first row) (second row) (one row)),
+          sum_by-le-sum_by (λ row. cond (first row && second row) (if_picked row) 0) (λ row. cond (second row) (if_picked row) 0) rows (λ row. no_more_too (first row) (second row) (if_picked row)),
         )
 
-    pub either : number (λ row. first row || second row) rows ≤ number first rows + number second rows
+    pub either : picked_count (λ row. first row || second row) rows ≤ picked_count first rows + picked_count second rows
     either =
         omega (
           arith,
           number_is (λ row. first row || second row) rows,
           number_is first rows,
           number_is second rows,
-          sum_by-both-le (λ row. cond (first row || second row) (one row) 0) (λ row. cond (first row) (one row) 0) (λ row. cond (second row) (one row) 0)
-              (λ row. no_more_together (first row) (second row) (one row)) rows,
+          sum_by-both-le (λ row. cond (first row || second row) (if_picked row) 0) (λ row. cond (first row) (if_picked row) 0) (λ row. cond (second row) (if_picked row) 0)
+              (λ row. no_more_together (first row) (second row) (if_picked row)) rows,
         )
 
 -- ---- the running sums of the greater of two lists are at least the running sums of each list

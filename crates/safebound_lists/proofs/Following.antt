@@ -70,12 +70,12 @@ room_for before run may =
 -- ---- the test of the runs, one after another
 
 -- The loop of `first_wrong_run` has found that the runs before index `place` are right. `least` is their least degree (2^64 - 1 if there are
--- no runs before `place`), and `left` is 2^48 minus the sum of their list
-pub record IsTested (runs : List Run) (place least left : ℕ) : Type 0 where
+-- no runs before `place`), and `remaining` is 2^48 minus the sum of their list
+pub record IsTested (runs : List Run) (place least remaining : ℕ) : Type 0 where
   pub right : (i : ℕ) → i < place → IsRightAt runs i
   pub least_below : AllByRecursion (λ e. least ≤ e.degree) (take place runs)
   pub greatest : (x : ℕ) → x < 2 ^ 64 → AllByRecursion (λ e. x ≤ e.degree) (take place runs) → x ≤ least
-  pub sums : left + sum (list_of (take place runs)) ≡ 2 ^ 48
+  pub sums : remaining + sum (list_of (take place runs)) ≡ 2 ^ 48
 
 pub none_tested : (runs : List Run) → IsTested runs 0 18446744073709551615 281474976710656
 none_tested runs = record {
@@ -85,24 +85,24 @@ none_tested runs = record {
   sums = omega arith;
 }
 
-module _ (runs : List Run) (place least left : ℕ) (tested : IsTested runs place least left) (low : place < length runs) where
+module _ (runs : List Run) (place least remaining : ℕ) (tested : IsTested runs place least remaining) (low : place < length runs) where
   more : take (place + 1) runs ≡ take place runs ++ run_at runs place ∷ []
   more = take_more runs place no_run low
 
-  -- the loop calls a run wrong in two cases: its degree is above `least`, or it has more keys than `left` divided by its degree
+  -- the loop calls a run wrong in two cases: its degree is above `least`, or it has more keys than `remaining` divided by its degree
   pub rises : (run_at runs place).degree < 2 ^ 64 → least < (run_at runs place).degree → IsRightAt runs place → ⊥
   rises fits above may = absurd (omega (arith, tested.greatest (run_at runs place).degree fits may.falls))
 
-  pub passes : 0 < (run_at runs place).degree → left / (run_at runs place).degree < (run_at runs place).keys → IsRightAt runs place → ⊥
-  passes some above may =
-      let within : (run_at runs place).keys * (run_at runs place).degree ≤ left = omega (arith, sum_more (take place runs) (run_at runs place), may.sum, tested.sums) in
-      absurd (omega (arith, above, (le-div_iff_mul-le {k = (run_at runs place).degree} {x = (run_at runs place).keys} {y = left} some).1 within))
+  pub exceeds : 0 < (run_at runs place).degree → remaining / (run_at runs place).degree < (run_at runs place).keys → IsRightAt runs place → ⊥
+  exceeds some above may =
+      let within : (run_at runs place).keys * (run_at runs place).degree ≤ remaining = omega (arith, sum_more (take place runs) (run_at runs place), may.sum, tested.sums) in
+      absurd (omega (arith, above, (le-div_iff_mul-le {k = (run_at runs place).degree} {x = (run_at runs place).keys} {y = remaining} some).1 within))
 
   -- a run that passes all four tests is right
   module _ (degree : 0 < (run_at runs place).degree) (keys : 0 < (run_at runs place).keys) (falls : (run_at runs place).degree ≤ least)
-      (fits : (run_at runs place).keys ≤ left / (run_at runs place).degree) where
-    pub within_left : (run_at runs place).keys * (run_at runs place).degree ≤ left
-    within_left = (le-div_iff_mul-le {k = (run_at runs place).degree} {x = (run_at runs place).keys} {y = left} degree).0 fits
+      (fits : (run_at runs place).keys ≤ remaining / (run_at runs place).degree) where
+    pub within_left : (run_at runs place).keys * (run_at runs place).degree ≤ remaining
+    within_left = (le-div_iff_mul-le {k = (run_at runs place).degree} {x = (run_at runs place).keys} {y = remaining} degree).0 fits
 
     may_follow : IsRightAt runs place
     may_follow = record {
@@ -115,7 +115,7 @@ module _ (runs : List Run) (place least left : ℕ) (tested : IsTested runs plac
     right_so_far : (i : ℕ) → i < place + 1 → IsRightAt runs i
     right_so_far = below_more (IsRightAt runs) place tested.right may_follow
 
-    pub one_more_tested : IsTested runs (place + 1) (run_at runs place).degree (left - (run_at runs place).degree * (run_at runs place).keys)
+    pub one_more_tested : IsTested runs (place + 1) (run_at runs place).degree (remaining - (run_at runs place).degree * (run_at runs place).keys)
     one_more_tested = record {
       right = right_so_far;
       least_below = subst (AllByRecursion (λ e. (run_at runs place).degree ≤ e.degree)) (sym more)

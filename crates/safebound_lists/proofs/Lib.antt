@@ -1,5 +1,5 @@
 pub mod Conditions
-pub mod FallingRuns
+pub mod DescendingRuns
 pub mod Following
 pub mod Small
 pub mod Writing

@@ -28,13 +28,13 @@ unsaturated (x ∷ s) all =
 
 -- ---- the sum of two lists
 
-pub sum_told : (s t both : List ℕ) → sum s + sum t ≤ 2 ^ 48 → both ≡ map saturated (rank_sum s t) → both ≡ rank_sum s t
-sum_told s t both small is =
+pub sum_exact : (s t both : List ℕ) → sum s + sum t ≤ 2 ^ 48 → both ≡ map saturated (rank_sum s t) → both ≡ rank_sum s t
+sum_exact s t both small is =
     is ∙ unsaturated (rank_sum s t) (elements_within (rank_sum s t) (2 ^ 48) (omega (arith, small, sum-rank_sum s t)))
 
 pub sum_fits : (s t both : List ℕ) → sum s + sum t ≤ 2 ^ 48 → both ≡ map saturated (rank_sum s t) → AllByRecursion (λ x. x < 2 ^ 64) both
 sum_fits s t both small is =
-    fits_within both (omega (arith, small, ap sum (sum_told s t both small is), sum-rank_sum s t))
+    fits_within both (omega (arith, small, ap sum (sum_exact s t both small is), sum-rank_sum s t))
 
 -- ---- the lesser of two lists, and a list that is cut: each element fits 64 bits
 
@@ -72,11 +72,11 @@ pub record AreSmallLists (s t these others both : List ℕ) : Type 0 where
   pub second : t ≡ others
   pub first_small : sum s ≤ 2 ^ 48
   pub second_small : sum t ≤ 2 ^ 48
-  pub told : both ≡ map saturated (rank_maximum s t)
+  pub is_saturated : both ≡ map saturated (rank_maximum s t)
 
-pub maximum_told : (s t these others both : List ℕ) → AreSmallLists s t these others both → both ≡ rank_maximum these others
-maximum_told s t these others both are =
-    are.told
+pub maximum_exact : (s t these others both : List ℕ) → AreSmallLists s t these others both → both ≡ rank_maximum these others
+maximum_exact s t these others both are =
+    are.is_saturated
     ∙ unsaturated (rank_maximum s t) (maximum_elements s t (2 ^ 48) (elements_within s (2 ^ 48) are.first_small) (elements_within t (2 ^ 48) are.second_small))
     ∙ ap (λ (a : List ℕ). rank_maximum a t) are.first
     ∙ ap (rank_maximum these) are.second
@@ -84,7 +84,7 @@ maximum_told s t these others both are =
 pub maximum_total : (s t these others both : List ℕ) (total : ℕ) → AreSmallLists s t these others both → total ≡ saturated (sum both)
     → (total ≡ sum (rank_maximum these others)) × (total ≤ 2 ^ 49) × (sum both ≡ total)
 maximum_total s t these others both total are is =
-    let same : sum both ≡ sum (rank_maximum these others) = ap sum (maximum_told s t these others both are) in
+    let same : sum both ≡ sum (rank_maximum these others) = ap sum (maximum_exact s t these others both are) in
     let most : sum both ≤ 2 ^ 49 =
     omega (arith, same, maximum_within these others, ap sum are.first, ap sum are.second, are.first_small, are.second_small) in
     (omega (arith, same, most, is), omega (arith, most, is), omega (arith, most, is))

@@ -11,7 +11,7 @@ use Rattle.safebound_lists.specs.declared.runs.Run.{Run}
 use Rattle.safebound_lists.specs.Runs.{piece_of, no_run}
 use Rattle.safebound_lists.specs.declared.refusal.Refusal.{Refusal}
 use Rattle.safebound_lists.specs.declared.refusal.Refusal.TheVariants as refusal
-use Rattle.safebound_lists.specs.Written.{IsFilled, IsWritten, NeedsRoom}
+use Rattle.safebound_lists.specs.Written.{RoomBeginsWith, IsWritten, NeedsRoom}
 
 abbrev pub run_of : Piece → Run
 run_of piece = record { degree = piece.value; keys = piece.count }
@@ -79,22 +79,22 @@ if_done (Err e) h = tt
 
 -- ---- rooms that are filled element by element
 
-pub filled_none : {A : Type 0} (old : List A) → IsFilled [] old old 0
+pub filled_none : {A : Type 0} (old : List A) → RoomBeginsWith [] old old 0
 filled_none old = record { counted = refl; filled = refl }
 
-pub filled_more : {A : Type 0} (front old new : List A) (i : ℕ) (x d : A) → IsFilled front old new i → i < length old → IsFilled (front ++ x ∷ []) old (set new i x) (i + 1)
+pub filled_more : {A : Type 0} (front old new : List A) (i : ℕ) (x d : A) → RoomBeginsWith front old new i → i < length old → RoomBeginsWith (front ++ x ∷ []) old (set new i x) (i + 1)
 filled_more {A} front old new i x d so_far low = record {
   counted = omega (arith, length-append front (x ∷ []), so_far.counted);
   filled = ap (λ (s : List A). set s i x) so_far.filled ∙ one_more_in front old i x d so_far.counted low;
 }
 
-pub one_more_made : {A B : Type 0} (f : A → B) (xs : List A) (old new : List B) (i : ℕ) (x : B) (a : A) (b : B) → IsFilled (map f (take i xs)) old new i → i < length xs → i < length old
-    → x ≡ f (get_or xs i a) → IsFilled (map f (take (i + 1) xs)) old (set new i x) (i + 1)
+pub one_more_made : {A B : Type 0} (f : A → B) (xs : List A) (old new : List B) (i : ℕ) (x : B) (a : A) (b : B) → RoomBeginsWith (map f (take i xs)) old new i → i < length xs → i < length old
+    → x ≡ f (get_or xs i a) → RoomBeginsWith (map f (take (i + 1) xs)) old (set new i x) (i + 1)
 one_more_made {A} {B} f xs old new i x a b so_far low room is =
-    subst (λ (s : List B). IsFilled s old (set new i x) (i + 1)) (ap (λ (y : B). map f (take i xs) ++ y ∷ []) is ∙ sym (map_more f xs i a low))
+    subst (λ (s : List B). RoomBeginsWith s old (set new i x) (i + 1)) (ap (λ (y : B). map f (take i xs) ++ y ∷ []) is ∙ sym (map_more f xs i a low))
     (filled_more (map f (take i xs)) old new i x b so_far room)
 
-pub all_made : {A B : Type 0} (f : A → B) (xs : List A) (old new : List B) (i : ℕ) → IsFilled (map f (take i xs)) old new i → i ≡ length xs → IsFilled (map f xs) old new (length xs)
+pub all_made : {A B : Type 0} (f : A → B) (xs : List A) (old new : List B) (i : ℕ) → RoomBeginsWith (map f (take i xs)) old new i → i ≡ length xs → RoomBeginsWith (map f xs) old new (length xs)
 all_made {A} {B} f xs old new i so_far end =
-    subst (λ (s : List B). IsFilled s old new (length xs)) (ap (map f) (take_all (length xs) xs (omega arith)))
-    (subst (λ (k : ℕ). IsFilled (map f (take k xs)) old new k) end so_far)
+    subst (λ (s : List B). RoomBeginsWith s old new (length xs)) (ap (map f) (take_all (length xs) xs (omega arith)))
+    (subst (λ (k : ℕ). RoomBeginsWith (map f (take k xs)) old new k) end so_far)

@@ -12,7 +12,7 @@ use Rattle.safebound_lists.specs.declared.refusal.Refusal.{Refusal}
 use Rattle.safebound_lists.specs.declared.refusal.Refusal.TheVariants as refusal
 use Rattle.safebound_lists.specs.declared.runs.Run.{Run}
 use Rattle.safebound_lists.specs.First.{IsFirstWrong}
-use Rattle.safebound_lists.specs.Runs.{AreBothRight, AreRight, IsRightAt, MayBeAdded, MayBeCompressed, MayBeRaised, list_of}
+use Rattle.safebound_lists.specs.Runs.{AreBothRight, AreRight, IsRightAt, MayBeAdded, MayBeCompressed, MayTakeGreater, list_of}
 
 -- why a call for the degrees of keys refuses: too many keys, too little room, or no memory, which needs no cause
 abbrev pub IsDegreesCause : List ℕ → ℕ → Refusal → Type 0
@@ -58,7 +58,7 @@ IsGreaterCause runs others room (refusal.OtherRun place) = AreRight runs × IsFi
 IsGreaterCause runs others room (refusal.Sum of_both) =
     AreBothRight runs others × (of_both ≡ sum (rank_maximum (list_of runs) (list_of others))) × (greatest_rows < of_both)
 IsGreaterCause runs others room (refusal.Room needed) =
-    MayBeRaised runs others × (needed ≡ runs_in (rank_maximum (list_of runs) (list_of others))) × (room < needed)
+    MayTakeGreater runs others × (needed ≡ runs_in (rank_maximum (list_of runs) (list_of others))) × (room < needed)
 IsGreaterCause runs others room refusal.NoMemory = ⊤
 IsGreaterCause runs others room _ = ⊥
 

@@ -58,6 +58,6 @@ pub record AreBothRight (runs others : List Run) : Type 0 where
   pub others_right : AreRight others
 
 -- a greater list: two right lists. The greater of their degrees at each rank sum to at most 2^48
-pub record MayBeRaised (runs others : List Run) : Type 0 where
+pub record MayTakeGreater (runs others : List Run) : Type 0 where
   pub both : AreBothRight runs others
   pub small : sum (rank_maximum (list_of runs) (list_of others)) ≤ greatest_rows

@@ -7,7 +7,7 @@ use Rattle.safebound_lists.specs.declared.runs.Run.{Run}
 use Rattle.safebound_lists.specs.Runs.{list_of, piece_of}
 
 -- the room now begins with the `count` elements of `front`, and its other elements are as they were
-pub record IsFilled {A : Type 0} (front old new : List A) (count : ℕ) : Type 0 where
+pub record RoomBeginsWith {A : Type 0} (front old new : List A) (count : ℕ) : Type 0 where
   pub counted : length front ≡ count
   pub filled : new ≡ front ++ drop count old
 
@@ -17,7 +17,7 @@ pub record IsWritten (list : List ℕ) (old new : List Run) (count : ℕ) : Type
   pub front : List Run
   pub stands_for : list_of front ≡ list
   pub falls : AreRuns (map piece_of front)
-  pub filled : IsFilled front old new count
+  pub filled : RoomBeginsWith front old new count
 
 -- the refusal says that the room is too small, and how many elements are needed
 abbrev pub NeedsRoom : ℕ → ℕ → Refusal → Type 0

@@ -3,7 +3,7 @@ ghost use Rattle.std.specs.Prelude.{◌≡◌, length, IfErr, IfOk, OnErr, OnOk}
 ghost use Rattle.degree_sequences.specs.ByRank.{rank_maximum};
 ghost use Rattle.degree_sequences.specs.RunningSums.{lesser};
 ghost use Rattle.safebound_lists.specs.Causes.{IsGreaterCause, IsLesserCause};
-ghost use Rattle.safebound_lists.specs.Runs.{AreBothRight, MayBeRaised, list_of};
+ghost use Rattle.safebound_lists.specs.Runs.{AreBothRight, MayTakeGreater, list_of};
 ghost use Rattle.safebound_lists.specs.Written.{IsWritten};
 
 use crate::refusal::Refusal;
@@ -49,7 +49,7 @@ pub fn greater_of(
     into: &mut [Run],
 ) -> Result<u64, Refusal>
     ensures done { IfOk result (IsWritten (rank_maximum (list_of runs.now) (list_of others.now)) into.old into.new) }
-    ensures right { OnOk result (MayBeRaised runs.now others.now) }
+    ensures right { OnOk result (MayTakeGreater runs.now others.now) }
     ensures refused { IfErr result (IsGreaterCause runs.now others.now (length into.old)) }
     ensures kept { OnErr result (into.new ≡ into.old) }
 {

@@ -3,7 +3,7 @@ ghost use Rattle.std.specs.Prelude.{◌≡◌, ◌+◌, ◌<◌, ◌≤◌, leng
 ghost use Rattle.std.specs.List.{All, AllWithin};
 ghost use Rattle.limits.specs.Profile.{greatest_rows};
 ghost use Rattle.degree_sequences.specs.Degrees.{degree_list};
-ghost use Rattle.degree_sequences.specs.Falling.{IsFalling};
+ghost use Rattle.degree_sequences.specs.Descending.{IsDescending};
 ghost use Rattle.safebound_lists.specs.Causes.{IsDegreesCause};
 ghost use Rattle.safebound_lists.specs.Written.{IsWritten};
 
@@ -18,7 +18,7 @@ use std::alloc::Global;
 
 // How many elements, from `start` on, are equal to the element at `start`. In a descending list equal elements are neighbours.
 fn run_length(list: &[u64], start: usize) -> usize
-    requires falls { IsFalling list.now }
+    requires falls { IsDescending list.now }
     requires start { start < length list.now }
     ensures some { 0 < result }
     ensures within { start + result ≤ length list.now }
@@ -29,8 +29,8 @@ fn run_length(list: &[u64], start: usize) -> usize
 }
 
 // A descending list as pieces. The loop goes from run to run, since a long list of degrees has few runs.
-fn pieces_of_falling(alloc: Global, list: &[u64]) -> Result<Pieces, NoMemory>
-    requires falls { IsFalling list.now }
+fn pieces_of_descending(alloc: Global, list: &[u64]) -> Result<Pieces, NoMemory>
+    requires falls { IsDescending list.now }
     requires positive { All (λ x. 0 < x) list.now }
     ensures { IfOk result (λ pieces. pieces ≡ list.now) }
 {
@@ -59,6 +59,6 @@ pub fn degrees(alloc: Global, keys: &[u64], into: &mut [Run]) -> Result<u64, Ref
         });
     }
     let degrees = falling(alloc, keys)?;
-    let list = pieces_of_falling(alloc, degrees.as_slice())?;
+    let list = pieces_of_descending(alloc, degrees.as_slice())?;
     write_runs(&list, into)
 }

@@ -5,14 +5,14 @@ ghost use Rattle.degree_sequences.specs.ByRank.{rank_maximum, rank_sum};
 ghost use Rattle.degree_sequences.specs.Compression.{compressed};
 ghost use Rattle.degree_sequences.specs.Degrees.{degree_list};
 ghost use Rattle.degree_sequences.specs.Domination.{DominatesKeys};
-ghost use Rattle.degree_sequences.specs.Falling.{IsFalling};
+ghost use Rattle.degree_sequences.specs.Descending.{IsDescending};
 ghost use Rattle.degree_sequences.specs.RunningSums.{cut_at, lesser};
 
 /// A degree sequence dominates its keys. A compressed list dominates what the list dominates. The sum of two lists dominates the keys of both
 /// together.
 pub fn lists_dominate()
     ensures degrees { (keys : List ℕ) → DominatesKeys (degree_list keys) keys }
-    ensures compressed { (list : List ℕ) (accuracy : ℕ) (keys : List ℕ) → IsFalling list
+    ensures compressed { (list : List ℕ) (accuracy : ℕ) (keys : List ℕ) → IsDescending list
         → DominatesKeys list keys → DominatesKeys (compressed accuracy list) keys }
     ensures added { (list later : List ℕ) (keys more : List ℕ)
         → DominatesKeys list keys → DominatesKeys later more → DominatesKeys (rank_sum list later) (keys ++ more) }

@@ -6,25 +6,25 @@
 //! One call cuts a list. Each call answers how many elements it wrote. If it answers a `Refusal`, the room is as it was. No call has a
 //! precondition: it tests what it needs.
 //!
-//! Callers cite `AreRight` for lists, and `MayBeCompressed`, `MayBeAdded`, `AreBothRight` and `MayBeRaised` for what calls take. They cite
+//! Callers cite `AreRight` for lists, and `MayBeCompressed`, `MayBeAdded`, `AreBothRight` and `MayTakeGreater` for what calls take. They cite
 //! `IsWritten` for what is in the room afterwards, and for each call the causes of its refusals.
 #![tactic(auto)]
 
 mod adding;
 mod comparing;
+mod compressing;
 mod counting;
 mod cutting;
 mod laws;
 mod refusal;
 mod runs;
-mod squeezing;
 mod written;
 
 pub use adding::append;
 pub use comparing::{greater_of, lesser_of};
+pub use compressing::compress;
 pub use counting::degrees;
 pub use cutting::cut;
 pub use laws::{conditions_dominate, lists_dominate};
 pub use refusal::Refusal;
 pub use runs::{Run, first_wrong_run, pieces_of};
-pub use squeezing::compress;

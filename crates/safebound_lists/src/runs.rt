@@ -23,12 +23,16 @@ pub fn first_wrong_run(runs: &[Run]) -> Option<usize>
     ensures { MatchOption result (AreRight runs.now) (λ place. IsFirstWrong (IsRightAt runs.now) (length runs.now) place) }
 {
     let mut least = u64::MAX;
-    let mut left = GREATEST_ROWS;
+    let mut remaining = GREATEST_ROWS;
     for (place, run) in runs.iter().enumerate() {
-        if run.degree == 0 || run.keys == 0 || run.degree > least || run.keys > left / run.degree {
+        if run.degree == 0
+            || run.keys == 0
+            || run.degree > least
+            || run.keys > remaining / run.degree
+        {
             return Some(place);
         }
-        left -= run.degree * run.keys;
+        remaining -= run.degree * run.keys;
         least = run.degree;
     }
     None

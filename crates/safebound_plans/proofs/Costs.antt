@@ -6,67 +6,67 @@ use Rattle.entry_sets.specs.Sets.{set_of}
 use Rattle.order_search.specs.Orders.{cost as order_cost, greatest, levels, prefixes}
 use Rattle.bushy_plan.specs.BestTree.{cost as tree_cost, inner_greatest}
 use Rattle.bushy_plan.specs.PlanTrees.{PlanTree, leaf_set, leaf, node}
-use Rattle.safebound_plans.specs.Bits.{all_widened, no_bound, in_128_bits}
+use Rattle.safebound_plans.specs.Bits.{all_in_128_bits, no_bound, in_128_bits}
 
 -- the number fits 64 bits, or it is the greatest number of 128 bits, which means 2^128 - 1 or more
-abbrev IsNarrow : ℕ → Type 0
-IsNarrow x = (x < 2 ^ 64) ⊎ (x ≡ 2 ^ 128 - 1)
+abbrev Fits64OrIsTop : ℕ → Type 0
+Fits64OrIsTop x = (x < 2 ^ 64) ⊎ (x ≡ 2 ^ 128 - 1)
 
-widened_narrow : (b : ℕ) → b < 2 ^ 64 → IsNarrow (in_128_bits b)
+widened_narrow : (b : ℕ) → b < 2 ^ 64 → Fits64OrIsTop (in_128_bits b)
 widened_narrow b fits = by (eqb b no_bound)
   where
-    by : (t : Bool) → IsNarrow (if t then 2 ^ 128 - 1 else b)
+    by : (t : Bool) → Fits64OrIsTop (if t then 2 ^ 128 - 1 else b)
     by true = inr refl
     by false = inl fits
 
-narrow_at : (bounds : List ℕ) → ((k : ℕ) → get_or bounds k 0 < 2 ^ 64) → (i : ℕ) → IsNarrow (get_or (all_widened bounds) i 0)
+narrow_at : (bounds : List ℕ) → ((k : ℕ) → get_or bounds k 0 < 2 ^ 64) → (i : ℕ) → Fits64OrIsTop (get_or (all_in_128_bits bounds) i 0)
 narrow_at [] fits i = inl (omega arith)
 narrow_at (b ∷ bs) fits zero = widened_narrow b (fits 0)
 narrow_at (b ∷ bs) fits (suc i) = narrow_at bs (λ k. fits (suc k)) i
 
 -- ---- orders
 
-greatest_narrow : (xs : List ℕ) → AllByRecursion IsNarrow xs → greatest xs ≤ 2 ^ 128 - 2 → greatest xs < 2 ^ 64
+greatest_narrow : (xs : List ℕ) → AllByRecursion Fits64OrIsTop xs → greatest xs ≤ 2 ^ 128 - 2 → greatest xs < 2 ^ 64
 greatest_narrow [] all low = omega arith
 greatest_narrow (x ∷ xs) all low =
     let rest : greatest xs < 2 ^ 64 = greatest_narrow xs all.1 (omega (arith, low)) in
     first all.0 rest
   where
-    first : IsNarrow x → greatest xs < 2 ^ 64 → max x (greatest xs) < 2 ^ 64
+    first : Fits64OrIsTop x → greatest xs < 2 ^ 64 → max x (greatest xs) < 2 ^ 64
     first (inl small) rest = omega (arith, small, rest)
     first (inr top) rest = absurd (omega (arith, top, low))
 
-all_narrow : (f : List ℕ → ℕ) → ((x : List ℕ) → IsNarrow (f x)) → (xs : List (List ℕ)) → AllByRecursion IsNarrow (map f xs)
+all_narrow : (f : List ℕ → ℕ) → ((x : List ℕ) → Fits64OrIsTop (f x)) → (xs : List (List ℕ)) → AllByRecursion Fits64OrIsTop (map f xs)
 all_narrow f h [] = tt
 all_narrow f h (x ∷ xs) = (h x, all_narrow f h xs)
 
-pub order_narrow : (bounds order : List ℕ) → ((k : ℕ) → get_or bounds k 0 < 2 ^ 64) → order_cost (all_widened bounds) order ≤ 2 ^ 128 - 2
-    → order_cost (all_widened bounds) order < 2 ^ 64
+pub order_narrow : (bounds order : List ℕ) → ((k : ℕ) → get_or bounds k 0 < 2 ^ 64) → order_cost (all_in_128_bits bounds) order ≤ 2 ^ 128 - 2
+    → order_cost (all_in_128_bits bounds) order < 2 ^ 64
 order_narrow bounds order fits low =
-    greatest_narrow (levels (all_widened bounds) order)
-    (all_narrow (λ prefix. get_or (all_widened bounds) (set_of prefix) 0) (λ prefix. narrow_at bounds fits (set_of prefix)) (prefixes order)) low
+    greatest_narrow (levels (all_in_128_bits bounds) order)
+    (all_narrow (λ prefix. get_or (all_in_128_bits bounds) (set_of prefix) 0) (λ prefix. narrow_at bounds fits (set_of prefix)) (prefixes order)) low
 
 -- ---- trees
 
-either_narrow : (x rest : ℕ) → IsNarrow x → max x rest ≤ 2 ^ 128 - 2 → rest < 2 ^ 64 → max x rest < 2 ^ 64
+either_narrow : (x rest : ℕ) → Fits64OrIsTop x → max x rest ≤ 2 ^ 128 - 2 → rest < 2 ^ 64 → max x rest < 2 ^ 64
 either_narrow x rest (inl small) low h = omega arith
 either_narrow x rest (inr top) low h = absurd (omega arith)
 
-inner_narrow : (bounds : List ℕ) → ((k : ℕ) → get_or bounds k 0 < 2 ^ 64) → (t : PlanTree) → inner_greatest (all_widened bounds) t ≤ 2 ^ 128 - 2
-    → inner_greatest (all_widened bounds) t < 2 ^ 64
+inner_narrow : (bounds : List ℕ) → ((k : ℕ) → get_or bounds k 0 < 2 ^ 64) → (t : PlanTree) → inner_greatest (all_in_128_bits bounds) t ≤ 2 ^ 128 - 2
+    → inner_greatest (all_in_128_bits bounds) t < 2 ^ 64
 inner_narrow bounds fits (leaf entry) low = omega arith
 inner_narrow bounds fits (node left right) low =
-    let l : inner_greatest (all_widened bounds) left < 2 ^ 64 = inner_narrow bounds fits left (omega arith) in
-    let r : inner_greatest (all_widened bounds) right < 2 ^ 64 = inner_narrow bounds fits right (omega arith) in
-    either_narrow (get_or (all_widened bounds) (leaf_set left + leaf_set right) 0)
-    (max (inner_greatest (all_widened bounds) left) (inner_greatest (all_widened bounds) right))
+    let l : inner_greatest (all_in_128_bits bounds) left < 2 ^ 64 = inner_narrow bounds fits left (omega arith) in
+    let r : inner_greatest (all_in_128_bits bounds) right < 2 ^ 64 = inner_narrow bounds fits right (omega arith) in
+    either_narrow (get_or (all_in_128_bits bounds) (leaf_set left + leaf_set right) 0)
+    (max (inner_greatest (all_in_128_bits bounds) left) (inner_greatest (all_in_128_bits bounds) right))
     (narrow_at bounds fits (leaf_set left + leaf_set right)) low (omega arith)
 
-alone_narrow : (x : ℕ) → IsNarrow x → x ≤ 2 ^ 128 - 2 → x < 2 ^ 64
+alone_narrow : (x : ℕ) → Fits64OrIsTop x → x ≤ 2 ^ 128 - 2 → x < 2 ^ 64
 alone_narrow x (inl small) low = small
 alone_narrow x (inr top) low = absurd (omega arith)
 
-pub tree_narrow : (bounds : List ℕ) → ((k : ℕ) → get_or bounds k 0 < 2 ^ 64) → (t : PlanTree) → tree_cost (all_widened bounds) t ≤ 2 ^ 128 - 2
-    → tree_cost (all_widened bounds) t < 2 ^ 64
-tree_narrow bounds fits (leaf entry) low = alone_narrow (get_or (all_widened bounds) (2 ^ entry) 0) (narrow_at bounds fits (2 ^ entry)) low
+pub tree_narrow : (bounds : List ℕ) → ((k : ℕ) → get_or bounds k 0 < 2 ^ 64) → (t : PlanTree) → tree_cost (all_in_128_bits bounds) t ≤ 2 ^ 128 - 2
+    → tree_cost (all_in_128_bits bounds) t < 2 ^ 64
+tree_narrow bounds fits (leaf entry) low = alone_narrow (get_or (all_in_128_bits bounds) (2 ^ entry) 0) (narrow_at bounds fits (2 ^ entry)) low
 tree_narrow bounds fits (node left right) low = inner_narrow bounds fits (node left right) low

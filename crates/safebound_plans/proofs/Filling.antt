@@ -2,7 +2,7 @@
 use Rattle.std.proofs.Common.{◌≡◌, ℕ, ◌+◌, ◌<◌, ◌≤◌, List, [], ◌∷◌, ◌++◌, length, take, drop, get_or, refl, ap, sym, ◌∙◌, arith}
 use Rattle.std.proofs.Math.ListN.{set}
 use Rattle.std.proofs.lemmas.List.{map-append, take_all, take_more}
-use Rattle.safebound_lists.specs.Written.{IsFilled}
+use Rattle.safebound_lists.specs.Written.{RoomBeginsWith}
 use Rattle.safebound_lists.proofs.Writing.{filled_more, filled_none}
 use Rattle.safebound_plans.specs.declared.ordering.Level.{Level}
 use Rattle.safebound_plans.specs.Orders.{AreLevels, bounds_in, entries_in}
@@ -13,14 +13,14 @@ pub record SoFar (order levels : List ℕ) (old new : List Level) (i : ℕ) : Ty
   pub front : List Level
   pub entries : entries_in front ≡ take i order
   pub bounds : bounds_in front ≡ take i levels
-  pub filled : IsFilled front old new i
+  pub filled : RoomBeginsWith front old new i
 
 pub none_so_far : (order levels : List ℕ) (old : List Level) → SoFar order levels old old 0
 none_so_far order levels old = record { front = []; entries = refl; bounds = refl; filled = filled_none old }
 
 -- a look-up past the end of a list gives this level
-abbrev pub no_level : Level
-no_level = record { entry = 0; bound = 0 }
+abbrev pub default_level : Level
+default_level = record { entry = 0; bound = 0 }
 
 pub one_more_level : (order levels : List ℕ) (old new : List Level) (i : ℕ) (x : Level) → SoFar order levels old new i → i < length order → i < length levels → i < length old
     → x.entry ≡ get_or order i 0 → x.bound ≡ get_or levels i 0 → SoFar order levels old (set new i x) (i + 1)
@@ -34,7 +34,7 @@ one_more_level order levels old new i x so_far low lower room entry bound = reco
       ∙ ap (λ (s : List ℕ). s ++ x.bound ∷ []) so_far.bounds
       ∙ ap (λ (e : ℕ). take i levels ++ e ∷ []) bound
       ∙ sym (take_more levels i 0 lower);
-  filled = filled_more so_far.front old new i x no_level so_far.filled room;
+  filled = filled_more so_far.front old new i x default_level so_far.filled room;
 }
 
 pub all_levels : (order levels : List ℕ) (old new : List Level) (i : ℕ) → SoFar order levels old new i → i ≡ length order → length levels ≤ i → AreLevels order levels old new

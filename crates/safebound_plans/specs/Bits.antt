@@ -10,5 +10,5 @@ no_bound = 2 ^ 64 - 1
 abbrev pub in_128_bits : ℕ → ℕ
 in_128_bits bound = if bound == no_bound then top_bound else bound
 
-abbrev pub all_widened : List ℕ → List ℕ
-all_widened bounds = map in_128_bits bounds
+abbrev pub all_in_128_bits : List ℕ → List ℕ
+all_in_128_bits bounds = map in_128_bits bounds

@@ -8,11 +8,11 @@ use Rattle.bushy_plan.specs.Causes.{IsCause as IsBushyCause}
 use Rattle.safebound_lists.specs.declared.refusal.Refusal.{Refusal}
 use Rattle.safebound_lists.specs.declared.refusal.Refusal.TheVariants as refusal
 use Rattle.safebound_plans.specs.Given.{AreOfSets, MayPlan}
-use Rattle.safebound_plans.specs.Bits.{all_widened}
+use Rattle.safebound_plans.specs.Bits.{all_in_128_bits}
 
 -- there are `count` bounds, which isn't the number of sets of n entries for any n from 1 to 12
-abbrev pub AreOfNoSets : List ℕ → ℕ → Type 0
-AreOfNoSets bounds count = (count ≡ length bounds) × ((n : ℕ) → ¬ AreOfSets bounds n)
+abbrev pub IsWrongCount : List ℕ → ℕ → Type 0
+IsWrongCount bounds count = (count ≡ length bounds) × ((n : ℕ) → ¬ AreOfSets bounds n)
 
 -- the budget is too large
 abbrev pub IsBudgetCause : List ℕ → ℕ → ℕ → Type 0
@@ -21,25 +21,25 @@ IsBudgetCause bounds budget given = (n : ℕ) × AreOfSets bounds n × (given �
 -- why a call for an order refuses: a wrong number of bounds, a budget that is too large, too little room, no order within the budget, or no order
 -- in which each level has a bound
 abbrev pub IsOrderCause : List ℕ → ℕ → ℕ → Refusal → Type 0
-IsOrderCause bounds budget room (refusal.Bounds count) = AreOfNoSets bounds count
+IsOrderCause bounds budget room (refusal.Bounds count) = IsWrongCount bounds count
 IsOrderCause bounds budget room (refusal.GivenBudget given) = IsBudgetCause bounds budget given
 IsOrderCause bounds budget room (refusal.Room needed) = MayPlan bounds needed budget × (room < needed)
 IsOrderCause bounds budget room (refusal.Budget least) =
-    (n : ℕ) × MayPlan bounds n budget × (n ≤ room) × IsCause (all_widened bounds) n budget (plan_error.Budget least)
+    (n : ℕ) × MayPlan bounds n budget × (n ≤ room) × IsCause (all_in_128_bits bounds) n budget (plan_error.Budget least)
 IsOrderCause bounds budget room refusal.PastBits =
-    (n : ℕ) × MayPlan bounds n budget × (n ≤ room) × IsCause (all_widened bounds) n budget plan_error.PastBits
+    (n : ℕ) × MayPlan bounds n budget × (n ≤ room) × IsCause (all_in_128_bits bounds) n budget plan_error.PastBits
 IsOrderCause bounds budget room refusal.NoMemory = ⊤
 IsOrderCause bounds budget room _ = ⊥
 
 -- why a call for a tree refuses: a wrong number of bounds, a budget that is too large, too little room, no tree within the budget, or no tree
 -- in which each node has a bound
 abbrev pub IsTreeCause : List ℕ → ℕ → ℕ → Refusal → Type 0
-IsTreeCause bounds budget room (refusal.Bounds count) = AreOfNoSets bounds count
+IsTreeCause bounds budget room (refusal.Bounds count) = IsWrongCount bounds count
 IsTreeCause bounds budget room (refusal.GivenBudget given) = IsBudgetCause bounds budget given
 IsTreeCause bounds budget room (refusal.Room needed) = MayPlan bounds (needed + 1) budget × (room < needed)
 IsTreeCause bounds budget room (refusal.Budget least) =
-    (n : ℕ) × MayPlan bounds n budget × (n ≤ room + 1) × IsBushyCause (all_widened bounds) n budget (plan_error.Budget least)
+    (n : ℕ) × MayPlan bounds n budget × (n ≤ room + 1) × IsBushyCause (all_in_128_bits bounds) n budget (plan_error.Budget least)
 IsTreeCause bounds budget room refusal.PastBits =
-    (n : ℕ) × MayPlan bounds n budget × (n ≤ room + 1) × IsBushyCause (all_widened bounds) n budget plan_error.PastBits
+    (n : ℕ) × MayPlan bounds n budget × (n ≤ room + 1) × IsBushyCause (all_in_128_bits bounds) n budget plan_error.PastBits
 IsTreeCause bounds budget room refusal.NoMemory = ⊤
 IsTreeCause bounds budget room _ = ⊥

@@ -12,20 +12,20 @@ use Rattle.safebound_plans.specs.declared.shaping.JoinNode.{JoinNode}
 use Rattle.safebound_plans.specs.Orders.{bounds_in, entries_in}
 
 -- what a lookup past the end of a list gives
-abbrev pub no_level : Level
-no_level = record { entry = 0; bound = 0 }
+abbrev pub default_level : Level
+default_level = record { entry = 0; bound = 0 }
 
-abbrev pub no_node : JoinNode
-no_node = record { left = 0; right = 0; bound = 0 }
+abbrev pub default_node : JoinNode
+default_node = record { left = 0; right = 0; bound = 0 }
 
 -- the level at this index is of an entry that exists
 abbrev pub IsLevelRightAt : ℕ → List Level → ℕ → Type 0
-IsLevelRightAt entries levels place = (slice_index_or levels place no_level).entry < entries
+IsLevelRightAt entries levels place = (slice_index_or levels place default_level).entry < entries
 
 -- the join at this index joins two nodes that are before it. First come the nodes of the entries, and then one node for each join
 abbrev pub IsJoinRightAt : ℕ → List JoinNode → ℕ → Type 0
 IsJoinRightAt entries joins place =
-    let join = slice_index_or joins place no_node in (join.left < entries + place) × (join.right < entries + place)
+    let join = slice_index_or joins place default_node in (join.left < entries + place) × (join.right < entries + place)
 
 -- there is a number of rows for each of 1 to 12 entries
 abbrev pub AreOfEntries : List ℕ → Type 0

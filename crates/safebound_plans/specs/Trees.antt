@@ -3,10 +3,10 @@ use Rattle.std.specs.Prelude.{ℕ, ◌+◌, ◌≤◌, List, map}
 use Rattle.tree_plans.specs.declared.bushy.Join.{Join}
 use Rattle.bushy_plan.specs.BestTree.{IsBest, cost}
 use Rattle.bushy_plan.specs.PlanTrees.{PlanTree, joins_from}
-use Rattle.safebound_lists.specs.Written.{IsFilled}
+use Rattle.safebound_lists.specs.Written.{RoomBeginsWith}
 use Rattle.safebound_plans.specs.declared.shaping.JoinNode.{JoinNode}
 use Rattle.safebound_plans.specs.Given.{MayPlan}
-use Rattle.safebound_plans.specs.Bits.{all_widened}
+use Rattle.safebound_plans.specs.Bits.{all_in_128_bits}
 
 abbrev pub node_of : Join → JoinNode
 node_of join = record { left = join.left; right = join.right; bound = join.bound }
@@ -15,6 +15,6 @@ node_of join = record { left = join.left; right = join.right; bound = join.bound
 pub record IsBestTree (bounds : List ℕ) (budget : ℕ) (old new : List JoinNode) (count : ℕ) : Type 0 where
   pub given : MayPlan bounds (count + 1) budget
   pub tree : PlanTree
-  pub best : IsBest (all_widened bounds) (count + 1) tree
-  pub within : cost (all_widened bounds) tree ≤ budget
-  pub written : IsFilled (map node_of (joins_from (all_widened bounds) (count + 1) tree)) old new count
+  pub best : IsBest (all_in_128_bits bounds) (count + 1) tree
+  pub within : cost (all_in_128_bits bounds) tree ≤ budget
+  pub written : RoomBeginsWith (map node_of (joins_from (all_in_128_bits bounds) (count + 1) tree)) old new count

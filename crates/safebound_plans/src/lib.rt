@@ -11,9 +11,9 @@
 #![tactic(auto)]
 
 mod memory;
-mod narrow;
 mod ordering;
 mod shaping;
+mod widening;
 
 pub use memory::{order_memory, small_plans, tree_memory};
 pub use ordering::{Level, order};

@@ -81,7 +81,7 @@ fn write_joins(nodes: &[JoinNode], into: &mut [Join])
 }
 
 // The number `bytes` in 64 bits, if it fits.
-fn told(bytes: u128) -> Result<u64, Refusal>
+fn in_64_bits(bytes: u128) -> Result<u64, Refusal>
     ensures done { IfOk result (λ told. told ≡ bytes) }
     ensures refused { IfErr result (λ e. (e ≡ refusal.PastBits) × (2 ^ 64 ≤ bytes)) }
 {
@@ -117,7 +117,7 @@ pub fn order_memory(rows: &[u64], levels: &[Level]) -> Result<u64, Refusal>
     let bounds = &mut bounds[..count];
     write_entries(levels, order);
     write_bounds(levels, bounds);
-    told(plan_memory(order, rows, bounds))
+    in_64_bits(plan_memory(order, rows, bounds))
 }
 
 /// How many bytes an engine's buffers take for the join tree with these joins, if `rows` has the most rows of each entry's list.
@@ -146,7 +146,7 @@ pub fn tree_memory(rows: &[u64], joins: &[JoinNode]) -> Result<u64, Refusal>
     }; MOST_ENTRIES];
     let nodes = &mut nodes[..joins.len()];
     write_joins(joins, nodes);
-    told(joins_memory(rows, nodes))
+    in_64_bits(joins_memory(rows, nodes))
 }
 
 /// The bytes of two small plans. This function does nothing.

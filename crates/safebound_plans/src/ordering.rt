@@ -4,7 +4,7 @@ ghost use Rattle.plans.specs.LeftDeep.{IsPlan};
 ghost use Rattle.safebound_plans.specs.Causes.{IsOrderCause};
 ghost use Rattle.safebound_plans.specs.Orders.{AreLevels, IsBestOrder};
 
-use crate::narrow::{entries_of, no_scans, widened_bounds};
+use crate::widening::{bounds_in_128_bits, empty_scans, entries_of};
 use limits::GREATEST_BUDGET;
 use order_search::{PlanError, choose};
 use plans::Plan;
@@ -54,8 +54,8 @@ pub fn order(alloc: Global, bounds: &[u64], budget: u64, into: &mut [Level]) -> 
             needed: u64::from(entries),
         });
     }
-    let wide = widened_bounds(alloc, bounds)?;
-    let scans = no_scans(alloc, entries)?;
+    let wide = bounds_in_128_bits(alloc, bounds)?;
+    let scans = empty_scans(alloc, entries)?;
     match choose(alloc, &wide, &scans, budget) {
         Ok(plan) => {
             write_levels(&plan, into);

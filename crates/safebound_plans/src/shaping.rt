@@ -1,10 +1,10 @@
 //! The best join tree.
 ghost use Rattle.std.specs.Prelude.{◌≡◌, ◌≤◌, length, map, IfErr, IfOk, OnErr};
-ghost use Rattle.safebound_lists.specs.Written.{IsFilled};
+ghost use Rattle.safebound_lists.specs.Written.{RoomBeginsWith};
 ghost use Rattle.safebound_plans.specs.Causes.{IsTreeCause};
 ghost use Rattle.safebound_plans.specs.Trees.{IsBestTree, node_of as node_of_join};
 
-use crate::narrow::{entries_of, no_scans, widened_bounds};
+use crate::widening::{bounds_in_128_bits, empty_scans, entries_of};
 use bushy_plan::choose_bushy;
 use limits::GREATEST_BUDGET;
 use order_search::PlanError;
@@ -34,7 +34,7 @@ fn node_of(join: Join) -> JoinNode
 // Writes joins as nodes.
 fn write_joins(joins: &[Join], into: &mut [JoinNode])
     requires { length joins.now ≤ length into.old }
-    ensures { IsFilled (map node_of_join joins.now) into.old into.new (length joins.now) }
+    ensures { RoomBeginsWith (map node_of_join joins.now) into.old into.new (length joins.now) }
 {
     for (place, join) in joins.iter().enumerate() {
         into[place] = node_of(*join);
@@ -65,8 +65,8 @@ pub fn tree(
             needed: u64::from(entries - 1),
         });
     }
-    let wide = widened_bounds(alloc, bounds)?;
-    let scans = no_scans(alloc, entries)?;
+    let wide = bounds_in_128_bits(alloc, bounds)?;
+    let scans = empty_scans(alloc, entries)?;
     match choose_bushy(alloc, &wide, &scans, budget) {
         Ok(plan) => {
             write_joins(plan.joins.as_slice(), into);

@@ -1,6 +1,6 @@
 -- The proofs of the top call: the texts, the promise and the headline of a call follow from the course that it takes.
 --
--- - A text that may be absent is an `Option` (`out_text_of`), and `GrewWhole` and `WasCut` have a case for a text and a case for no text. So the
+-- - A text that may be absent is an `Option` (`out_text_of`), and `GrewWhole` and `TookPrefix` have a case for a text and a case for no text. So the
 --   headline's sentences have no case for `plan`.
 -- - `demo` reads another store than other commands, and `run` is proved for every store. One lemma on `Reads` (ShopCourses) turns the course of `run`
 --   over `Shop` into a course over `shop_store`, since the files are equal and no count rises.

@@ -25,14 +25,14 @@ use Rattle.text_answers.specs.SchemaTexts.{schema_answer}
 use Rattle.text_answers.proofs.QueryAnswers as queries
 use Rattle.text_answers.proofs.SchemaAnswers as schemas
 use Rattle.outcomes.specs.Errors.{plan_refusal, query_refusal, schema_refusal, table_refusal}
-use Rattle.outcomes.specs.Reads.{◌>>=◌, seen, told}
+use Rattle.outcomes.specs.Reads.{◌>>=◌, mapped, with_refusal}
 use Rattle.outcomes.specs.declared.names.FileId.{FileId}
 use Rattle.outcomes.specs.declared.names.FileId.TheVariants as file
 use Rattle.outcomes.specs.declared.refusal.Refusal.{Refusal}
 use Rattle.outcomes.specs.declared.refusal.Refusal.TheVariants as refusal
 use Rattle.table_files.specs.EntryTables.{tables_in}
 use Rattle.table_files.specs.FileNames.{file_name}
-use Rattle.table_files.specs.Stage.{no_table, numbers_of, place_of, rows_by_entry, rows_of_each, table_at, table_rows, tables_of_query, tables_stage}
+use Rattle.table_files.specs.Stage.{no_table, numbers_of, index_of, rows_by_entry, rows_of_each, table_at, table_rows, tables_of_query, tables_stage}
 use Rattle.table_files.specs.TableFile.{bytes_of, file_rows, read, rows_of_bytes}
 use Rattle.table_files.proofs.EntryLaws.{two_steps}
 use Rattle.table_files.proofs.StagedFiles.{entries_are, read_ok, table_ok, told_ok}
@@ -186,7 +186,7 @@ module _ (query : Query) (tables : Tables) (lists : List (List ℕ)) where
           subst (λ (n : ℕ). length (choices_over query tables lists (entries_at plan (n + k))) ≤ join.bound) h.plan.scans (node_fits k join is);
     }
 
-seen_ok : {A B E : Type 0} (view : A → B) (r : Result A E) (y : B) → seen view r ≡ Ok y → (x : A) × (view x ≡ y)
+seen_ok : {A B E : Type 0} (view : A → B) (r : Result A E) (y : B) → mapped view r ≡ Ok y → (x : A) × (view x ≡ y)
 seen_ok view (Ok x) y e = (x, cc)
 seen_ok view (Err s) y e = cc
 
@@ -242,7 +242,7 @@ stages shop schema_file query_file task files outcome e =
     let first = two_steps (schema_stage schema_file files) (λ schema. aim_run (aims.Query query_file (works.Plan task)) schema files) outcome e in
     let second = two_steps (query_stage query_file first.0 files) (λ query. work_run (works.Plan task) first.0 query files) outcome first.2 in
     let third = two_steps (tables_stage first.0 second.0.from files) (plan_stage task first.0 second.0) outcome second.2 in
-    let last = two_steps (told plan_refusal (plan_asked task first.0 second.0 (tables_in third.0))) (λ plan. within_limit task.terms.memory (shape_bytes plan) (Planned (run_asked task second.0 third.0 plan))) outcome third.2 in
+    let last = two_steps (with_refusal plan_refusal (plan_asked task first.0 second.0 (tables_in third.0))) (λ plan. within_limit task.terms.memory (shape_bytes plan) (Planned (run_asked task second.0 third.0 plan))) outcome third.2 in
     let kept = within_ok task.terms.memory (shape_bytes last.0) (Planned (run_asked task second.0 third.0 last.0)) outcome last.2 in
     record {
       schema = first.0;

@@ -10,7 +10,7 @@ use Rattle.sql_meaning.specs.Tables.{Tables, tables_of}
 use Rattle.join_steps.specs.Lists.{list_levels}
 use Rattle.printed_texts.specs.Texts.{rows_lines}
 use Rattle.table_files.specs.EntryTables.{entry_rows, tables_in}
-use Rattle.prepared_runs.specs.PreparedQuery.{AreOverLists, HasRoom, plan_in, plan_left, text_from, text_left}
+use Rattle.prepared_runs.specs.PreparedQuery.{AreOverLists, HasRoom, plan_in, pending_plan, text_from, pending_text}
 use Rattle.prepared_runs.specs.Shapes.{IsShapedPlan, joined_entries, part_sizes, shape_audits}
 use Rattle.safebound_top.specs.Texts.{out_text_of}
 use Rattle.prepared_runs.specs.declared.prepare.PendingOutput.{PendingOutput}
@@ -18,9 +18,9 @@ use Rattle.prepared_runs.specs.declared.prepare.PendingOutput.TheVariants as res
 use Rattle.safebound_words.specs.declared.command.ListSource.{ListSource}
 use Rattle.prepared_runs.proofs.ShapeFacts.{order_is}
 
-pub rest_is : (query : Query) (db : Database) (source : ListSource) (lists : List (List ℕ)) (memory : Option ℕ) (left : PendingOutput) → NamesItsEntries query → IsShapedPlan (length query.from) (plan_left left)
+pub rest_is : (query : Query) (db : Database) (source : ListSource) (lists : List (List ℕ)) (memory : Option ℕ) (left : PendingOutput) → NamesItsEntries query → IsShapedPlan (length query.from) (pending_plan left)
     → tables_in (entry_rows db) ≡ tables_of db → HasRoom query db left → AreOverLists lists left
-    → out_text_of (record { query = query; rows = entry_rows db; plan = plan_left left; source = source; lists = lists; memory = memory; out = text_left left }) ≡ text_from left query db
+    → out_text_of (record { query = query; rows = entry_rows db; plan = pending_plan left; source = source; lists = lists; memory = memory; out = pending_text left }) ≡ text_from left query db
 rest_is query db source lists memory (rest.Rows joins) own is same room are =
     let order : List ℕ = joined_entries (plan_in joins.room) in
     ap (λ (t : Tables). Some (rows_lines query.select (map (λ choice. selected query t (row_in order choice)) (list_levels query t lists order (length order))))) same

@@ -5,9 +5,9 @@ use Rattle.base_io.specs.Files.{Files}
 use Rattle.schema_types.specs.declared.types.Schema.{Schema}
 use Rattle.base_io.specs.Devices.{Growth, Reading}
 use Rattle.outcomes.specs.Reads.{AtFile, Ends, Reads}
-use Rattle.outcomes.specs.Statuses.{ended}
-use Rattle.outcomes.specs.declared.ending.Ending.{Ending}
-use Rattle.outcomes.specs.declared.ending.Ending.TheVariants as ending
+use Rattle.outcomes.specs.Statuses.{status_of_failure}
+use Rattle.outcomes.specs.declared.failure.Failure.{Failure}
+use Rattle.outcomes.specs.declared.failure.Failure.TheVariants as failure
 use Rattle.outcomes.specs.declared.names.FileId.{FileId}
 use Rattle.outcomes.specs.declared.names.FileId.TheVariants as file
 use Rattle.outcomes.specs.declared.refusal.Refusal.{Refusal}
@@ -18,8 +18,8 @@ use Rattle.outcomes.proofs.ReadFacts.{Meets, joined, reads_as, then_reads, then_
 use Rattle.printed_texts.specs.Faults.{error_line, fault_line}
 use Rattle.prepared_runs.specs.RunOutcome.{RunOutcome}
 use Rattle.safebound_top.specs.Call.{Call}
-use Rattle.safebound_top.specs.Course.{Asked, Course, StageRan, Stopped, StatusTold, Unasked, Went}
-use Rattle.safebound_top.specs.Faults.{fault_text, names_by, status_line, where_ok}
+use Rattle.safebound_top.specs.Course.{Asked, Course, StageRan, EndedEarly, StatusReported, Unasked, RanToEnd}
+use Rattle.safebound_top.specs.Faults.{fault_text, names_by, status_line, ok_value}
 use Rattle.safebound_top.specs.Headline.{DidNotGrow}
 use Rattle.safebound_words.specs.declared.command.Aim.{Aim}
 use Rattle.safebound_words.specs.declared.command.Command.{Command}
@@ -40,7 +40,7 @@ memory_told s ask schema is = ap (λ (x : Status). status_line x ask schema) is 
 
 -- the words of this call are no command
 pub course_unasked : (call : Call) → call.status ≡ status.Refused refusal.Usage → command_stage call.words ≡ Err refusal.Usage → call.store.misses_after ≡ call.store.misses_before → DidNotGrow call.out
-    → StatusTold call.notes (status_line call.status None None) → Course call
+    → StatusReported call.notes (status_line call.status None None) → Course call
 course_unasked call is words misses out told = record {
   line = status_line call.status None None;
   is_line = λ files _. ap (λ (s : Status). status_line s None None) is ∙ same files ∙ ap (λ (s : Status). fault_text s call.words files) (sym is);
@@ -53,7 +53,7 @@ course_unasked call is words misses out told = record {
     by (Some ask) schema = refl
 
     same : (files : Files) → status_line (status.Refused refusal.Usage) None None ≡ fault_text (status.Refused refusal.Usage) call.words files
-    same files = by (where_ok (command_stage call.words)) (where_ok (schema_read call.words files))
+    same files = by (ok_value (command_stage call.words)) (ok_value (schema_read call.words files))
 
 module _ (ask : Command) (words : List (List ℕ)) (command : command_stage words ≡ Ok ask) where
   verdict_of : (files : Files) → verdict words files ≡ command_run ask files
@@ -77,31 +77,31 @@ module _ (ask : Command) (words : List (List ℕ)) (command : command_stage word
 
   -- ---- the fault text of a command, when its schema was read or wasn't
 
-  line_of : (s : Status) (files : Files) (r : Result Schema Refusal) → schema_stage ask.schema_file files ≡ r → status_line s (Some ask) (where_ok r) ≡ fault_text s words files
+  line_of : (s : Status) (files : Files) (r : Result Schema Refusal) → schema_stage ask.schema_file files ≡ r → status_line s (Some ask) (ok_value r) ≡ fault_text s words files
   line_of s files r is =
-      ap (λ (v : Result Schema Refusal). status_line s (Some ask) (where_ok v)) (sym (schema_of files ∙ is))
-      ∙ ap (λ (v : Result Command Refusal). status_line s (where_ok v) (where_ok (schema_read words files))) (sym command)
+      ap (λ (v : Result Schema Refusal). status_line s (Some ask) (ok_value v)) (sym (schema_of files ∙ is))
+      ∙ ap (λ (v : Result Command Refusal). status_line s (ok_value v) (ok_value (schema_read words files))) (sym command)
 
   -- ---- the schema's reading ended early
 
-  module _ (s : Status) (store : Reading) (out notes : Growth) (e : Ending) (is : s ≡ ended e) (reads : Reads store (schema_stage ask.schema_file) (AtFile file.Schema) (Err e)) where
+  module _ (s : Status) (store : Reading) (out notes : Growth) (e : Failure) (is : s ≡ status_of_failure e) (reads : Reads store (schema_stage ask.schema_file) (AtFile file.Schema) (Err e)) where
     stopped_line : (files : Files) → store.files ≡ Some files → status_line s (Some ask) None ≡ fault_text s words files
     stopped_line files told = by e refl
       where
-        ends_as : (f : Ending) → e ≡ f → Ends store (schema_stage ask.schema_file) (AtFile file.Schema) f
+        ends_as : (f : Failure) → e ≡ f → Ends store (schema_stage ask.schema_file) (AtFile file.Schema) f
         ends_as f same = subst (Ends store (schema_stage ask.schema_file) (AtFile file.Schema)) same reads.gives
 
         any : (t : Status) → s ≡ t → ((r : Option Schema) → status_line t (Some ask) None ≡ status_line t (Some ask) r) → status_line s (Some ask) None ≡ fault_text s words files
         any t same_as none =
-            ap (λ (x : Status). status_line x (Some ask) None) same_as ∙ none (where_ok (schema_stage ask.schema_file files))
+            ap (λ (x : Status). status_line x (Some ask) None) same_as ∙ none (ok_value (schema_stage ask.schema_file files))
             ∙ line_of t files (schema_stage ask.schema_file files) refl ∙ ap (λ (x : Status). fault_text x words files) (sym same_as)
 
-        by : (f : Ending) → e ≡ f → status_line s (Some ask) None ≡ fault_text s words files
-        by (ending.Refused r) same = line_of s files (Err r) ((ends_as (ending.Refused r) same).0 files told)
-        by (ending.Fault id) same =
-            let at' : id ≡ file.Schema = (ends_as (ending.Fault id) same).1 files told in
-            any (status.ReadFault file.Schema) (is ∙ ap ended same ∙ ap (λ (x : FileId). status.ReadFault x) at') (schema_line ask.schema_file ask.aim)
-        by ending.NoMemory same = any status.NoMemory (is ∙ ap ended same) (λ r. refl)
+        by : (f : Failure) → e ≡ f → status_line s (Some ask) None ≡ fault_text s words files
+        by (failure.Refused r) same = line_of s files (Err r) ((ends_as (failure.Refused r) same).0 files told)
+        by (failure.Fault id) same =
+            let at' : id ≡ file.Schema = (ends_as (failure.Fault id) same).1 files told in
+            any (status.ReadFault file.Schema) (is ∙ ap status_of_failure same ∙ ap (λ (x : FileId). status.ReadFault x) at') (schema_line ask.schema_file ask.aim)
+        by failure.NoMemory same = any status.NoMemory (is ∙ ap status_of_failure same) (λ r. refl)
 
     stopped_reads : Reads store (verdict words) (IsReached words) (Err e)
     unfolding command_run
@@ -109,19 +109,19 @@ module _ (ask : Command) (words : List (List ℕ)) (command : command_stage word
         reads_as store (command_run ask) (verdict words) (IsReached words) (IsReached words) (Err e) verdict_of (λ files id at'. at')
         (then_stops (schema_stage ask.schema_file) (aim_run ask.aim) store (AtFile file.Schema) (IsReached words) e reached_schema reads)
 
-    pub course_stopped : DidNotGrow out → StatusTold notes (status_line s (Some ask) None) → Course (record { words = words; status = s; store = store; out = out; notes = notes })
+    pub course_stopped : DidNotGrow out → StatusReported notes (status_line s (Some ask) None) → Course (record { words = words; status = s; store = store; out = out; notes = notes })
     course_stopped still told = record {
       line = status_line s (Some ask) None;
       is_line = stopped_line;
       memory = memory_told s (Some ask) None;
-      how = Asked (record { words = no_usage; ran = Stopped e is stopped_reads still told });
+      how = Asked (record { words = no_usage; ran = EndedEarly e is stopped_reads still told });
     }
 
   -- ---- the schema was read
 
   module _ (s : Status) (first second : Reading) (out notes : Growth) (schema : Schema) (meets : Meets first second)
       (reads : Reads first (schema_stage ask.schema_file) (AtFile file.Schema) (Ok schema)) where
-    ran_reads : (answer : Result RunOutcome Ending) → Reads second (aim_run ask.aim schema) (IsAimFile ask.aim schema) answer → Reads (joined first second) (verdict words) (IsReached words) answer
+    ran_reads : (answer : Result RunOutcome Failure) → Reads second (aim_run ask.aim schema) (IsAimFile ask.aim schema) answer → Reads (joined first second) (verdict words) (IsReached words) answer
     unfolding command_run
     ran_reads answer h =
         reads_as (joined first second) (command_run ask) (verdict words) (IsReached words) (IsReached words) answer verdict_of (λ files id at'. at')
@@ -130,8 +130,8 @@ module _ (ask : Command) (words : List (List ℕ)) (command : command_stage word
 
     ran_so : StageRan s second out notes (aim_run ask.aim schema) (IsAimFile ask.aim schema) (status_line s (Some ask) (Some schema))
         → StageRan s (joined first second) out notes (verdict words) (IsReached words) (status_line s (Some ask) (Some schema))
-    ran_so (Stopped e is h still told) = Stopped e is (ran_reads (Err e) h) still told
-    ran_so (Went outcome h written) = Went outcome (ran_reads (Ok outcome) h) written
+    ran_so (EndedEarly e is h still told) = EndedEarly e is (ran_reads (Err e) h) still told
+    ran_so (RanToEnd outcome h written) = RanToEnd outcome (ran_reads (Ok outcome) h) written
 
     pub course_ran : StageRan s second out notes (aim_run ask.aim schema) (IsAimFile ask.aim schema) (status_line s (Some ask) (Some schema))
         → Course (record { words = words; status = s; store = joined first second; out = out; notes = notes })

@@ -5,8 +5,8 @@ use Rattle.base_io.specs.Files.{Files}
 use Rattle.demo_files.specs.Files.{demo_files}
 use Rattle.base_io.specs.Devices.{Growth, Reading}
 use Rattle.outcomes.specs.Reads.{Ends, Gives, Reads}
-use Rattle.outcomes.specs.declared.ending.Ending.{Ending}
-use Rattle.outcomes.specs.declared.ending.Ending.TheVariants as ending
+use Rattle.outcomes.specs.declared.failure.Failure.{Failure}
+use Rattle.outcomes.specs.declared.failure.Failure.TheVariants as failure
 use Rattle.outcomes.specs.declared.names.FileId.{FileId}
 use Rattle.outcomes.specs.declared.refusal.Refusal.{Refusal}
 use Rattle.outcomes.specs.declared.status.Status.{Status}
@@ -14,8 +14,8 @@ use Rattle.outcomes.specs.declared.status.Status.TheVariants as status
 use Rattle.prepared_runs.specs.RunOutcome.{RunOutcome}
 use Rattle.safebound_words.specs.declared.command.Command.{Command}
 use Rattle.safebound_top.specs.Call.{Call}
-use Rattle.safebound_top.specs.Course.{Asked, Course, How, StageRan, Stopped, StatusTold, Unasked, Went}
-use Rattle.safebound_top.specs.Faults.{status_line, where_ok}
+use Rattle.safebound_top.specs.Course.{Asked, Course, RefusedOrRan, StageRan, EndedEarly, StatusReported, Unasked, RanToEnd}
+use Rattle.safebound_top.specs.Faults.{status_line, ok_value}
 use Rattle.safebound_top.specs.Headline.{DidNotGrow}
 use Rattle.prepared_runs.specs.Shops.{shop_of, shop_store, store_read}
 use Rattle.prepared_runs.specs.Verdict.{IsReached, command_stage, schema_read, verdict}
@@ -25,7 +25,7 @@ use Rattle.safebound_top.proofs.RunCourses.{memory_told, no_usage}
 
 module _ (number : ℕ) (store : Reading) (is : store.files ≡ Some (demo_files number))
     (calm : Rose store.faults_before store.faults_after → ⊥) where
-  reads_shop : {A : Type 0} (stage : Files → Result A Refusal) (C : Files → FileId → Type 0) (answer : Result A Ending)
+  reads_shop : {A : Type 0} (stage : Files → Result A Refusal) (C : Files → FileId → Type 0) (answer : Result A Failure)
       → Reads store stage C answer → Reads (shop_store number) stage C answer
   reads_shop {A} stage C answer h = record {
     gives = given answer h.gives;
@@ -34,23 +34,23 @@ module _ (number : ℕ) (store : Reading) (is : store.files ≡ Some (demo_files
     same = refl;
   }
     where
-      ends : (e : Ending) → Ends store stage C e → Ends (shop_store number) stage C e
-      ends (ending.Refused r) w = (
+      ends : (e : Failure) → Ends store stage C e → Ends (shop_store number) stage C e
+      ends (failure.Refused r) w = (
         (λ files told. w.0 files (is ∙ told)),
         (λ none. absurd (let no : ◌≡◌ {A = Option Files} (Some (demo_files number)) None = none in cc)),
         w.2,
       )
-      ends (ending.Fault file) w = absurd (calm w.0)
-      ends ending.NoMemory w = tt
+      ends (failure.Fault file) w = absurd (calm w.0)
+      ends failure.NoMemory w = tt
 
-      given : (answer : Result A Ending) → Gives store stage C answer → Gives (shop_store number) stage C answer
+      given : (answer : Result A Failure) → Gives store stage C answer → Gives (shop_store number) stage C answer
       given (Ok x) w = λ files told. w files (is ∙ told)
       given (Err e) w = ends e w
 
   ran_shop : (s : Status) (out notes : Growth) (stage : Files → Result RunOutcome Refusal) (C : Files → FileId → Type 0) (line : List ℕ)
       → StageRan s store out notes stage C line → StageRan s (shop_store number) out notes stage C line
-  ran_shop s out notes stage C line (Stopped e ended reads still told) = Stopped e ended (reads_shop stage C (Err e) reads) still told
-  ran_shop s out notes stage C line (Went outcome reads written) = Went outcome (reads_shop stage C (Ok outcome) reads) written
+  ran_shop s out notes stage C line (EndedEarly e ended reads still told) = EndedEarly e ended (reads_shop stage C (Err e) reads) still told
+  ran_shop s out notes stage C line (RanToEnd outcome reads written) = RanToEnd outcome (reads_shop stage C (Ok outcome) reads) written
 
   pub course_shop : (words : List (List ℕ)) (s : Status) (out notes : Growth)
       → Course (record { words = words; status = s; store = store; out = out; notes = notes })
@@ -62,24 +62,24 @@ module _ (number : ℕ) (store : Reading) (is : store.files ≡ Some (demo_files
     how = by h.how;
   }
     where
-      by : How (record { words = words; status = s; store = store; out = out; notes = notes }) h.line
-          → How (record { words = words; status = s; store = shop_store number; out = out; notes = notes }) h.line
+      by : RefusedOrRan (record { words = words; status = s; store = store; out = out; notes = notes }) h.line
+          → RefusedOrRan (record { words = words; status = s; store = shop_store number; out = out; notes = notes }) h.line
       by (Unasked u) = Unasked (record { status = u.status; words = u.words; misses = refl; out = u.out; told = u.told })
       by (Asked a) = Asked (record { words = a.words; ran = ran_shop s out notes (verdict words) (IsReached words) h.line a.ran })
 
 -- ---- there is no memory for the shop's files
 
 pub course_unmade : (ask : Command) (words : List (List ℕ)) → command_stage words ≡ Ok ask → (number : ℕ) (s : Status) (out notes : Growth)
-    → s ≡ status.NoMemory → DidNotGrow out → StatusTold notes (status_line s (Some ask) None)
+    → s ≡ status.NoMemory → DidNotGrow out → StatusReported notes (status_line s (Some ask) None)
     → Course (record { words = words; status = s; store = shop_store number; out = out; notes = notes })
 course_unmade ask words command number s out notes is still told = record {
   line = status_line s (Some ask) None;
   is_line = λ files _.
-      memory_told s (Some ask) None is ∙ sym (memory_told s (where_ok (command_stage words)) (where_ok (schema_read words files)) is);
+      memory_told s (Some ask) None is ∙ sym (memory_told s (ok_value (command_stage words)) (ok_value (schema_read words files)) is);
   memory = memory_told s (Some ask) None;
   how = Asked (record {
     words = no_usage ask words command;
-    ran = Stopped ending.NoMemory is (record { gives = tt; misses = λ files _ missed. refl; later = omega arith; same = refl }) still told;
+    ran = EndedEarly failure.NoMemory is (record { gives = tt; misses = λ files _ missed. refl; later = omega arith; same = refl }) still told;
   });
 }
 

@@ -12,15 +12,15 @@ use Rattle.outcomes.specs.declared.names.SinkId.TheVariants as sink
 use Rattle.outcomes.specs.declared.status.Status.{Status}
 use Rattle.outcomes.specs.declared.status.Status.TheVariants as status
 use Rattle.prepared_runs.specs.AcceptedQuery.{AcceptedQuery}
-use Rattle.safebound_top.specs.Course.{CutInNotes, CutInOut, TextsEnded, StatusTold, TextsWritten, WroteIfAny}
-use Rattle.safebound_top.specs.Headline.{DidNotGrow, GrewWhole, WasCut, WasCutAndTold, grown}
+use Rattle.safebound_top.specs.Course.{CutInNotes, CutInOut, TextsEnded, StatusReported, TextsWritten, WroteIfAny}
+use Rattle.safebound_top.specs.Headline.{DidNotGrow, GrewWhole, TookPrefix, TookPrefixThenLine, grown}
 use Rattle.prepared_runs.specs.RunOutcome.{PlanFromStatsFile, RunOutcome, Planned, PlannedFromStats}
 use Rattle.safebound_top.specs.OutcomeTexts.{stats_file_plan_text, notes_text, out_text}
 use Rattle.safebound_top.specs.Texts.{out_text_of, plan_text}
 
-pub told_of : (g : Growth) (line : List ℕ) (r : Result (Unit {0}) Failed) → Wrote g line r → StatusTold g line
-told_of g line (Ok u) h = record { tells = record { prefix = h.prefix; whole = λ calm. h.ok }; later = h.later }
-told_of g line (Err e) h = record { tells = record { prefix = h.prefix; whole = λ calm. absurd (calm h.failed) }; later = h.later }
+pub status_told : (g : Growth) (line : List ℕ) (r : Result (Unit {0}) Failed) → Wrote g line r → StatusReported g line
+status_told g line (Ok u) h = record { tells = record { prefix = h.prefix; whole = λ calm. h.ok }; later = h.later }
+status_told g line (Err e) h = record { tells = record { prefix = h.prefix; whole = λ calm. absurd (calm h.failed) }; later = h.later }
 
 pub cut_first : {t0 t1 : Option (List ℕ)} {f0 f1 : ℕ} {a : List ℕ} {e : Failed} (b : List ℕ) → Wrote (between t0 t1 f0 f1) a (Err e) → Wrote (between t0 t1 f0 f1) (a ++ b) (Err e)
 cut_first {t0} {t1} {f0} {f1} {a} {e} b h = record { ok = tt; prefix = prefix_of_first t0 t1 a b h.prefix; later = h.later; failed = h.failed }
@@ -52,7 +52,7 @@ pub out_cut : (t0 t1 o0 o1 : Option (List ℕ)) (f0 f1 g0 g1 : ℕ) (run : Accep
     → Wrote (between t0 t1 f0 f1) text (Ok u) → WroteIfAny (between o0 o1 g0 g1) other (Err e) → TextsWritten (between o0 o1 g0 g1) (between t0 t1 f0 f1) (Planned run) (Err sink.Out)
 out_cut t0 t1 o0 o1 f0 f1 g0 g1 run text None u e is out h k = absurd (let no : ◌≡◌ {A = Result (Unit {0}) Failed} (Err e) (Ok tt) = k.1 in cc)
 out_cut t0 t1 o0 o1 f0 f1 g0 g1 run text (Some other) u e is out h k = record {
-  texts = (k.failed, h.ok ∙ ap (appended t0) is, subst (WasCut (between o0 o1 g0 g1)) (sym out) k.prefix);
+  texts = (k.failed, h.ok ∙ ap (appended t0) is, subst (TookPrefix (between o0 o1 g0 g1)) (sym out) k.prefix);
   later_out = k.later;
   later_notes = h.later;
 }
@@ -67,7 +67,7 @@ module _ (out notes : Growth) (outcome : RunOutcome) (still : DidNotGrow notes) 
   file_wrote u h = record { texts = (untouched, subst (GrewWhole out) (sym its) h.ok); later_out = h.later; later_notes = omega (arith, still.1) }
 
   pub file_cut : (e : Failed) → Wrote out text (Err e) → TextsWritten out notes outcome (Err sink.Out)
-  file_cut e h = record { texts = (h.failed, untouched, subst (WasCut out) (sym its) h.prefix); later_out = h.later; later_notes = omega (arith, still.1) }
+  file_cut e h = record { texts = (h.failed, untouched, subst (TookPrefix out) (sym its) h.prefix); later_out = h.later; later_notes = omega (arith, still.1) }
 
 module _ (out notes : Growth) (made : PlanFromStatsFile) (still : DidNotGrow out) where
   pub plan_wrote : (u : Unit {0}) → Wrote notes (stats_file_plan_text made) (Ok u) → TextsWritten out notes (PlannedFromStats made) (Ok tt)
@@ -78,21 +78,21 @@ module _ (out notes : Growth) (made : PlanFromStatsFile) (still : DidNotGrow out
 
 -- ---- a write failed, and then the line that reports it is written
 
-module _ (t0 t1 t2 : Option (List ℕ)) (f0 f1 f2 : ℕ) (line : List ℕ) (told : StatusTold (between t1 t2 f1 f2) line) where
-  cut_then_told : (text : Option (List ℕ)) → WasCut (between t0 t1 f0 f1) text → WasCutAndTold (between t0 t2 f0 f2) text line
+module _ (t0 t1 t2 : Option (List ℕ)) (f0 f1 f2 : ℕ) (line : List ℕ) (told : StatusReported (between t1 t2 f1 f2) line) where
+  cut_then_told : (text : Option (List ℕ)) → TookPrefix (between t0 t1 f0 f1) text → TookPrefixThenLine (between t0 t2 f0 f2) text line
   cut_then_told None cut = cut
   cut_then_told (Some text) cut = record { mid = t1; cut = cut; told = told.tells.prefix }
 
-  told_after : (text : Option (List ℕ)) → GrewWhole (between t0 t1 f0 f1) text → t1 ≡ grown t0 text
-  told_after None still = still.0
-  told_after (Some text) whole = whole
+  grown_after : (text : Option (List ℕ)) → GrewWhole (between t0 t1 f0 f1) text → t1 ≡ grown t0 text
+  grown_after None still = still.0
+  grown_after (Some text) whole = whole
 
 pub ended_cut : (which : SinkId) (s : Status) (t0 t1 t2 o0 o1 : Option (List ℕ)) (f0 f1 f2 g0 g1 : ℕ) (outcome : RunOutcome) (line : List ℕ) → s ≡ status.WriteFault which
-    → TextsWritten (between o0 o1 g0 g1) (between t0 t1 f0 f1) outcome (Err which) → StatusTold (between t1 t2 f1 f2) line → TextsEnded s (between o0 o1 g0 g1) (between t0 t2 f0 f2) outcome line
+    → TextsWritten (between o0 o1 g0 g1) (between t0 t1 f0 f1) outcome (Err which) → StatusReported (between t1 t2 f1 f2) line → TextsEnded s (between o0 o1 g0 g1) (between t0 t2 f0 f2) outcome line
 ended_cut sink.Notes s t0 t1 t2 o0 o1 f0 f1 f2 g0 g1 outcome line is h told =
     CutInNotes is (rose_then_later f0 f1 f2 h.later_notes h.texts.0 told.later) h.texts.1 (cut_then_told t0 t1 t2 f0 f1 f2 line told (notes_text outcome) h.texts.2)
 ended_cut sink.Out s t0 t1 t2 o0 o1 f0 f1 f2 g0 g1 outcome line is h told =
-    let before : t1 ≡ grown t0 (notes_text outcome) = told_after t0 t1 t2 f0 f1 f2 line told (notes_text outcome) h.texts.1 in
+    let before : t1 ≡ grown t0 (notes_text outcome) = grown_after t0 t1 t2 f0 f1 f2 line told (notes_text outcome) h.texts.1 in
     CutInOut is h.texts.0 h.texts.2 (record {
       prefix = subst (λ (t : Option (List ℕ)). GrewByPrefix t t2 line) before told.tells.prefix;
       whole = λ calm. told.tells.whole (λ rose. calm (later_then_rose f0 f1 f2 h.later_notes rose)) ∙ ap (λ (t : Option (List ℕ)). appended t line) before;

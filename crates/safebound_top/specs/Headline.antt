@@ -40,14 +40,14 @@ grown taken None = taken
 grown taken (Some text) = appended taken text
 
 -- there is a text, and the sink grew by a prefix of it
-abbrev pub WasCut : Growth → Option (List ℕ) → Type 0
-WasCut sink None = ⊥
-WasCut sink (Some text) = GrewByPrefix sink.taken_before sink.taken_after text
+abbrev pub TookPrefix : Growth → Option (List ℕ) → Type 0
+TookPrefix sink None = ⊥
+TookPrefix sink (Some text) = GrewByPrefix sink.taken_before sink.taken_after text
 
 -- there is a text, and the sink grew by a prefix of it, and then by a prefix of a line
-abbrev pub WasCutAndTold : Growth → Option (List ℕ) → List ℕ → Type 0
-WasCutAndTold sink None line = ⊥
-WasCutAndTold sink (Some text) line = CutThenTold sink.taken_before sink.taken_after text line
+abbrev pub TookPrefixThenLine : Growth → Option (List ℕ) → List ℕ → Type 0
+TookPrefixThenLine sink None line = ⊥
+TookPrefixThenLine sink (Some text) line = CutThenTold sink.taken_before sink.taken_after text line
 
 abbrev pub FaultsRose : Growth → Type 0
 FaultsRose sink = Rose sink.faults_before sink.faults_after
@@ -86,11 +86,11 @@ WantOfMemoryLeavesItsLine call = call.status ≡ status.NoMemory → GrewByLine 
 pub record WriteFaultsHaveTheirCause (call : Call) : Type 0 where
   -- a fault of notes: the notes took a prefix of the plan text, and then a prefix of the line; out didn't grow
   pub of_notes : call.status ≡ status.WriteFault sink.Notes → FaultsRose call.notes × DidNotGrow call.out
-      × OverFiles call (λ files v. IsOkAnd v (λ outcome. WasCutAndTold call.notes (notes_text outcome)
+      × OverFiles call (λ files v. IsOkAnd v (λ outcome. TookPrefixThenLine call.notes (notes_text outcome)
       (fault_text call.status call.words files)))
   -- a fault of out: the notes took the plan text, if there is one, and then the line; out took a prefix of its text
   pub of_out : call.status ≡ status.WriteFault sink.Out → FaultsRose call.out
-      × OverFiles call (λ files v. IsOkAnd v (λ outcome. WasCut call.out (out_text outcome)
+      × OverFiles call (λ files v. IsOkAnd v (λ outcome. TookPrefix call.out (out_text outcome)
       × GrewOrWasCut (grown call.notes.taken_before (notes_text outcome)) call.notes.taken_after call.notes.faults_before call.notes.faults_after
       (fault_text call.status call.words files)))
 

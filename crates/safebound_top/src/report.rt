@@ -2,13 +2,13 @@
 ghost use Rattle.std.specs.Prelude.{◌≡◌, ◌≢◌, option_copied};
 ghost use Rattle.base_io.specs.Devices.{growth};
 ghost use Rattle.base_io.specs.Writes.{Wrote};
-ghost use Rattle.safebound_top.specs.Course.{StatusTold};
-ghost use Rattle.printed_texts.specs.Words.{named};
+ghost use Rattle.safebound_top.specs.Course.{StatusReported};
+ghost use Rattle.printed_texts.specs.Words.{names_of_line};
 ghost use Rattle.safebound_top.specs.Faults.{names_by as names_in, names_of as names_told, stats_file_of as stats_file_told, status_line};
 
 use base_io::{Failed, Sink};
 use outcomes::Status;
-use printed_texts::{Named, write_line};
+use printed_texts::{LineNames, write_line};
 use safebound_words::{Aim, Command, Work};
 use schema_types::Schema;
 
@@ -23,18 +23,18 @@ fn stats_file_of<'a>(work: &'a Work<'a>) -> &'a str
 }
 
 // The names that a line may use: the names of the command's files, and the names in the schema.
-fn names_by<'a>(schema_file: &'a str, aim: &'a Aim<'a>, schema: Option<&'a Schema>) -> Named<'a>
-    ensures { named result ≡ names_in schema_file.now aim.now (option_copied schema.entry) }
+fn names_by<'a>(schema_file: &'a str, aim: &'a Aim<'a>, schema: Option<&'a Schema>) -> LineNames<'a>
+    ensures { names_of_line result ≡ names_in schema_file.now aim.now (option_copied schema.entry) }
 {
     match aim {
-        Aim::Query { file, work } => Named {
+        Aim::Query { file, work } => LineNames {
             schema_file,
             query_file: file.get(),
             stats_file: stats_file_of(work),
             rows_file: None,
             schema,
         },
-        Aim::Append(rows) => Named {
+        Aim::Append(rows) => LineNames {
             schema_file,
             query_file: "",
             stats_file: rows.stats_file.get(),
@@ -45,12 +45,12 @@ fn names_by<'a>(schema_file: &'a str, aim: &'a Aim<'a>, schema: Option<&'a Schem
 }
 
 // The names that a line may use. There is no command if the words were refused, and then no file is named.
-fn names_of<'a>(command: Option<&'a Command<'a>>, schema: Option<&'a Schema>) -> Named<'a>
-    ensures { named result ≡ names_told (option_copied command.entry) (option_copied schema.entry) }
+fn names_of<'a>(command: Option<&'a Command<'a>>, schema: Option<&'a Schema>) -> LineNames<'a>
+    ensures { names_of_line result ≡ names_told (option_copied command.entry) (option_copied schema.entry) }
 {
     match command {
         Some(command) => names_by(command.schema_file.get(), &command.aim, schema),
-        None => Named {
+        None => LineNames {
             schema_file: "",
             query_file: "",
             stats_file: "",
@@ -83,7 +83,7 @@ pub fn report<N: Sink>(
     notes: &mut N,
 )
     requires { status ≢ Status.Done }
-    ensures { StatusTold (growth N.taken N.faults notes.old notes.new) (status_line status (option_copied command.entry) (option_copied schema.entry)) }
+    ensures { StatusReported (growth N.taken N.faults notes.old notes.new) (status_line status (option_copied command.entry) (option_copied schema.entry)) }
 {
     match write_fault(status, command, schema, notes) {
         Ok(()) => {}

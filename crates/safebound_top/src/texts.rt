@@ -10,10 +10,10 @@ ghost use Rattle.stats_file.specs.FileText.{file_text};
 ghost use Rattle.stats_file.specs.Rules.{KeepsRules};
 ghost use Rattle.safebound_top.specs.Course.{TextsWritten, WroteIfAny};
 ghost use Rattle.safebound_top.specs.Headline.{DidNotGrow};
-ghost use Rattle.prepared_runs.specs.Kept.{HasParts, IsJoined, IsKept, IsLeft, counts_in, plan_joined};
+ghost use Rattle.prepared_runs.specs.KeptBuffers.{HasParts, IsJoined, HasBuffersOf, KeepsPending, counts_in, plan_joined};
 ghost use Rattle.prepared_runs.specs.RunOutcome.{RunOutcome};
 ghost use Rattle.safebound_top.specs.OutcomeTexts.{notes_text, out_text};
-ghost use Rattle.prepared_runs.specs.PreparedQuery.{HasRoom, IsPrepared, plan_in, plan_left, text_from};
+ghost use Rattle.prepared_runs.specs.PreparedQuery.{HasRoom, IsPrepared, plan_in, pending_plan, text_from};
 ghost use Rattle.prepared_runs.specs.PreparedRun.{CanBeWritten, IsPlanned, outcome_of, plan_from, planned_outcome};
 ghost use Rattle.prepared_runs.specs.Shapes.{IsShapedPlan, joined_entries, shape_audits, shape_lines};
 
@@ -50,7 +50,7 @@ fn write_joined<O: Sink>(
 }
 
 // Writes the audit text of a plan that was joined: how many rows each level or inner node has.
-fn write_sizes<O: Sink>(joined: &Joined, sources: &[Source], out: &mut O) -> Result<(), Failed>
+fn write_audit_text<O: Sink>(joined: &Joined, sources: &[Source], out: &mut O) -> Result<(), Failed>
     requires { HasParts (length sources.now) joined.now }
     ensures { Wrote (growth O.taken O.faults out.old out.new)
         (shape_audits sources.now (plan_joined joined.now) (counts_in joined.now)) result }
@@ -62,7 +62,7 @@ fn write_sizes<O: Sink>(joined: &Joined, sources: &[Source], out: &mut O) -> Res
 }
 
 // If joins are pending, does them, writes the rows text or the audit text, and hands out the buffers with the rows.
-fn write_rest<O: Sink>(
+fn join_and_write<O: Sink>(
     rest: PendingOutput,
     query: &Query,
     db: &Database,
@@ -73,7 +73,7 @@ fn write_rest<O: Sink>(
     requires room { HasRoom query.now db.now rest }
     requires none { kept.old ≡ None }
     ensures text { WroteIfAny (growth O.taken O.faults out.old out.new) (text_from rest query.now db.now) result }
-    ensures kept { IsLeft query.now db.now rest kept.new }
+    ensures kept { KeepsPending query.now db.now rest kept.new }
 {
     match rest {
         PendingOutput::Rows(joins) => {
@@ -84,7 +84,7 @@ fn write_rest<O: Sink>(
         }
         PendingOutput::Audit(joins) => {
             let joined = join(joins, query, db);
-            let result = write_sizes(&joined, query.from.as_slice(), out);
+            let result = write_audit_text(&joined, query.from.as_slice(), out);
             *kept = Some(joined);
             result
         }
@@ -93,7 +93,7 @@ fn write_rest<O: Sink>(
 }
 
 // Writes the plan text of a plan with buffers.
-fn write_room<N: Sink>(room: &Room, sources: &[Source], notes: &mut N) -> Result<(), Failed>
+fn write_plan_of_room<N: Sink>(room: &Room, sources: &[Source], notes: &mut N) -> Result<(), Failed>
     requires { IsShapedPlan (length sources.now) (plan_in room.now) }
     ensures { Wrote (growth N.taken N.faults notes.old notes.new) (shape_lines sources.now (plan_in room.now)) result }
 {
@@ -115,17 +115,17 @@ fn write_shaped<N: Sink>(plan: &AnyPlan, sources: &[Source], notes: &mut N) -> R
 }
 
 // Writes the plan text of the plan in `rest`, without the line of its bytes.
-fn write_bounds<N: Sink>(
+fn write_plan_lines<N: Sink>(
     rest: &PendingOutput,
     sources: &[Source],
     notes: &mut N,
 ) -> Result<(), Failed>
-    requires { IsShapedPlan (length sources.now) (plan_left rest.now) }
-    ensures { Wrote (growth N.taken N.faults notes.old notes.new) (shape_lines sources.now (plan_left rest.now)) result }
+    requires { IsShapedPlan (length sources.now) (pending_plan rest.now) }
+    ensures { Wrote (growth N.taken N.faults notes.old notes.new) (shape_lines sources.now (pending_plan rest.now)) result }
 {
     match rest {
-        PendingOutput::Rows(joins) => write_room(&joins.room, sources, notes),
-        PendingOutput::Audit(joins) => write_room(&joins.room, sources, notes),
+        PendingOutput::Rows(joins) => write_plan_of_room(&joins.room, sources, notes),
+        PendingOutput::Audit(joins) => write_plan_of_room(&joins.room, sources, notes),
         PendingOutput::Nothing(plan) => write_shaped(plan, sources, notes),
     }
 }
@@ -138,11 +138,11 @@ fn write_plan_text<N: Sink>(
     sources: &[Source],
     notes: &mut N,
 ) -> Result<(), Failed>
-    requires { IsShapedPlan (length sources.now) (plan_left rest.now) }
+    requires { IsShapedPlan (length sources.now) (pending_plan rest.now) }
     ensures { Wrote (growth N.taken N.faults notes.old notes.new)
-        (shape_lines sources.now (plan_left rest.now) ++ memory_text memory bytes) result }
+        (shape_lines sources.now (pending_plan rest.now) ++ memory_text memory bytes) result }
 {
-    write_bounds(rest, sources, notes)?;
+    write_plan_lines(rest, sources, notes)?;
     write_memory(memory, bytes, notes)
 }
 
@@ -157,7 +157,7 @@ fn write_texts<O: Sink, N: Sink>(
     requires none { kept.old ≡ None }
     ensures texts { TextsWritten (growth O.taken O.faults out.old out.new) (growth N.taken N.faults notes.old notes.new)
         (planned_outcome prepared) result }
-    ensures kept { OnOk result (IsKept (planned_outcome prepared) kept.new) }
+    ensures kept { OnOk result (HasBuffersOf (planned_outcome prepared) kept.new) }
 {
     let PreparedQuery {
         query,
@@ -171,7 +171,7 @@ fn write_texts<O: Sink, N: Sink>(
         Ok(()) => {}
         Err(Failed) => return Err(SinkId::Notes),
     }
-    match write_rest(rest, &query, &db, out, kept) {
+    match join_and_write(rest, &query, &db, out, kept) {
         Ok(()) => Ok(()),
         Err(Failed) => Err(SinkId::Out),
     }
@@ -221,7 +221,7 @@ pub fn write_outcome<O: Sink, N: Sink>(
     requires none { kept.old ≡ None }
     ensures texts { TextsWritten (growth O.taken O.faults out.old out.new) (growth N.taken N.faults notes.old notes.new)
         (outcome_of schema.now ready) result }
-    ensures kept { OnOk result (IsKept (outcome_of schema.now ready) kept.new) }
+    ensures kept { OnOk result (HasBuffersOf (outcome_of schema.now ready) kept.new) }
 {
     match ready {
         PreparedRun::Planned(prepared) => write_texts(prepared, out, notes, kept),

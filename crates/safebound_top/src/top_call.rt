@@ -1,14 +1,14 @@
 //! The top call, stage by stage.
 ghost use Rattle.std.specs.Prelude.{◌≡◌, IfSome, List, ℕ, None, Ok, Some, map, option_copied};
 ghost use Rattle.base_io.specs.Devices.{growth, reading};
-ghost use Rattle.outcomes.specs.Statuses.{ended};
+ghost use Rattle.outcomes.specs.Statuses.{status_of_failure};
 ghost use Rattle.schema_types.specs.Validity.{IsValid};
 ghost use Rattle.stats_reading.specs.Names.{HasByteColumns};
 ghost use Rattle.safebound_words.specs.InRange.{HasRanges};
-ghost use Rattle.safebound_top.specs.Course.{Course, TextsEnded, StageRan, StatusTold};
+ghost use Rattle.safebound_top.specs.Course.{Course, TextsEnded, StageRan, StatusReported};
 ghost use Rattle.safebound_top.specs.Faults.{status_line};
 ghost use Rattle.safebound_top.specs.Headline.{Headline};
-ghost use Rattle.prepared_runs.specs.Kept.{IsKept, KeepsItsBuffers};
+ghost use Rattle.prepared_runs.specs.KeptBuffers.{HasBuffersOf, KeepsItsBuffers};
 ghost use Rattle.safebound_top.specs.Promise.{Promise};
 ghost use Rattle.prepared_runs.specs.PreparedRun.{CanBeWritten, outcome_of};
 ghost use Rattle.prepared_runs.specs.Shops.{shop_of, shop_store, store_read};
@@ -17,30 +17,30 @@ ghost use Rattle.prepared_runs.specs.Verdict.{IsAimFile, aim_run, command_run, c
 use crate::report::report;
 use crate::texts::write_outcome;
 use base_io::{NoMemory, Sink, Store};
-use outcomes::{Ending, Refusal, Status};
+use outcomes::{Failure, Refusal, Status};
 use prepared_runs::{Joined, PreparedRun, load_schema, open_shop, prepare_run};
 use safebound_words::{Command, read_words};
 use schema_types::Schema;
 use std::alloc::Global;
 
 // Writes the line that says why a reading ended early, and returns the status.
-fn stopped<N: Sink>(
-    ending: Ending,
+fn report_failure<N: Sink>(
+    failure: Failure,
     command: &Command,
     schema: Option<&Schema>,
     notes: &mut N,
 ) -> Status
-    ensures status { result ≡ ended ending }
-    ensures told { StatusTold (growth N.taken N.faults notes.old notes.new)
+    ensures status { result ≡ status_of_failure failure }
+    ensures told { StatusReported (growth N.taken N.faults notes.old notes.new)
         (status_line result (Some command.now) (option_copied schema.entry)) }
 {
-    let status = Status::from(ending);
+    let status = Status::from(failure);
     report(status, Some(command), schema, notes);
     status
 }
 
 // Writes the texts of the run, and hands out the buffers of its joins. If a write fails, a line says which stream couldn't be written.
-fn written<O: Sink, N: Sink>(
+fn write_or_report<O: Sink, N: Sink>(
     ready: PreparedRun,
     command: &Command,
     schema: &Schema,
@@ -52,7 +52,7 @@ fn written<O: Sink, N: Sink>(
     requires none { kept.old ≡ None }
     ensures ended { TextsEnded result (growth O.taken O.faults out.old out.new) (growth N.taken N.faults notes.old notes.new) (outcome_of schema.now ready)
         (status_line result (Some command.now) (Some schema.now)) }
-    ensures kept { result ≡ Status.Done → IsKept (outcome_of schema.now ready) kept.new }
+    ensures kept { result ≡ Status.Done → HasBuffersOf (outcome_of schema.now ready) kept.new }
 {
     match write_outcome(ready, schema, out, notes, kept) {
         Ok(()) => Status::Done,
@@ -86,8 +86,8 @@ fn run_over<S: Store, O: Sink, N: Sink>(
         → KeepsItsBuffers (reading S.files S.faults S.misses store.old store.new) (aim_run command.now.aim schema.now) kept.new }
 {
     match prepare_run(alloc, store, &command.aim, schema) {
-        Ok(ready) => written(ready, command, schema, out, notes, kept),
-        Err(ending) => stopped(ending, command, Some(schema), notes),
+        Ok(ready) => write_or_report(ready, command, schema, out, notes, kept),
+        Err(failure) => report_failure(failure, command, Some(schema), notes),
     }
 }
 
@@ -114,7 +114,7 @@ fn run<S: Store, O: Sink, N: Sink>(
 {
     match load_schema(alloc, store, &command.schema_file) {
         Ok(schema) => run_over(alloc, command, &schema, store, out, notes, kept),
-        Err(ending) => stopped(ending, command, None, notes),
+        Err(failure) => report_failure(failure, command, None, notes),
     }
 }
 
@@ -140,7 +140,7 @@ fn run_shop<O: Sink, N: Sink>(
 {
     match open_shop(alloc, number) {
         Ok(mut shop) => run(alloc, command, &mut shop, out, notes, kept),
-        Err(NoMemory) => stopped(Ending::NoMemory, command, None, notes),
+        Err(NoMemory) => report_failure(Failure::NoMemory, command, None, notes),
     }
 }
 
@@ -175,7 +175,7 @@ fn run_command<S: Store, O: Sink, N: Sink>(
 /// Writes the line for words that are no command.
 pub fn refuse_words<N: Sink>(notes: &mut N) -> Status
     ensures status { result ≡ Status.Refused Refusal.Usage }
-    ensures told { StatusTold (growth N.taken N.faults notes.old notes.new) (status_line result None None) }
+    ensures told { StatusReported (growth N.taken N.faults notes.old notes.new) (status_line result None None) }
 {
     let status = Status::Refused(Refusal::Usage);
     report(status, None, None, notes);

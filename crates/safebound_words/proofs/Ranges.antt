@@ -104,7 +104,7 @@ module _ (out : OutText) (terms : PlanTerms) (small : terms.budget ≤ most_budg
   work_in : work_given out terms given ≡ Some work → WorkHasRanges work
   work_in is = let file = bind_so (option_file (given.values option.Stats)) _ work is in either_in file.0 file.2
 
-files_in : (out : OutText) (places : List Word) (given : Given) (r : Command) → over_files out places given ≡ Some r → IsAsked r
+files_in : (out : OutText) (positionals : List Word) (given : Given) (r : Command) → over_files out positionals given ≡ Some r → IsAsked r
 unfolding over_files
 files_in out [] given r is = absurd (cc)
 files_in out (schema ∷ []) given r is = absurd (cc)
@@ -113,21 +113,21 @@ files_in out (schema ∷ query ∷ []) given r is =
     let work = bind_so (work_given out terms.0 given) _ r terms.2 in
     let same : over_query None schema query work.0 ≡ r = cc in
     subst IsAsked same (of_store (over_query None schema query work.0) refl (work_in out terms.0 (terms_in given terms.0 terms.1) given work.0 work.1))
-files_in out (schema ∷ query ∷ more ∷ places) given r is = absurd (cc)
+files_in out (schema ∷ query ∷ more ∷ positionals) given r is = absurd (cc)
 
 accuracy_has : (accuracy : Option ℕ) (schema query : Word) (r : Command) → ((n : ℕ) → accuracy ≡ Some n → (1 ≤ n) × (n ≤ 64))
     → option_map (λ a. over_query None schema query (works.WriteStats a)) accuracy ≡ Some r → IsAsked r
 accuracy_has None schema query r close is = absurd (cc)
 accuracy_has (Some a) schema query r close is = let same : over_query None schema query (works.WriteStats a) ≡ r = cc in subst IsAsked same (of_store (over_query None schema query (works.WriteStats a)) refl (omega (arith, (close a refl).0), (close a refl).1))
 
-stats_in : (places : List Word) (given : Given) (r : Command) → of_stats places given ≡ Some r → IsAsked r
+stats_in : (positionals : List Word) (given : Given) (r : Command) → of_stats positionals given ≡ Some r → IsAsked r
 stats_in [] given r is = absurd (cc)
 stats_in (schema ∷ []) given r is = absurd (cc)
 stats_in (schema ∷ query ∷ []) given r is =
     accuracy_has (value_of option.Accuracy (given.values option.Accuracy)) schema query r (accuracy_in (given.values option.Accuracy)) is
-stats_in (schema ∷ query ∷ more ∷ places) given r is = absurd (cc)
+stats_in (schema ∷ query ∷ more ∷ positionals) given r is = absurd (cc)
 
-append_in : (places : List Word) (given : Given) (r : Command) → of_append places given ≡ Some r → IsAsked r
+append_in : (positionals : List Word) (given : Given) (r : Command) → of_append positionals given ≡ Some r → IsAsked r
 append_in [] given r is = absurd (cc)
 append_in (schema ∷ []) given r is = absurd (cc)
 append_in (schema ∷ file ∷ []) given r is = absurd (cc)
@@ -135,7 +135,7 @@ append_in (schema ∷ file ∷ table ∷ []) given r is = absurd (cc)
 append_in (schema ∷ file ∷ table ∷ rows ∷ []) given r is =
     let same : with_rows schema (record { stats_file = file; table = table; rows_file = rows }) ≡ r = cc in
     subst IsAsked same (of_store (with_rows schema (record { stats_file = file; table = table; rows_file = rows })) refl tt)
-append_in (schema ∷ file ∷ table ∷ rows ∷ more ∷ places) given r is = absurd (cc)
+append_in (schema ∷ file ∷ table ∷ rows ∷ more ∷ positionals) given r is = absurd (cc)
 
 number_has : (number : Option ℕ) (r : Command) → option_map demo_of number ≡ Some r → IsAsked r
 number_has None r is = absurd (cc)
@@ -146,18 +146,18 @@ number_has (Some n) r is =
       shop = λ number is. (let same : n ≡ number = cc in ap demo_of same);
     })
 
-demo_in : (places : List Word) (given : Given) (r : Command) → of_number places given ≡ Some r → IsAsked r
+demo_in : (positionals : List Word) (given : Given) (r : Command) → of_number positionals given ≡ Some r → IsAsked r
 demo_in [] given r is = absurd (cc)
 demo_in (number ∷ []) given r is = number_has (number_within 0 4294967295 number) r is
-demo_in (number ∷ more ∷ places) given r is = absurd (cc)
+demo_in (number ∷ more ∷ positionals) given r is = absurd (cc)
 
-asks_in : (name : CommandName) (places : List Word) (given : Given) (r : Command) → (command_row name).asks places given ≡ Some r → IsAsked r
-asks_in command.Run places given r is = files_in out_text.Rows places given r is
-asks_in command.Plan places given r is = files_in out_text.Nothing places given r is
-asks_in command.Audit places given r is = files_in out_text.Audit places given r is
-asks_in command.Stats places given r is = stats_in places given r is
-asks_in command.Append places given r is = append_in places given r is
-asks_in command.Demo places given r is = demo_in places given r is
+asks_in : (name : CommandName) (positionals : List Word) (given : Given) (r : Command) → (command_row name).asks positionals given ≡ Some r → IsAsked r
+asks_in command.Run positionals given r is = files_in out_text.Rows positionals given r is
+asks_in command.Plan positionals given r is = files_in out_text.Nothing positionals given r is
+asks_in command.Audit positionals given r is = files_in out_text.Audit positionals given r is
+asks_in command.Stats positionals given r is = stats_in positionals given r is
+asks_in command.Append positionals given r is = append_in positionals given r is
+asks_in command.Demo positionals given r is = demo_in positionals given r is
 
 -- ---- all words of a line
 

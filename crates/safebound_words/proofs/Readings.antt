@@ -2,37 +2,37 @@
 use Rattle.std.proofs.Common.{◌≡◌, List, [], ◌∷◌, ◌++◌, Option, Some, None, sym, refl, ap, ◌∙◌, inl, inr, append_assoc}
 use Rattle.std.specs.Bool.{IsTrue}
 use Rattle.std.specs.List.{AllByRecursion, flat_map}
-use Rattle.safebound_words.specs.Answer.{Kind, Ends, IsPlace, Sets, Wants, Gives, Unknown, Parts, command_named, command_of, in_front, kind_of, parts_from, read_by, reading_of}
-use Rattle.safebound_words.specs.CommandLines.{Alone, AskFor, Beside, IsEnd, IsItemOf, Item, Joined, Place, CommandReading, AreReadAs, has_option, requested, spelling}
+use Rattle.safebound_words.specs.Answer.{Kind, Ends, IsPositional, Sets, Wants, Gives, Unknown, Parts, command_named, command_of, in_front, kind_of, parts_from, read_by, reading_of}
+use Rattle.safebound_words.specs.CommandLines.{Flag, AskFor, WithNextWord, IsEnd, IsItemOf, Item, WithEquals, Positional, CommandReading, AreReadAs, has_option, requested, spelling}
 use Rattle.safebound_words.specs.declared.command.Command.{Command}
 use Rattle.safebound_words.specs.Table.{command_row, option_row, ◌>>=◌}
 use Rattle.safebound_words.specs.Words.{Word}
 use Rattle.safebound_words.specs.declared.table.CommandName.{CommandName}
 use Rattle.safebound_words.specs.declared.table.OptionName.{OptionName}
-use Rattle.safebound_words.proofs.WordKinds.{Told, told, kind-ends, kind-gives, kind-place, kind-sets, kind-wants, named_so, names_itself}
+use Rattle.safebound_words.proofs.WordKinds.{KindSpells, kind_spells, kind-ends, kind-gives, kind-place, kind-sets, kind-wants, named_so, names_itself}
 
 -- ---- if words spell items and an end, `parts_from` reads these items and this end
 
-spelled_read : (name : CommandName) (items : List Item) (rest behind : List Word)
-    → AllByRecursion (IsItemOf name) items → IsEnd rest behind → parts_from name None (flat_map spelling items ++ rest) ≡ Some (items, behind)
+spelled_read : (name : CommandName) (items : List Item) (rest after_dashes : List Word)
+    → AllByRecursion (IsItemOf name) items → IsEnd rest after_dashes → parts_from name None (flat_map spelling items ++ rest) ≡ Some (items, after_dashes)
 unfolding parts_from
-spelled_read name [] rest behind all end = elim end [
+spelled_read name [] rest after_dashes all end = elim end [
   | inl w ↦ rw (w.0, w.1) refl
   | inr e ↦ rw (e, kind-ends name) refl
 ]
-spelled_read name (Place word ∷ items) rest behind all end =
-    rw (kind-place name word all.0, spelled_read name items rest behind all.1 end) refl
-spelled_read name (Alone f ∷ items) rest behind all end =
-    rw (kind-sets name f all.0, spelled_read name items rest behind all.1 end) refl
-spelled_read name (Beside o value ∷ items) rest behind all end =
-    rw (kind-wants name o all.0, spelled_read name items rest behind all.1 end) refl
-spelled_read name (Joined o value ∷ items) rest behind all end =
-    rw (kind-gives name o value all.0, spelled_read name items rest behind all.1 end) refl
+spelled_read name (Positional word ∷ items) rest after_dashes all end =
+    rw (kind-place name word all.0, spelled_read name items rest after_dashes all.1 end) refl
+spelled_read name (Flag f ∷ items) rest after_dashes all end =
+    rw (kind-sets name f all.0, spelled_read name items rest after_dashes all.1 end) refl
+spelled_read name (WithNextWord o value ∷ items) rest after_dashes all end =
+    rw (kind-wants name o all.0, spelled_read name items rest after_dashes all.1 end) refl
+spelled_read name (WithEquals o value ∷ items) rest after_dashes all end =
+    rw (kind-gives name o value all.0, spelled_read name items rest after_dashes all.1 end) refl
 
 pub reads_computed : (words : List Word) (reading : CommandReading) → AreReadAs words reading → reading_of words ≡ Some reading
 unfolding reading_of
 reads_computed words reading is =
-    rw (is.spelled, names_itself reading.command, spelled_read reading.command reading.items is.rest reading.behind is.items is.end) refl
+    rw (is.spelled, names_itself reading.command, spelled_read reading.command reading.items is.rest reading.after_dashes is.items is.end) refl
 
 -- ---- if `parts_from` reads items and an end from words, the words spell these items and this end
 
@@ -66,7 +66,7 @@ one_more_item name item words inner_words from parts spelled of read_on e =
     }
 
 -- `kind` says what the word is: `--`, an item or an option's word
-kind_spelled : (name : CommandName) (word : Word) (words : List Word) (kind : Kind) (parts : Parts) → Told name word kind
+kind_spelled : (name : CommandName) (word : Word) (words : List Word) (kind : Kind) (parts : Parts) → KindSpells name word kind
     → ((inner : Parts) → parts_from name None words ≡ Some inner → IsSpelled name words inner)
     → ((o : OptionName) (inner : Parts) → IsTrue (has_option name o) → parts_from name (Some o) words ≡ Some inner → IsSpelled name ((option_row o).word ∷ words) inner)
     → read_by kind word words (λ wanted. parts_from name wanted words) ≡ Some parts
@@ -75,34 +75,34 @@ kind_spelled name word words Ends parts is read_on value e =
     let at_end : Some ([], words) ≡ Some parts = e in
     let parts_are : parts ≡ ([], words) = cc in
     rw parts_are record { rest = word ∷ words; spelled = refl; end = inr (ap (λ w. w ∷ words) is); items = tt }
-kind_spelled name word words IsPlace parts is read_on value e =
-    one_more_item name (Place word) (word ∷ words) words (parts_from name None words) parts refl is read_on e
+kind_spelled name word words IsPositional parts is read_on value e =
+    one_more_item name (Positional word) (word ∷ words) words (parts_from name None words) parts refl is read_on e
 kind_spelled name word words (Sets f) parts is read_on value e =
-    one_more_item name (Alone f) (word ∷ words) words (parts_from name None words) parts (ap (λ w. w ∷ words) is.0) is.1 read_on e
+    one_more_item name (Flag f) (word ∷ words) words (parts_from name None words) parts (ap (λ w. w ∷ words) is.0) is.1 read_on e
 kind_spelled name word words (Wants o) parts is read_on value e =
     rw is.0 (value o parts is.1 e)
 kind_spelled name word words (Gives o given) parts is read_on value e =
-    one_more_item name (Joined o given) (word ∷ words) words (parts_from name None words) parts (ap (λ w. w ∷ words) is.0) is.1 read_on e
+    one_more_item name (WithEquals o given) (word ∷ words) words (parts_from name None words) parts (ap (λ w. w ∷ words) is.0) is.1 read_on e
 kind_spelled name word words Unknown parts is read_on value e = cc
 
 value_spelled : (name : CommandName) (o : OptionName) (value : Word) (words : List Word) (parts : Parts) → IsTrue (has_option name o)
     → ((inner : Parts) → parts_from name None words ≡ Some inner → IsSpelled name words inner)
-    → in_front (Beside o value) (parts_from name None words) ≡ Some parts → IsSpelled name ((option_row o).word ∷ value ∷ words) parts
+    → in_front (WithNextWord o value) (parts_from name None words) ≡ Some parts → IsSpelled name ((option_row o).word ∷ value ∷ words) parts
 value_spelled name o value words parts has read_on e =
-    one_more_item name (Beside o value) ((option_row o).word ∷ value ∷ words) words (parts_from name None words) parts refl has read_on e
+    one_more_item name (WithNextWord o value) ((option_row o).word ∷ value ∷ words) words (parts_from name None words) parts refl has read_on e
 
 -- if an option waits for its value, the option's word was read just before `words`
-before : Option OptionName → List Word → List Word
-before None words = words
-before (Some o) words = (option_row o).word ∷ words
+with_option_word : Option OptionName → List Word → List Word
+with_option_word None words = words
+with_option_word (Some o) words = (option_row o).word ∷ words
 
 Has : CommandName → Option OptionName → Type 0
 Has name None = Unit {0}
 Has name (Some o) = IsTrue (has_option name o)
 
 spelled_from : (name : CommandName) (wanting : Option OptionName) (words : List Word) (parts : Parts) → Has name wanting
-    → parts_from name wanting words ≡ Some parts → IsSpelled name (before wanting words) parts
-unfolding parts_from before Has
+    → parts_from name wanting words ≡ Some parts → IsSpelled name (with_option_word wanting words) parts
+unfolding parts_from with_option_word Has
 spelled_from name None [] parts has e =
     let at_end : Some ([], []) ≡ Some parts = e in
     let parts_are : parts ≡ ([], []) = cc in
@@ -111,12 +111,12 @@ spelled_from name (Some o) [] parts has e = cc
 spelled_from name (Some o) (value ∷ words) parts has e =
     value_spelled name o value words parts has (λ inner is. spelled_from name None words inner tt is) e
 spelled_from name None (word ∷ words) parts has e =
-    kind_spelled name word words (kind_of name word) parts (told name word)
+    kind_spelled name word words (kind_of name word) parts (kind_spells name word)
     (λ inner is. spelled_from name None words inner tt is)
     (λ o inner h is. spelled_from name (Some o) words inner h is) e
 
 pub read_spelled : (name : CommandName) (words : List Word) (parts : Parts) → parts_from name None words ≡ Some parts → IsSpelled name words parts
-unfolding before Has
+unfolding with_option_word Has
 read_spelled name words parts e = spelled_from name None words parts tt e
 
 -- ---- whole lines
@@ -132,8 +132,8 @@ computed_reads (first ∷ words) reading e =
     let name = bind_so (command_named first) _ reading e in
     let parts = bind_so (parts_from name.0 None words) _ reading name.2 in
     let is = read_spelled name.0 words parts.0 parts.1 in
-    let made : Some (record { command = name.0; items = parts.0.0; behind = parts.0.1 }) ≡ Some reading = parts.2 in
-    let reading_is : reading ≡ record { command = name.0; items = parts.0.0; behind = parts.0.1 } = cc in
+    let made : Some (record { command = name.0; items = parts.0.0; after_dashes = parts.0.1 }) ≡ Some reading = parts.2 in
+    let reading_is : reading ≡ record { command = name.0; items = parts.0.0; after_dashes = parts.0.1 } = cc in
     rw reading_is record {
       rest = is.rest;
       spelled = ap (λ w. w ∷ words) (named_so first name.0 name.1) ∙ ap (λ ws. (command_row name.0).word ∷ ws) is.spelled;

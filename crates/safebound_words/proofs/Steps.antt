@@ -9,9 +9,9 @@ use Rattle.std.proofs.lemmas.Slice.Eq.{bytes_eq-Decides}
 use Rattle.std.specs.Bool.{IsTrue}
 use Rattle.std.specs.List.{flat_map}
 use Rattle.std.specs.Result.{OnErr}
-use Rattle.safebound_words.specs.Answer.{Kind, Ends, IsPlace, Sets, Wants, Gives, Unknown, Parts, in_front, kind_of, parts_from, read_by}
+use Rattle.safebound_words.specs.Answer.{Kind, Ends, IsPositional, Sets, Wants, Gives, Unknown, Parts, in_front, kind_of, parts_from, read_by}
 use Rattle.safebound_words.specs.Collected.{asked_by, asked_from, asked_with, collected, given_of, given_to, given_with, times_of, words_of}
-use Rattle.safebound_words.specs.CommandLines.{Alone, Beside, Item, Joined, Place, given_by, given_in, has_flag, has_option, place_words, same_flag, same_option, set_by}
+use Rattle.safebound_words.specs.CommandLines.{Flag, WithNextWord, Item, WithEquals, Positional, given_by, given_in, has_flag, has_option, positional_words, same_flag, same_option, set_by}
 use Rattle.safebound_words.specs.Commands.{most_budget_of, over_query, shape_by, source_by, terms_by}
 use Rattle.safebound_words.specs.Table.{Given, command_row, count_alone, file_alone, flag_word, from_file, from_file_or_tables, is_set, limit_of, of_append, of_number, of_stats, option_file, option_row, over_files, over_tables, terms_given, value_of, work_given, ◌>>=◌}
 use Rattle.safebound_words.specs.Words.{Word}
@@ -29,18 +29,18 @@ use Rattle.safebound_words.specs.declared.table.OptionName.{OptionName}
 use Rattle.safebound_words.specs.declared.table.OptionName.TheVariants as option
 use Rattle.safebound_words.specs.declared.line.Line.{Line}
 use Rattle.safebound_words.specs.declared.line.Next.TheVariants as next
-use Rattle.safebound_words.specs.declared.line.Places.TheVariants as places
-use Rattle.safebound_words.proofs.WordKinds.{told}
+use Rattle.safebound_words.specs.declared.line.Positionals.TheVariants as positionals
+use Rattle.safebound_words.proofs.WordKinds.{kind_spells}
 
 -- ---- what a command asks for depends on its positional words, on what is given to each option and on how often each flag is given
 
-same_asks : (name : CommandName) (places places' : List Word) (given given' : Given)
-    → places ≡ places' → ((o : OptionName) → given.values o ≡ given'.values o) → ((f : FlagName) → given.times f ≡ given'.times f)
-    → (command_row name).asks places given ≡ (command_row name).asks places' given'
-same_asks name places places' given given' same values times =
+same_asks : (name : CommandName) (positionals positionals' : List Word) (given given' : Given)
+    → positionals ≡ positionals' → ((o : OptionName) → given.values o ≡ given'.values o) → ((f : FlagName) → given.times f ≡ given'.times f)
+    → (command_row name).asks positionals given ≡ (command_row name).asks positionals' given'
+same_asks name positionals positionals' given given' same values times =
     ap (λ ws. (command_row name).asks ws given) same
-    ∙ ap (λ (v : OptionName → List Word). (command_row name).asks places' (record { values = v; times = given.times })) (fun_ext values)
-    ∙ ap (λ (t : FlagName → ℕ). (command_row name).asks places' (record { values = given'.values; times = t })) (fun_ext times)
+    ∙ ap (λ (v : OptionName → List Word). (command_row name).asks positionals' (record { values = v; times = given.times })) (fun_ext values)
+    ∙ ap (λ (t : FlagName → ℕ). (command_row name).asks positionals' (record { values = given'.values; times = t })) (fun_ext times)
 
 -- the two lines have the same options and flags. They may have different positional words
 pub record IsSameBeside (new old : Line) : Type 0 where
@@ -52,30 +52,30 @@ no_more_times : (new old : Line) (item : Item) (items : List Item) → ((f : Fla
 no_more_times new old item items same none f = rw (same f) (omega (arith, sum_by-cons (set_by f) item items, none f))
 
 pub one_more_place : (name : CommandName) (new old : Line) (word : Word) (parts : Parts)
-    → words_of new.places ≡ words_of old.places ++ word ∷ [] → IsSameBeside new old
-    → asked_with name new parts ≡ asked_with name old (Place word ∷ parts.0, parts.1)
+    → words_of new.positionals ≡ words_of old.positionals ++ word ∷ [] → IsSameBeside new old
+    → asked_with name new parts ≡ asked_with name old (Positional word ∷ parts.0, parts.1)
 unfolding asked_with
-one_more_place name new old word parts places same =
+one_more_place name new old word parts positionals same =
     same_asks name
-    (words_of new.places ++ (flat_map place_words parts.0 ++ parts.1))
-    (words_of old.places ++ (word ∷ (flat_map place_words parts.0 ++ parts.1)))
+    (words_of new.positionals ++ (flat_map positional_words parts.0 ++ parts.1))
+    (words_of old.positionals ++ (word ∷ (flat_map positional_words parts.0 ++ parts.1)))
     (given_with new parts.0)
-    (given_with old (Place word ∷ parts.0))
-    (ap (λ ws. ws ++ (flat_map place_words parts.0 ++ parts.1)) places ∙ append_assoc (words_of old.places) (word ∷ []) (flat_map place_words parts.0 ++ parts.1))
+    (given_with old (Positional word ∷ parts.0))
+    (ap (λ ws. ws ++ (flat_map positional_words parts.0 ++ parts.1)) positionals ∙ append_assoc (words_of old.positionals) (word ∷ []) (flat_map positional_words parts.0 ++ parts.1))
     (λ o. ap (λ ws. ws ++ flat_map (given_by o) parts.0) (same.values o))
-    (no_more_times new old (Place word) parts.0 same.times (λ f. refl))
+    (no_more_times new old (Positional word) parts.0 same.times (λ f. refl))
 
 pub one_more_behind : (name : CommandName) (new old : Line) (word : Word) (words : List Word)
-    → words_of new.places ≡ words_of old.places ++ word ∷ [] → IsSameBeside new old
+    → words_of new.positionals ≡ words_of old.positionals ++ word ∷ [] → IsSameBeside new old
     → asked_with name new ([], words) ≡ asked_with name old ([], word ∷ words)
 unfolding asked_with
-one_more_behind name new old word words places same =
+one_more_behind name new old word words positionals same =
     same_asks name
-    (words_of new.places ++ words)
-    (words_of old.places ++ (word ∷ words))
+    (words_of new.positionals ++ words)
+    (words_of old.positionals ++ (word ∷ words))
     (given_with new [])
     (given_with old [])
-    (ap (λ ws. ws ++ words) places ∙ append_assoc (words_of old.places) (word ∷ []) words)
+    (ap (λ ws. ws ++ words) positionals ∙ append_assoc (words_of old.positionals) (word ∷ []) words)
     (λ o. ap (λ ws. ws ++ []) (same.values o))
     (λ f. ap (λ n. n + 0) (same.times f))
 
@@ -83,35 +83,35 @@ SetsMore : Line → Line → FlagName → Type 0
 SetsMore new old f = (other : FlagName) → times_of new other ≡ times_of old other + (if same_flag other f then 1 else 0)
 
 one_more_flag : (name : CommandName) (new old : Line) (f : FlagName) (parts : Parts)
-    → new.places ≡ old.places → ((o : OptionName) → given_to new o ≡ given_to old o) → SetsMore new old f
-    → asked_with name new parts ≡ asked_with name old (Alone f ∷ parts.0, parts.1)
+    → new.positionals ≡ old.positionals → ((o : OptionName) → given_to new o ≡ given_to old o) → SetsMore new old f
+    → asked_with name new parts ≡ asked_with name old (Flag f ∷ parts.0, parts.1)
 unfolding asked_with SetsMore
-one_more_flag name new old f parts places values more =
+one_more_flag name new old f parts positionals values more =
     same_asks name
-    (words_of new.places ++ (flat_map place_words parts.0 ++ parts.1))
-    (words_of old.places ++ (flat_map place_words parts.0 ++ parts.1))
+    (words_of new.positionals ++ (flat_map positional_words parts.0 ++ parts.1))
+    (words_of old.positionals ++ (flat_map positional_words parts.0 ++ parts.1))
     (given_with new parts.0)
-    (given_with old (Alone f ∷ parts.0))
-    (rw places refl)
+    (given_with old (Flag f ∷ parts.0))
+    (rw positionals refl)
     (λ o. ap (λ ws. ws ++ flat_map (given_by o) parts.0) (values o))
-    (λ other. omega (arith, more other, sum_by-cons (set_by other) (Alone f) parts.0))
+    (λ other. omega (arith, more other, sum_by-cons (set_by other) (Flag f) parts.0))
 
 GivesMore : Line → Line → OptionName → Word → Type 0
 GivesMore new old o value = (other : OptionName) → given_to new other ≡ given_to old other ++ (if same_option other o then value ∷ [] else [])
 
 one_more_value : (name : CommandName) (new old : Line) (item : Item) (o : OptionName) (value : Word) (parts : Parts)
-    → place_words item ≡ [] → ((f : FlagName) → set_by f item ≡ 0)
+    → positional_words item ≡ [] → ((f : FlagName) → set_by f item ≡ 0)
     → ((other : OptionName) → given_by other item ≡ (if same_option other o then value ∷ [] else []))
-    → new.places ≡ old.places → ((f : FlagName) → times_of new f ≡ times_of old f) → GivesMore new old o value
+    → new.positionals ≡ old.positionals → ((f : FlagName) → times_of new f ≡ times_of old f) → GivesMore new old o value
     → asked_with name new parts ≡ asked_with name old (item ∷ parts.0, parts.1)
 unfolding asked_with GivesMore
-one_more_value name new old item o value parts none unset by places times given =
+one_more_value name new old item o value parts none unset by positionals times given =
     same_asks name
-    (words_of new.places ++ (flat_map place_words parts.0 ++ parts.1))
-    (words_of old.places ++ ((place_words item ++ flat_map place_words parts.0) ++ parts.1))
+    (words_of new.positionals ++ (flat_map positional_words parts.0 ++ parts.1))
+    (words_of old.positionals ++ ((positional_words item ++ flat_map positional_words parts.0) ++ parts.1))
     (given_with new parts.0)
     (given_with old (item ∷ parts.0))
-    (rw (none, places) refl)
+    (rw (none, positionals) refl)
     (λ other. ap (λ ws. ws ++ flat_map (given_by other) parts.0) (given other ∙ ap (λ ws. given_to old other ++ ws) (sym (by other)))
     ∙ append_assoc (given_to old other) (given_by other item) (flat_map (given_by other) parts.0))
     (no_more_times new old item parts.0 times unset)
@@ -125,25 +125,25 @@ none_behind (Some a) rest all = all a
 
 -- ---- if too many words are collected, nothing is asked for
 
-files_of_two : (out : OutText) (places : List Word) (given : Given) → 4 < length places → over_files out places given ≡ None
+files_of_two : (out : OutText) (positionals : List Word) (given : Given) → 4 < length positionals → over_files out positionals given ≡ None
 unfolding over_files
 files_of_two out [] given many = absurd (omega arith)
 files_of_two out (a ∷ []) given many = absurd (omega arith)
 files_of_two out (a ∷ b ∷ []) given many = absurd (omega arith)
 files_of_two out (a ∷ b ∷ d ∷ rest) given many = refl
 
-one_at_most : (places : List Word) (given : Given) → 4 < length places → of_number places given ≡ None
+one_at_most : (positionals : List Word) (given : Given) → 4 < length positionals → of_number positionals given ≡ None
 one_at_most [] given many = absurd (omega arith)
 one_at_most (a ∷ []) given many = absurd (omega arith)
 one_at_most (a ∷ b ∷ rest) given many = refl
 
-stats_of_two : (places : List Word) (given : Given) → 4 < length places → of_stats places given ≡ None
+stats_of_two : (positionals : List Word) (given : Given) → 4 < length positionals → of_stats positionals given ≡ None
 stats_of_two [] given many = absurd (omega arith)
 stats_of_two (a ∷ []) given many = absurd (omega arith)
 stats_of_two (a ∷ b ∷ []) given many = absurd (omega arith)
 stats_of_two (a ∷ b ∷ d ∷ rest) given many = refl
 
-append_of_four : (places : List Word) (given : Given) → 4 < length places → of_append places given ≡ None
+append_of_four : (positionals : List Word) (given : Given) → 4 < length positionals → of_append positionals given ≡ None
 append_of_four [] given many = absurd (omega arith)
 append_of_four (a ∷ []) given many = absurd (omega arith)
 append_of_four (a ∷ b ∷ []) given many = absurd (omega arith)
@@ -151,7 +151,7 @@ append_of_four (a ∷ b ∷ d ∷ []) given many = absurd (omega arith)
 append_of_four (a ∷ b ∷ d ∷ e ∷ []) given many = absurd (omega arith)
 append_of_four (a ∷ b ∷ d ∷ e ∷ f ∷ rest) given many = refl
 
-too_many : (name : CommandName) (places : List Word) (given : Given) → 4 < length places → (command_row name).asks places given ≡ None
+too_many : (name : CommandName) (positionals : List Word) (given : Given) → 4 < length positionals → (command_row name).asks positionals given ≡ None
 too_many command.Run = files_of_two out_text.Rows
 too_many command.Plan = files_of_two out_text.Nothing
 too_many command.Audit = files_of_two out_text.Audit
@@ -176,10 +176,10 @@ IsSource flag.Reduce = Unit {0}
 IsSource flag.Keys = Unit {0}
 IsSource flag.Count = Unit {0}
 
-set_once : (n : ℕ) → 1 < n → is_set n ≡ None
-set_once zero many = absurd (omega arith)
-set_once (suc zero) many = absurd (omega arith)
-set_once (suc (suc more)) many = refl
+none_if_set_twice : (n : ℕ) → 1 < n → is_set n ≡ None
+none_if_set_twice zero many = absurd (omega arith)
+none_if_set_twice (suc zero) many = absurd (omega arith)
+none_if_set_twice (suc (suc more)) many = refl
 
 -- ---- the stages of `terms_given`
 module _ (given : Given) where
@@ -204,7 +204,7 @@ module _ (given : Given) where
   no_shape many =
       none_behind (value_of option.Memory (given.values option.Memory)) (λ bytes. by_memory bytes)
       (λ bytes. none_behind (value_of option.Budget (given.values option.Budget)) (λ budget. by_budget bytes budget)
-      (λ budget. none_first (is_set (given.times flag.Bushy)) (λ bushy. by_bushy bytes budget bushy) (set_once (given.times flag.Bushy) many)))
+      (λ budget. none_first (is_set (given.times flag.Bushy)) (λ bushy. by_bushy bytes budget bushy) (none_if_set_twice (given.times flag.Bushy) many)))
 
 -- ---- the stages of `over_tables`
 module _ (out : OutText) (terms : PlanTerms) (given : Given) where
@@ -227,15 +227,15 @@ module _ (out : OutText) (terms : PlanTerms) (given : Given) where
       none_first (value_of option.Accuracy (given.values option.Accuracy)) (λ accuracy. by_accuracy accuracy) (too_often option.Accuracy (given.values option.Accuracy) many)
 
   many_keys : (accuracy : ℕ) (reduce : Bool) → 1 < given.times flag.Keys → by_reduce accuracy reduce ≡ None
-  many_keys accuracy reduce many = none_first (is_set (given.times flag.Keys)) (λ keys. by_keys accuracy reduce keys) (set_once (given.times flag.Keys) many)
+  many_keys accuracy reduce many = none_first (is_set (given.times flag.Keys)) (λ keys. by_keys accuracy reduce keys) (none_if_set_twice (given.times flag.Keys) many)
 
   many_counts : (accuracy : ℕ) (reduce : Bool) → 1 < given.times flag.Count → by_reduce accuracy reduce ≡ None
   many_counts accuracy reduce many =
       none_behind (is_set (given.times flag.Keys)) (λ keys. by_keys accuracy reduce keys)
-      (λ keys. none_first (is_set (given.times flag.Count)) (λ count. by_count accuracy reduce keys count) (set_once (given.times flag.Count) many))
+      (λ keys. none_first (is_set (given.times flag.Count)) (λ count. by_count accuracy reduce keys count) (none_if_set_twice (given.times flag.Count) many))
 
   many_sources : (accuracy : ℕ) (f : FlagName) → IsSource f → 1 < given.times f → by_accuracy accuracy ≡ None
-  many_sources accuracy flag.Reduce is many = none_first (is_set (given.times flag.Reduce)) (λ reduce. by_reduce accuracy reduce) (set_once (given.times flag.Reduce) many)
+  many_sources accuracy flag.Reduce is many = none_first (is_set (given.times flag.Reduce)) (λ reduce. by_reduce accuracy reduce) (none_if_set_twice (given.times flag.Reduce) many)
   many_sources accuracy flag.Bushy is many = absurd is
   many_sources accuracy flag.Keys is many =
       none_behind (is_set (given.times flag.Reduce)) (λ reduce. by_reduce accuracy reduce) (λ reduce. many_keys accuracy reduce many)
@@ -293,14 +293,14 @@ module _ (out : OutText) (given : Given) where
   abbrev by_terms : Word → Word → PlanTerms → Option Command
   by_terms schema query terms = work_given out terms given >>= λ work. Some (over_query None schema query work)
 
-  without_terms : terms_given given ≡ None → (places : List Word) → over_files out places given ≡ None
+  without_terms : terms_given given ≡ None → (positionals : List Word) → over_files out positionals given ≡ None
   unfolding over_files
   without_terms none [] = refl
   without_terms none (a ∷ []) = refl
   without_terms none (a ∷ b ∷ []) = none_first (terms_given given) (λ terms. by_terms a b terms) none
   without_terms none (a ∷ b ∷ d ∷ rest) = refl
 
-  without_work : ((terms : PlanTerms) → work_given out terms given ≡ None) → (places : List Word) → over_files out places given ≡ None
+  without_work : ((terms : PlanTerms) → work_given out terms given ≡ None) → (positionals : List Word) → over_files out positionals given ≡ None
   unfolding over_files
   without_work none [] = refl
   without_work none (a ∷ []) = refl
@@ -309,56 +309,56 @@ module _ (out : OutText) (given : Given) where
       (λ terms. none_first (work_given out terms given) (λ work. Some (over_query None a b work)) (none terms))
   without_work none (a ∷ b ∷ d ∷ rest) = refl
 
-  files_without_flag : (f : FlagName) → 1 < given.times f → (places : List Word) → over_files out places given ≡ None
+  files_without_flag : (f : FlagName) → 1 < given.times f → (positionals : List Word) → over_files out positionals given ≡ None
   files_without_flag flag.Bushy many = without_terms (no_shape given many)
   files_without_flag flag.Reduce many = without_work (λ terms. no_work out terms given (λ file. either_without_flag out terms given file flag.Reduce tt many))
   files_without_flag flag.Keys many = without_work (λ terms. no_work out terms given (λ file. either_without_flag out terms given file flag.Keys tt many))
   files_without_flag flag.Count many = without_work (λ terms. no_work out terms given (λ file. either_without_flag out terms given file flag.Count tt many))
 
-  files_without_option : (o : OptionName) → 1 < length (given.values o) → (places : List Word) → over_files out places given ≡ None
+  files_without_option : (o : OptionName) → 1 < length (given.values o) → (positionals : List Word) → over_files out positionals given ≡ None
   files_without_option option.Budget many = without_terms (no_budget given many)
   files_without_option option.Memory many = without_terms (no_limit given many)
   files_without_option option.Accuracy many = without_work (λ terms. no_work out terms given (λ file. either_without_accuracy out terms given file many))
   files_without_option option.Stats many = without_work (λ terms. no_second_file out terms given many)
 
-no_accuracy : (places : List Word) (given : Given) → 1 < length (given.values option.Accuracy) → of_stats places given ≡ None
+no_accuracy : (positionals : List Word) (given : Given) → 1 < length (given.values option.Accuracy) → of_stats positionals given ≡ None
 no_accuracy [] given many = refl
 no_accuracy (a ∷ []) given many = refl
 no_accuracy (a ∷ b ∷ []) given many = ap (option_map (λ accuracy. over_query None a b (works.WriteStats accuracy))) (too_often option.Accuracy (given.values option.Accuracy) many)
 no_accuracy (a ∷ b ∷ d ∷ rest) given many = refl
 
-flag_refused : (name : CommandName) (f : FlagName) (places : List Word) (given : Given) → IsTrue (has_flag name f) → 1 < given.times f
-    → (command_row name).asks places given ≡ None
-flag_refused command.Run f places given has many = files_without_flag out_text.Rows given f many places
-flag_refused command.Plan f places given has many = files_without_flag out_text.Nothing given f many places
-flag_refused command.Audit f places given has many = files_without_flag out_text.Audit given f many places
-flag_refused command.Stats f places given has many = absurd (false≢true has)
-flag_refused command.Append f places given has many = absurd (false≢true has)
-flag_refused command.Demo f places given has many = absurd (false≢true has)
+flag_refused : (name : CommandName) (f : FlagName) (positionals : List Word) (given : Given) → IsTrue (has_flag name f) → 1 < given.times f
+    → (command_row name).asks positionals given ≡ None
+flag_refused command.Run f positionals given has many = files_without_flag out_text.Rows given f many positionals
+flag_refused command.Plan f positionals given has many = files_without_flag out_text.Nothing given f many positionals
+flag_refused command.Audit f positionals given has many = files_without_flag out_text.Audit given f many positionals
+flag_refused command.Stats f positionals given has many = absurd (false≢true has)
+flag_refused command.Append f positionals given has many = absurd (false≢true has)
+flag_refused command.Demo f positionals given has many = absurd (false≢true has)
 
-refused : (name : CommandName) (o : OptionName) (places : List Word) (given : Given) → IsTrue (has_option name o) → 1 < length (given.values o)
-    → (command_row name).asks places given ≡ None
-refused command.Run o places given has many = files_without_option out_text.Rows given o many places
-refused command.Plan o places given has many = files_without_option out_text.Nothing given o many places
-refused command.Audit o places given has many = files_without_option out_text.Audit given o many places
-refused command.Stats option.Budget places given has many = absurd (false≢true has)
-refused command.Stats option.Accuracy places given has many = no_accuracy places given many
-refused command.Stats option.Memory places given has many = absurd (false≢true has)
-refused command.Stats option.Stats places given has many = absurd (false≢true has)
-refused command.Append o places given has many = absurd (false≢true has)
-refused command.Demo o places given has many = absurd (false≢true has)
+refused : (name : CommandName) (o : OptionName) (positionals : List Word) (given : Given) → IsTrue (has_option name o) → 1 < length (given.values o)
+    → (command_row name).asks positionals given ≡ None
+refused command.Run o positionals given has many = files_without_option out_text.Rows given o many positionals
+refused command.Plan o positionals given has many = files_without_option out_text.Nothing given o many positionals
+refused command.Audit o positionals given has many = files_without_option out_text.Audit given o many positionals
+refused command.Stats option.Budget positionals given has many = absurd (false≢true has)
+refused command.Stats option.Accuracy positionals given has many = no_accuracy positionals given many
+refused command.Stats option.Memory positionals given has many = absurd (false≢true has)
+refused command.Stats option.Stats positionals given has many = absurd (false≢true has)
+refused command.Append o positionals given has many = absurd (false≢true has)
+refused command.Demo o positionals given has many = absurd (false≢true has)
 
-full_place : (name : CommandName) (line : Line) (word : Word) (parts : Parts) → length (words_of line.places) ≡ 4
-    → asked_with name line (Place word ∷ parts.0, parts.1) ≡ None
+full_place : (name : CommandName) (line : Line) (word : Word) (parts : Parts) → length (words_of line.positionals) ≡ 4
+    → asked_with name line (Positional word ∷ parts.0, parts.1) ≡ None
 unfolding asked_with
 full_place name line word parts full =
-    too_many name _ _ (omega (arith, length-append (words_of line.places) (word ∷ (flat_map place_words parts.0 ++ parts.1))))
+    too_many name _ _ (omega (arith, length-append (words_of line.positionals) (word ∷ (flat_map positional_words parts.0 ++ parts.1))))
 
-pub full_behind : (name : CommandName) (line : Line) (word : Word) (words : List Word) → length (words_of line.places) ≡ 4
+pub full_after_dashes : (name : CommandName) (line : Line) (word : Word) (words : List Word) → length (words_of line.positionals) ≡ 4
     → asked_with name line ([], word ∷ words) ≡ None
 unfolding asked_with
-full_behind name line word words full =
-    too_many name _ _ (omega (arith, length-append (words_of line.places) (word ∷ words)))
+full_after_dashes name line word words full =
+    too_many name _ _ (omega (arith, length-append (words_of line.positionals) (word ∷ words)))
 
 same_itself : (o : OptionName) → same_option o o ≡ true
 same_itself o = (bytes_eq-Decides (option_row o).word (option_row o).word).1 refl
@@ -377,11 +377,11 @@ flag_itself : (f : FlagName) → same_flag f f ≡ true
 flag_itself f = (bytes_eq-Decides (flag_word f) (flag_word f)).1 refl
 
 twice_set : (name : CommandName) (line : Line) (f : FlagName) (parts : Parts) → IsTrue (has_flag name f)
-    → times_of line f ≡ 1 → asked_with name line (Alone f ∷ parts.0, parts.1) ≡ None
+    → times_of line f ≡ 1 → asked_with name line (Flag f ∷ parts.0, parts.1) ≡ None
 unfolding asked_with
 twice_set name line f parts has again =
-    let one : set_by f (Alone f) ≡ 1 = rw (flag_itself f) refl in
-    flag_refused name f _ (given_with line (Alone f ∷ parts.0)) has (omega (arith, again, one, sum_by-cons (set_by f) (Alone f) parts.0))
+    let one : set_by f (Flag f) ≡ 1 = rw (flag_itself f) refl in
+    flag_refused name f _ (given_with line (Flag f ∷ parts.0)) has (omega (arith, again, one, sum_by-cons (set_by f) (Flag f) parts.0))
 
 -- ---- steps of the walk
 
@@ -402,16 +402,16 @@ unfolding parts_from
 read_so name word words kind is = ap (λ k. read_by k word words (λ wanted. parts_from name wanted words)) (sym is)
 
 pub wanted : (name : CommandName) (word : Word) (o : OptionName) → Wants o ≡ kind_of name word → IsTrue (has_option name o)
-wanted name word o is = let so = told name word in (rw (← is) at so).1
+wanted name word o is = let so = kind_spells name word in (rw (← is) at so).1
 
 pub gives_own : (name : CommandName) (word : Word) (o : OptionName) (value : Word) → Gives o value ≡ kind_of name word → IsTrue (has_option name o)
-gives_own name word o value is = let so = told name word in (rw (← is) at so).1
+gives_own name word o value is = let so = kind_spells name word in (rw (← is) at so).1
 
 sets_own : (name : CommandName) (word : Word) (f : FlagName) → Sets f ≡ kind_of name word → IsTrue (has_flag name f)
-sets_own name word f is = let so = told name word in (rw (← is) at so).1
+sets_own name word f is = let so = kind_spells name word in (rw (← is) at so).1
 
 pub end_step : (name : CommandName) (line : Line) (word : Word) → Ends ≡ kind_of name word → (words : List Word)
-    → asked_from name line next.Place words ≡ asked_from name line next.Item (word ∷ words)
+    → asked_from name line next.Positional words ≡ asked_from name line next.Item (word ∷ words)
 unfolding asked_from
 end_step name line word is words = rw (read_so name word words Ends is) refl
 
@@ -425,81 +425,81 @@ pub unknown_refused : (name : CommandName) (line : Line) (word : Word) → Unkno
 unfolding asked_from
 unknown_refused name line word is words = rw (read_so name word words Unknown is) refl
 
-pub place_step : (name : CommandName) (new old : Line) (word : Word) → IsPlace ≡ kind_of name word
-    → words_of new.places ≡ words_of old.places ++ word ∷ [] → IsSameBeside new old → (words : List Word)
+pub place_step : (name : CommandName) (new old : Line) (word : Word) → IsPositional ≡ kind_of name word
+    → words_of new.positionals ≡ words_of old.positionals ++ word ∷ [] → IsSameBeside new old → (words : List Word)
     → asked_from name new next.Item words ≡ asked_from name old next.Item (word ∷ words)
 unfolding asked_from
-place_step name new old word is places same words =
-    rw (read_so name word words IsPlace is)
-    (front_asked name new old (Place word) (parts_from name None words) (λ p. one_more_place name new old word p places same))
+place_step name new old word is positionals same words =
+    rw (read_so name word words IsPositional is)
+    (front_asked name new old (Positional word) (parts_from name None words) (λ p. one_more_place name new old word p positionals same))
 
-pub place_refused : (name : CommandName) (line : Line) (word : Word) → IsPlace ≡ kind_of name word → length (words_of line.places) ≡ 4
+pub place_refused : (name : CommandName) (line : Line) (word : Word) → IsPositional ≡ kind_of name word → length (words_of line.positionals) ≡ 4
     → (words : List Word) → asked_from name line next.Item (word ∷ words) ≡ None
 unfolding asked_from
 place_refused name line word is full words =
-    rw (read_so name word words IsPlace is)
-    (front_refused name line (Place word) (parts_from name None words) (λ p. full_place name line word p full))
+    rw (read_so name word words IsPositional is)
+    (front_refused name line (Positional word) (parts_from name None words) (λ p. full_place name line word p full))
 
 pub flag_step : (name : CommandName) (new old : Line) (word : Word) (f : FlagName) → Sets f ≡ kind_of name word
-    → new.places ≡ old.places → ((o : OptionName) → given_to new o ≡ given_to old o)
+    → new.positionals ≡ old.positionals → ((o : OptionName) → given_to new o ≡ given_to old o)
     → ((other : FlagName) → times_of new other ≡ times_of old other + (if same_flag other f then 1 else 0))
     → (words : List Word) → asked_from name new next.Item words ≡ asked_from name old next.Item (word ∷ words)
 unfolding asked_from SetsMore
-flag_step name new old word f is places values more words =
+flag_step name new old word f is positionals values more words =
     rw (read_so name word words (Sets f) is)
-    (front_asked name new old (Alone f) (parts_from name None words) (λ p. one_more_flag name new old f p places values more))
+    (front_asked name new old (Flag f) (parts_from name None words) (λ p. one_more_flag name new old f p positionals values more))
 
 pub flag_again : (name : CommandName) (line : Line) (word : Word) (f : FlagName) → Sets f ≡ kind_of name word → times_of line f ≡ 1
     → (words : List Word) → asked_from name line next.Item (word ∷ words) ≡ None
 unfolding asked_from
 flag_again name line word f is again words =
     rw (read_so name word words (Sets f) is)
-    (front_refused name line (Alone f) (parts_from name None words) (λ p. twice_set name line f p (sets_own name word f is) again))
+    (front_refused name line (Flag f) (parts_from name None words) (λ p. twice_set name line f p (sets_own name word f is) again))
 
 pub joined_step : (name : CommandName) (new old : Line) (word : Word) (o : OptionName) (value : Word) → Gives o value ≡ kind_of name word
-    → new.places ≡ old.places → ((f : FlagName) → times_of new f ≡ times_of old f)
+    → new.positionals ≡ old.positionals → ((f : FlagName) → times_of new f ≡ times_of old f)
     → ((other : OptionName) → given_to new other ≡ given_to old other ++ (if same_option other o then value ∷ [] else []))
     → (words : List Word) → asked_from name new next.Item words ≡ asked_from name old next.Item (word ∷ words)
 unfolding asked_from GivesMore
-joined_step name new old word o value is places times given words =
+joined_step name new old word o value is positionals times given words =
     rw (read_so name word words (Gives o value) is)
-    (front_asked name new old (Joined o value) (parts_from name None words)
-    (λ p. one_more_value name new old (Joined o value) o value p refl (λ f. refl) (λ other. refl) places times given))
+    (front_asked name new old (WithEquals o value) (parts_from name None words)
+    (λ p. one_more_value name new old (WithEquals o value) o value p refl (λ f. refl) (λ other. refl) positionals times given))
 
 pub joined_refused : (name : CommandName) (line : Line) (word : Word) (o : OptionName) (value : Word) → Gives o value ≡ kind_of name word
     → length (given_to line o) ≡ 1 → (words : List Word) → asked_from name line next.Item (word ∷ words) ≡ None
 unfolding asked_from
 joined_refused name line word o value is again words =
     rw (read_so name word words (Gives o value) is)
-    (front_refused name line (Joined o value) (parts_from name None words)
-    (λ p. twice name line (Joined o value) o value p (gives_own name word o value is) refl again))
+    (front_refused name line (WithEquals o value) (parts_from name None words)
+    (λ p. twice name line (WithEquals o value) o value p (gives_own name word o value is) refl again))
 
 pub value_step : (name : CommandName) (new old : Line) (o : OptionName) (value : Word)
-    → new.places ≡ old.places → ((f : FlagName) → times_of new f ≡ times_of old f)
+    → new.positionals ≡ old.positionals → ((f : FlagName) → times_of new f ≡ times_of old f)
     → ((other : OptionName) → given_to new other ≡ given_to old other ++ (if same_option other o then value ∷ [] else []))
     → (words : List Word) → asked_from name new next.Item words ≡ asked_from name old (next.Value o) (value ∷ words)
 unfolding asked_from parts_from GivesMore
-value_step name new old o value places times given words =
-    front_asked name new old (Beside o value) (parts_from name None words)
-    (λ p. one_more_value name new old (Beside o value) o value p refl (λ f. refl) (λ other. refl) places times given)
+value_step name new old o value positionals times given words =
+    front_asked name new old (WithNextWord o value) (parts_from name None words)
+    (λ p. one_more_value name new old (WithNextWord o value) o value p refl (λ f. refl) (λ other. refl) positionals times given)
 
 pub value_refused : (name : CommandName) (line : Line) (o : OptionName) (value : Word) → IsTrue (has_option name o)
     → length (given_to line o) ≡ 1 → (words : List Word) → asked_from name line (next.Value o) (value ∷ words) ≡ None
 unfolding asked_from parts_from
 value_refused name line o value has again words =
-    front_refused name line (Beside o value) (parts_from name None words)
-    (λ p. twice name line (Beside o value) o value p has refl again)
+    front_refused name line (WithNextWord o value) (parts_from name None words)
+    (λ p. twice name line (WithNextWord o value) o value p has refl again)
 
-pub behind_step : (name : CommandName) (new old : Line) (word : Word)
-    → words_of new.places ≡ words_of old.places ++ word ∷ [] → IsSameBeside new old → (words : List Word)
-    → asked_from name new next.Place words ≡ asked_from name old next.Place (word ∷ words)
+pub after_dashes_step : (name : CommandName) (new old : Line) (word : Word)
+    → words_of new.positionals ≡ words_of old.positionals ++ word ∷ [] → IsSameBeside new old → (words : List Word)
+    → asked_from name new next.Positional words ≡ asked_from name old next.Positional (word ∷ words)
 unfolding asked_from
-behind_step name new old word places same words = one_more_behind name new old word words places same
+after_dashes_step name new old word positionals same words = one_more_behind name new old word words positionals same
 
-pub behind_refused : (name : CommandName) (line : Line) (word : Word) → length (words_of line.places) ≡ 4
-    → (words : List Word) → asked_from name line next.Place (word ∷ words) ≡ None
+pub behind_refused : (name : CommandName) (line : Line) (word : Word) → length (words_of line.positionals) ≡ 4
+    → (words : List Word) → asked_from name line next.Positional (word ∷ words) ≡ None
 unfolding asked_from
-behind_refused name line word full words = full_behind name line word words full
+behind_refused name line word full words = full_after_dashes name line word words full
 
 pub anyway : {T E P : Type 0} (r : Result T E) → P → OnErr r P
 anyway (Ok value) holds = tt
@@ -513,22 +513,22 @@ nothing_given line budget accuracy memory stats option.Accuracy = rw accuracy re
 nothing_given line budget accuracy memory stats option.Memory = rw memory refl
 nothing_given line budget accuracy memory stats option.Stats = rw stats refl
 
-pub start_asked : (name : CommandName) (line : Line) (words : List Word) → words_of line.places ≡ [] → ((o : OptionName) → given_to line o ≡ [])
+pub start_asked : (name : CommandName) (line : Line) (words : List Word) → words_of line.positionals ≡ [] → ((o : OptionName) → given_to line o ≡ [])
     → ((f : FlagName) → times_of line f ≡ 0) → asked_from name line next.Item words ≡ asked_by name words
 unfolding asked_from asked_by asked_with
-start_asked name line words places given times =
+start_asked name line words positionals given times =
     ap (λ (f : Parts → Option Command). parts_from name None words >>= f) (fun_ext (λ (parts : Parts).
     same_asks name
-    (words_of line.places ++ (flat_map place_words parts.0 ++ parts.1))
-    (flat_map place_words parts.0 ++ parts.1)
+    (words_of line.positionals ++ (flat_map positional_words parts.0 ++ parts.1))
+    (flat_map positional_words parts.0 ++ parts.1)
     (given_with line parts.0)
     (given_in parts.0)
-    (ap (λ ws. ws ++ (flat_map place_words parts.0 ++ parts.1)) places)
+    (ap (λ ws. ws ++ (flat_map positional_words parts.0 ++ parts.1)) positionals)
     (λ o. ap (λ ws. ws ++ flat_map (given_by o) parts.0) (given o))
     (λ f. omega (arith, times f))))
 
 abbrev no_words : Line
-no_words = record { places = places.Nothing; budget = None; accuracy = None; memory = None; stats = None; reduce = false; bushy = false; keys = false; count = false }
+no_words = record { positionals = positionals.Nothing; budget = None; accuracy = None; memory = None; stats = None; reduce = false; bushy = false; keys = false; count = false }
 
 never_set : (f : FlagName) → times_of no_words f ≡ 0
 never_set flag.Reduce = refl
@@ -545,8 +545,8 @@ none_left words i past = rw (drop_all i words past) refl
 nothing_more : (name : CommandName) (line : Line) → collected name line ≡ asked_with name line ([], [])
 unfolding asked_with
 nothing_more name line =
-    same_asks name (words_of line.places) (words_of line.places ++ []) (given_of line) (given_with line [])
-    (sym (append-nil (words_of line.places))) (λ o. sym (append-nil (given_to line o))) (λ f. omega arith)
+    same_asks name (words_of line.positionals) (words_of line.positionals ++ []) (given_of line) (given_with line [])
+    (sym (append-nil (words_of line.positionals))) (λ o. sym (append-nil (given_to line o))) (λ f. omega arith)
 
 pub line_ended : (name : CommandName) (line : Line) (words : List (Bor (List ℕ))) (i : ℕ) (all : Option Command) → length words ≤ i
     → asked_from name line next.Item (map (λ w. w.now) (drop i words)) ≡ all → collected name line ≡ all
@@ -554,7 +554,7 @@ unfolding asked_from parts_from
 line_ended name line words i all past is = let none = none_left words i past in nothing_more name line ∙ rw none at is
 
 pub behind_ended : (name : CommandName) (line : Line) (words : List (Bor (List ℕ))) (i : ℕ) (all : Option Command) → length words ≤ i
-    → asked_from name line next.Place (map (λ w. w.now) (drop i words)) ≡ all → collected name line ≡ all
+    → asked_from name line next.Positional (map (λ w. w.now) (drop i words)) ≡ all → collected name line ≡ all
 unfolding asked_from parts_from
 behind_ended name line words i all past is = let none = none_left words i past in nothing_more name line ∙ rw none at is
 

@@ -10,8 +10,8 @@ use Rattle.safebound_words.specs.declared.table.CommandName.{CommandName}
 use Rattle.safebound_words.proofs.Readings.{asked_computed, computed_asked}
 
 regrouped : (name : CommandName) (parts : Option Parts)
-    → (parts >>= λ p. Some (record { command = name; items = p.0; behind = p.1 })) >>= requested
-    ≡ parts >>= λ p. requested (record { command = name; items = p.0; behind = p.1 })
+    → (parts >>= λ p. Some (record { command = name; items = p.0; after_dashes = p.1 })) >>= requested
+    ≡ parts >>= λ p. requested (record { command = name; items = p.0; after_dashes = p.1 })
 regrouped name None = refl
 regrouped name (Some p) = refl
 
@@ -40,10 +40,10 @@ pub no_words : (words : List (Bor (List ℕ))) → length words ≡ 0 → comman
 no_words [] none = no_line
 no_words (first ∷ words) none = absurd (omega arith)
 
-pub unnamed_words : (words behind : List (Bor (List ℕ))) (first : Bor (List ℕ)) → words ≡ first ∷ behind → command_named first.now ≡ None
+pub unnamed_words : (words after_dashes : List (Bor (List ℕ))) (first : Bor (List ℕ)) → words ≡ first ∷ after_dashes → command_named first.now ≡ None
     → command_of (map (λ w. w.now) words) ≡ None
-unnamed_words words behind first is none = rw is (unnamed_line first.now (map (λ w. w.now) behind) none)
+unnamed_words words after_dashes first is none = rw is (unnamed_line first.now (map (λ w. w.now) after_dashes) none)
 
-pub named_words : (words behind : List (Bor (List ℕ))) (first : Bor (List ℕ)) (name : CommandName) → words ≡ first ∷ behind
-    → command_named first.now ≡ Some name → command_of (map (λ w. w.now) words) ≡ asked_by name (map (λ w. w.now) behind)
-named_words words behind first name is named = rw is (named_line first.now (map (λ w. w.now) behind) name named)
+pub named_words : (words after_dashes : List (Bor (List ℕ))) (first : Bor (List ℕ)) (name : CommandName) → words ≡ first ∷ after_dashes
+    → command_named first.now ≡ Some name → command_of (map (λ w. w.now) words) ≡ asked_by name (map (λ w. w.now) after_dashes)
+named_words words after_dashes first name is named = rw is (named_line first.now (map (λ w. w.now) after_dashes) name named)

@@ -8,7 +8,7 @@ use Rattle.std.proofs.lemmas.List.{length-append}
 use Rattle.std.proofs.lemmas.List.Sums.{sum_by-cons}
 use Rattle.std.proofs.lemmas.Slice.Eq.{bytes_eq-Decides}
 use Rattle.safebound_words.specs.Answer.{command_of}
-use Rattle.safebound_words.specs.CommandLines.{Alone, Beside, IsEnd, IsItemOf, Item, Joined, Place, given_by, given_in, place_words, same_flag, same_option, set_by, spelling}
+use Rattle.safebound_words.specs.CommandLines.{Flag, WithNextWord, IsEnd, IsItemOf, Item, WithEquals, Positional, given_by, given_in, positional_words, same_flag, same_option, set_by, spelling}
 use Rattle.safebound_words.specs.Commands.{over_query}
 use Rattle.safebound_words.specs.Table.{Given, command_row, file_alone, flag_word, from_file, from_file_or_tables, is_set, of_append, of_number, of_stats, option_file, option_row, over_files, over_tables, terms_given, value_of, work_given}
 use Rattle.safebound_words.specs.Words.{Word}
@@ -43,25 +43,25 @@ option_given option item value (first ∷ options) gives has = elim (cases_Bool 
       omega (arith, option_given option item value options gives rest, sum_by-cons (λ other. length (given_by other item)) first options)
 ]
 
-flag_given : (flag : FlagName) (flags : List FlagName) → list_any (same_flag flag) flags ≡ true → 1 ≤ sum_by (λ other. set_by other (Alone flag)) flags
+flag_given : (flag : FlagName) (flags : List FlagName) → list_any (same_flag flag) flags ≡ true → 1 ≤ sum_by (λ other. set_by other (Flag flag)) flags
 flag_given flag [] has = absurd (false≢true has)
 flag_given flag (first ∷ flags) has = elim (cases_Bool (same_flag flag first)) [
   | inl is ↦
       let words = (bytes_eq-Decides (flag_word flag) (flag_word first)).0 is in
       let same : same_flag first flag ≡ true = (bytes_eq-Decides (flag_word first) (flag_word flag)).1 (sym words) in
-      let one : set_by first (Alone flag) ≡ 1 = rw same refl in
-      omega (arith, one, sum_by-cons (λ other. set_by other (Alone flag)) first flags)
+      let one : set_by first (Flag flag) ≡ 1 = rw same refl in
+      omega (arith, one, sum_by-cons (λ other. set_by other (Flag flag)) first flags)
   | inr isnt ↦
       let rest : list_any (same_flag flag) flags ≡ true = rw isnt at has in
-      omega (arith, flag_given flag flags rest, sum_by-cons (λ other. set_by other (Alone flag)) first flags)
+      omega (arith, flag_given flag flags rest, sum_by-cons (λ other. set_by other (Flag flag)) first flags)
 ]
 
 item_words : (name : CommandName) (item : Item) → IsItemOf name item
-    → length (spelling item) ≤ length (place_words item) + (2 * sum_by (λ option. length (given_by option item)) (command_row name).options + sum_by (λ flag. set_by flag item) (command_row name).flags)
-item_words name (Place word) of = omega arith
-item_words name (Alone f) of = omega (arith, flag_given f (command_row name).flags of)
-item_words name (Beside o value) of = omega (arith, option_given o (Beside o value) value (command_row name).options (λ other. refl) of)
-item_words name (Joined o value) of = omega (arith, option_given o (Joined o value) value (command_row name).options (λ other. refl) of)
+    → length (spelling item) ≤ length (positional_words item) + (2 * sum_by (λ option. length (given_by option item)) (command_row name).options + sum_by (λ flag. set_by flag item) (command_row name).flags)
+item_words name (Positional word) of = omega arith
+item_words name (Flag f) of = omega (arith, flag_given f (command_row name).flags of)
+item_words name (WithNextWord o value) of = omega (arith, option_given o (WithNextWord o value) value (command_row name).options (λ other. refl) of)
+item_words name (WithEquals o value) of = omega (arith, option_given o (WithEquals o value) value (command_row name).options (λ other. refl) of)
 
 values_split : (item : Item) (items : List Item) (options : List OptionName)
     → sum_by (λ option. length (flat_map (given_by option) (item ∷ items))) options
@@ -92,17 +92,17 @@ times_split item items (first ∷ flags) =
 
 -- the most words for a command's positional words, options and flags: one for each positional word, two for each option's value, one for each flag
 abbrev weight : CommandName → List Word → Given → ℕ
-weight name places given =
-    length places + (2 * sum_by (λ option. length (given.values option)) (command_row name).options + sum_by (λ flag. given.times flag) (command_row name).flags)
+weight name positionals given =
+    length positionals + (2 * sum_by (λ option. length (given.values option)) (command_row name).options + sum_by (λ flag. given.times flag) (command_row name).flags)
 
 all_words : (name : CommandName) (items : List Item) → AllByRecursion (IsItemOf name) items
-    → length (flat_map spelling items) ≤ weight name (flat_map place_words items) (given_in items)
+    → length (flat_map spelling items) ≤ weight name (flat_map positional_words items) (given_in items)
 all_words name [] all = omega arith
 all_words name (item ∷ items) all =
     omega (
       arith,
       length-append (spelling item) (flat_map spelling items),
-      length-append (place_words item) (flat_map place_words items),
+      length-append (positional_words item) (flat_map positional_words items),
       values_split item items (command_row name).options,
       times_split item items (command_row name).flags,
       item_words name item all.0,
@@ -196,13 +196,13 @@ module _ (out : OutText) (terms : PlanTerms) (given : Given) (work : Work) where
       let file = bind_so (option_file (given.values option.Stats)) _ work is in
       (either_few file.0 file.2, one_file (given.values option.Stats) file.0 file.1)
 
-record AreFew (places : List Word) (given : Given) : Type 0 where
-  two : length places ≡ 2
+record AreFew (positionals : List Word) (given : Given) : Type 0 where
+  two : length positionals ≡ 2
   terms : AreTermsFew given
   sources : AreSourcesFew given
   stats : length (given.values option.Stats) ≤ 1
 
-files_few : (out : OutText) (places : List Word) (given : Given) (r : Command) → over_files out places given ≡ Some r → AreFew places given
+files_few : (out : OutText) (positionals : List Word) (given : Given) (r : Command) → over_files out positionals given ≡ Some r → AreFew positionals given
 unfolding over_files
 files_few out [] given r is = absurd (cc)
 files_few out (schema ∷ []) given r is = absurd (cc)
@@ -211,49 +211,49 @@ files_few out (schema ∷ query ∷ []) given r is =
     let work = bind_so (work_given out terms.0 given) _ r terms.2 in
     let few = work_few out terms.0 given work.0 work.1 in
     record { two = refl; terms = terms_few given terms.0 terms.1; sources = few.0; stats = few.1 }
-files_few out (schema ∷ query ∷ more ∷ places) given r is = absurd (cc)
+files_few out (schema ∷ query ∷ more ∷ positionals) given r is = absurd (cc)
 
-stats_few : (places : List Word) (given : Given) (r : Command) → of_stats places given ≡ Some r → (length places ≡ 2) × (length (given.values option.Accuracy) ≤ 1)
+stats_few : (positionals : List Word) (given : Given) (r : Command) → of_stats positionals given ≡ Some r → (length positionals ≡ 2) × (length (given.values option.Accuracy) ≤ 1)
 stats_few [] given r is = absurd (cc)
 stats_few (schema ∷ []) given r is = absurd (cc)
 stats_few (schema ∷ query ∷ []) given r is =
     let accuracy = map_so (λ a. over_query None schema query (works.WriteStats a)) (value_of option.Accuracy (given.values option.Accuracy)) r is in
     (refl, one_value option.Accuracy (given.values option.Accuracy) accuracy.0 accuracy.1)
-stats_few (schema ∷ query ∷ more ∷ places) given r is = absurd (cc)
+stats_few (schema ∷ query ∷ more ∷ positionals) given r is = absurd (cc)
 
-append_few : (places : List Word) (given : Given) (r : Command) → of_append places given ≡ Some r → length places ≡ 4
+append_few : (positionals : List Word) (given : Given) (r : Command) → of_append positionals given ≡ Some r → length positionals ≡ 4
 append_few [] given r is = absurd (cc)
 append_few (schema ∷ []) given r is = absurd (cc)
 append_few (schema ∷ file ∷ []) given r is = absurd (cc)
 append_few (schema ∷ file ∷ table ∷ []) given r is = absurd (cc)
 append_few (schema ∷ file ∷ table ∷ rows ∷ []) given r is = refl
-append_few (schema ∷ file ∷ table ∷ rows ∷ more ∷ places) given r is = absurd (cc)
+append_few (schema ∷ file ∷ table ∷ rows ∷ more ∷ positionals) given r is = absurd (cc)
 
-demo_few : (places : List Word) (given : Given) (r : Command) → of_number places given ≡ Some r → length places ≡ 1
+demo_few : (positionals : List Word) (given : Given) (r : Command) → of_number positionals given ≡ Some r → length positionals ≡ 1
 demo_few [] given r is = absurd (cc)
 demo_few (number ∷ []) given r is = refl
-demo_few (number ∷ more ∷ places) given r is = absurd (cc)
+demo_few (number ∷ more ∷ positionals) given r is = absurd (cc)
 
 -- two positional words, three options of two words each and four flags have 12 words; `plan` may have one more option of two words
-whole_few : (places : List Word) (given : Given) → AreFew places given → weight command.Run places given ≤ 12
-whole_few places given few =
+whole_few : (positionals : List Word) (given : Given) → AreFew positionals given → weight command.Run positionals given ≤ 12
+whole_few positionals given few =
     let terms = few.terms in
     let sources = few.sources in
     omega (arith, few.two, terms.memory, terms.budget, terms.bushy, sources.accuracy, sources.reduce, sources.keys, sources.count)
 
-asks_few : (name : CommandName) (places : List Word) (given : Given) (r : Command) → (command_row name).asks places given ≡ Some r → weight name places given ≤ 14
-asks_few command.Run places given r is = omega (arith, whole_few places given (files_few out_text.Rows places given r is))
-asks_few command.Plan places given r is =
-    let few = files_few out_text.Nothing places given r is in omega (arith, whole_few places given few, few.stats)
-asks_few command.Audit places given r is = omega (arith, whole_few places given (files_few out_text.Audit places given r is))
-asks_few command.Stats places given r is = let few = stats_few places given r is in omega (arith, few.0, few.1)
-asks_few command.Append places given r is = omega (arith, append_few places given r is)
-asks_few command.Demo places given r is = omega (arith, demo_few places given r is)
+asks_few : (name : CommandName) (positionals : List Word) (given : Given) (r : Command) → (command_row name).asks positionals given ≡ Some r → weight name positionals given ≤ 14
+asks_few command.Run positionals given r is = omega (arith, whole_few positionals given (files_few out_text.Rows positionals given r is))
+asks_few command.Plan positionals given r is =
+    let few = files_few out_text.Nothing positionals given r is in omega (arith, whole_few positionals given few, few.stats)
+asks_few command.Audit positionals given r is = omega (arith, whole_few positionals given (files_few out_text.Audit positionals given r is))
+asks_few command.Stats positionals given r is = let few = stats_few positionals given r is in omega (arith, few.0, few.1)
+asks_few command.Append positionals given r is = omega (arith, append_few positionals given r is)
+asks_few command.Demo positionals given r is = omega (arith, demo_few positionals given r is)
 
 -- ---- the words of a line
 
-behind_words : (rest behind : List Word) → IsEnd rest behind → length rest ≤ length behind + 1
-behind_words rest behind end = elim end [
+behind_words : (rest after_dashes : List Word) → IsEnd rest after_dashes → length rest ≤ length after_dashes + 1
+behind_words rest after_dashes end = elim end [
   | inl none ↦ omega (arith, ap (λ (ws : List Word). length ws) none.0)
   | inr marked ↦ omega (arith, ap (λ (ws : List Word). length ws) marked)
 ]
@@ -263,14 +263,14 @@ few_words words r is =
     let asked = computed_asked words r is in
     let reading = asked.0 in
     let reads = asked.1 in
-    let places = flat_map place_words reading.items in
-    let takes : weight reading.command (places ++ reading.behind) (given_in reading.items) ≤ 14 = asks_few reading.command _ _ r asked.2 in
+    let positionals = flat_map positional_words reading.items in
+    let takes : weight reading.command (positionals ++ reading.after_dashes) (given_in reading.items) ≤ 14 = asks_few reading.command _ _ r asked.2 in
     omega (
       arith,
       ap (λ (ws : List Word). length ws) reads.spelled,
       length-append (flat_map spelling reading.items) reads.rest,
-      length-append places reading.behind,
-      behind_words reads.rest reading.behind reads.end,
+      length-append positionals reading.after_dashes,
+      behind_words reads.rest reading.after_dashes reads.end,
       all_words reading.command reading.items reads.items,
       takes,
     )

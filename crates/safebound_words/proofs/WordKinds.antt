@@ -5,7 +5,7 @@ use Rattle.std.proofs.lemmas.Slice.Eq.{bytes_eq-Decides}
 use Rattle.std.specs.Bool.{IsTrue}
 use Rattle.std.specs.List.{find, list_any}
 use Rattle.std.specs.Str.{bytes_eq}
-use Rattle.safebound_words.specs.Answer.{Kind, Ends, IsPlace, Sets, Wants, Gives, Unknown, command_named, dashed_kind, flag_named, kind_of, option_kind, option_named, split_value}
+use Rattle.safebound_words.specs.Answer.{Kind, Ends, IsPositional, Sets, Wants, Gives, Unknown, command_named, dashed_kind, flag_named, kind_of, option_kind, option_named, split_value}
 use Rattle.safebound_words.specs.CommandLines.{has_flag, has_option, same_flag, same_option}
 use Rattle.safebound_words.specs.Table.{command_row, flag_word, option_row}
 use Rattle.safebound_words.specs.Words.{Word, is_dashed}
@@ -113,12 +113,12 @@ unfolding kind_of
 kind-ends name = refl
 
 place_of_two : (name : CommandName) (word : Word) (same : Bool) → (same ≡ true → word ≡ codes "--") → is_dashed word ≡ false
-    → cond same Ends (cond (is_dashed word) (dashed_kind (flag_named name word) (option_kind (option_named name (split_value word).0) (split_value word).1)) IsPlace)
-    ≡ IsPlace
+    → cond same Ends (cond (is_dashed word) (dashed_kind (flag_named name word) (option_kind (option_named name (split_value word).0) (split_value word).1)) IsPositional)
+    ≡ IsPositional
 place_of_two name word true two place = absurd (false≢true (sym place ∙ ap is_dashed (two refl)))
 place_of_two name word false two place = rw place refl
 
-pub kind-place : (name : CommandName) (word : Word) → is_dashed word ≡ false → kind_of name word ≡ IsPlace
+pub kind-place : (name : CommandName) (word : Word) → is_dashed word ≡ false → kind_of name word ≡ IsPositional
 unfolding kind_of
 kind-place name word place = place_of_two name word (bytes_eq word (codes "--")) (bytes_eq-Decides word (codes "--")).0 place
 
@@ -169,16 +169,16 @@ unfolding IsOfParts
 are_parts [] = refl
 are_parts (first ∷ rest) = parts_step (first == 61) first rest (eqb-true first 61) (are_parts rest)
 
-abbrev pub Told : CommandName → Word → Kind → Type 0
-Told name word Ends = word ≡ codes "--"
-Told name word IsPlace = is_dashed word ≡ false
-Told name word (Sets f) = (word ≡ flag_word f) × IsTrue (has_flag name f)
-Told name word (Wants o) = (word ≡ (option_row o).word) × IsTrue (has_option name o)
-Told name word (Gives o value) = (word ≡ (option_row o).word ++ codes "=" ++ value) × IsTrue (has_option name o)
-Told name word Unknown = Unit {0}
+abbrev pub KindSpells : CommandName → Word → Kind → Type 0
+KindSpells name word Ends = word ≡ codes "--"
+KindSpells name word IsPositional = is_dashed word ≡ false
+KindSpells name word (Sets f) = (word ≡ flag_word f) × IsTrue (has_flag name f)
+KindSpells name word (Wants o) = (word ≡ (option_row o).word) × IsTrue (has_option name o)
+KindSpells name word (Gives o value) = (word ≡ (option_row o).word ++ codes "=" ++ value) × IsTrue (has_option name o)
+KindSpells name word Unknown = Unit {0}
 
 told_option : (name : CommandName) (word front : Word) (found : Option OptionName) (value : Option Word)
-    → found ≡ option_named name front → IsOfParts word front value → Told name word (option_kind found value)
+    → found ≡ option_named name front → IsOfParts word front value → KindSpells name word (option_kind found value)
 unfolding IsOfParts
 told_option name word front None value found is = tt
 told_option name word front (Some o) None found is = let so = option_so name front o (sym found) in (is ∙ so.0, so.1)
@@ -187,16 +187,16 @@ told_option name word front (Some o) (Some v) found is =
     (is ∙ ap (λ w. w ++ 61 ∷ v) so.0 ∙ sym (append_assoc (option_row o).word (codes "=") v), so.1)
 
 told_dashed : (name : CommandName) (word : Word) (found : Option FlagName) → found ≡ flag_named name word
-    → Told name word (dashed_kind found (option_kind (option_named name (split_value word).0) (split_value word).1))
+    → KindSpells name word (dashed_kind found (option_kind (option_named name (split_value word).0) (split_value word).1))
 told_dashed name word None found = told_option name word (split_value word).0 (option_named name (split_value word).0) (split_value word).1 refl (are_parts word)
 told_dashed name word (Some f) found = flag_so name word f (sym found)
 
 told_branch : (name : CommandName) (word : Word) (same dashed : Bool) → (same ≡ true → word ≡ codes "--") → dashed ≡ is_dashed word
-    → Told name word (cond same Ends (cond dashed (dashed_kind (flag_named name word) (option_kind (option_named name (split_value word).0) (split_value word).1)) IsPlace))
+    → KindSpells name word (cond same Ends (cond dashed (dashed_kind (flag_named name word) (option_kind (option_named name (split_value word).0) (split_value word).1)) IsPositional))
 told_branch name word true dashed two is = two refl
 told_branch name word false true two is = told_dashed name word (flag_named name word) refl
 told_branch name word false false two is = sym is
 
-pub told : (name : CommandName) (word : Word) → Told name word (kind_of name word)
+pub kind_spells : (name : CommandName) (word : Word) → KindSpells name word (kind_of name word)
 unfolding kind_of
-told name word = told_branch name word (bytes_eq word (codes "--")) (is_dashed word) (bytes_eq-Decides word (codes "--")).0 refl
+kind_spells name word = told_branch name word (bytes_eq word (codes "--")) (is_dashed word) (bytes_eq-Decides word (codes "--")).0 refl

@@ -2,7 +2,7 @@
 use Rattle.std.specs.Prelude.{◌==◌, if◌then◌else◌, find, List, [], ◌∷◌, Option, Some, None, codes}
 use Rattle.std.specs.Option.{option_map}
 use Rattle.std.specs.Str.{bytes_eq}
-use Rattle.safebound_words.specs.CommandLines.{Alone, Beside, Item, Joined, Place, CommandReading, requested}
+use Rattle.safebound_words.specs.CommandLines.{Flag, WithNextWord, Item, WithEquals, Positional, CommandReading, requested}
 use Rattle.safebound_words.specs.declared.command.Command.{Command}
 use Rattle.safebound_words.specs.Table.{command_row, flag_word, option_row, ◌>>=◌}
 use Rattle.safebound_words.specs.Words.{Word, is_dashed}
@@ -29,7 +29,7 @@ split_value (first ∷ rest) = if first == 61 then ([], Some rest) else (first �
 -- what a word before `--` is
 pub data Kind : Type 0 where
   Ends : Kind
-  IsPlace : Kind
+  IsPositional : Kind
   Sets : FlagName → Kind
   Wants : OptionName → Kind
   Gives : OptionName → Word → Kind
@@ -49,7 +49,7 @@ kind_of name word =
     if bytes_eq word (codes "--") then Ends
     else if is_dashed word
     then dashed_kind (flag_named name word) (option_kind (option_named name (split_value word).0) (split_value word).1)
-    else IsPlace
+    else IsPositional
 
 -- items, and the words after `--`
 abbrev pub Parts : Type 0
@@ -61,17 +61,17 @@ in_front item parts = option_map (λ p. (item ∷ p.0, p.1)) parts
 -- how a word and the words after it are read, by the kind of the word
 abbrev pub read_by : Kind → Word → List Word → (Option OptionName → Option Parts) → Option Parts
 read_by Ends word words read_on = Some ([], words)
-read_by IsPlace word words read_on = in_front (Place word) (read_on None)
-read_by (Sets flag) word words read_on = in_front (Alone flag) (read_on None)
+read_by IsPositional word words read_on = in_front (Positional word) (read_on None)
+read_by (Sets flag) word words read_on = in_front (Flag flag) (read_on None)
 read_by (Wants option) word words read_on = read_on (Some option)
-read_by (Gives option value) word words read_on = in_front (Joined option value) (read_on None)
+read_by (Gives option value) word words read_on = in_front (WithEquals option value) (read_on None)
 read_by Unknown word words read_on = None
 
 -- how the words from here on are read. If an option waits for its value, the next word is this value
 unfoldable pub parts_from : CommandName → Option OptionName → List Word → Option Parts
 parts_from name None [] = Some ([], [])
 parts_from name (Some option) [] = None
-parts_from name (Some option) (word ∷ words) = in_front (Beside option word) (parts_from name None words)
+parts_from name (Some option) (word ∷ words) = in_front (WithNextWord option word) (parts_from name None words)
 parts_from name None (word ∷ words) = read_by (kind_of name word) word words (λ wanted. parts_from name wanted words)
 
 unfoldable pub reading_of : List Word → Option CommandReading
@@ -79,7 +79,7 @@ reading_of [] = None
 reading_of (first ∷ words) = do
   name ← command_named first
   parts ← parts_from name None words
-  Some (record { command = name; items = parts.0; behind = parts.1 })
+  Some (record { command = name; items = parts.0; after_dashes = parts.1 })
 
 unfoldable pub command_of : List Word → Option Command
 command_of words = reading_of words >>= requested

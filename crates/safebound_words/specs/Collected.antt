@@ -5,7 +5,7 @@ use Rattle.std.specs.Bool.{IsTrue}
 use Rattle.std.specs.List.{flat_map, sum_by}
 use Rattle.std.specs.Option.{option_map, option_to_list}
 use Rattle.safebound_words.specs.Answer.{Parts, parts_from}
-use Rattle.safebound_words.specs.CommandLines.{Item, given_by, has_option, place_words, requested, set_by}
+use Rattle.safebound_words.specs.CommandLines.{Item, given_by, has_option, positional_words, requested, set_by}
 use Rattle.safebound_words.specs.declared.command.Command.{Command}
 use Rattle.safebound_words.specs.Table.{Given, command_row, ◌>>=◌}
 use Rattle.safebound_words.specs.Words.{Word}
@@ -14,18 +14,18 @@ use Rattle.safebound_words.specs.declared.table.FlagName.{FlagName}
 use Rattle.safebound_words.specs.declared.table.FlagName.TheVariants as flag
 use Rattle.safebound_words.specs.declared.table.OptionName.{OptionName}
 use Rattle.safebound_words.specs.declared.table.OptionName.TheVariants as option
-use Rattle.safebound_words.specs.declared.line.Places.{Places}
-use Rattle.safebound_words.specs.declared.line.Places.TheVariants as places
+use Rattle.safebound_words.specs.declared.line.Positionals.{Positionals}
+use Rattle.safebound_words.specs.declared.line.Positionals.TheVariants as positionals
 use Rattle.safebound_words.specs.declared.line.Next.{Next}
 use Rattle.safebound_words.specs.declared.line.Next.TheVariants as next
 use Rattle.safebound_words.specs.declared.line.Line.{Line}
 
-abbrev pub words_of : Places → List Word
-words_of places.Nothing = []
-words_of (places.One first) = first.now ∷ []
-words_of (places.Two first second) = first.now ∷ second.now ∷ []
-words_of (places.Three first second third) = first.now ∷ second.now ∷ third.now ∷ []
-words_of (places.Four first second third fourth) = first.now ∷ second.now ∷ third.now ∷ fourth.now ∷ []
+abbrev pub words_of : Positionals → List Word
+words_of positionals.Nothing = []
+words_of (positionals.One first) = first.now ∷ []
+words_of (positionals.Two first second) = first.now ∷ second.now ∷ []
+words_of (positionals.Three first second third) = first.now ∷ second.now ∷ third.now ∷ []
+words_of (positionals.Four first second third fourth) = first.now ∷ second.now ∷ third.now ∷ fourth.now ∷ []
 
 -- the word that was given to an option, if any
 abbrev pub option_words : Option (Bor (List ℕ)) → List Word
@@ -58,16 +58,16 @@ given_with line items = record {
 abbrev pub parts_next : CommandName → Next → List Word → Option Parts
 parts_next name next.Item words = parts_from name None words
 parts_next name (next.Value option) words = parts_from name (Some option) words
-parts_next name next.Place words = Some ([], words)
+parts_next name next.Positional words = Some ([], words)
 
 -- what is asked for by a line alone
 abbrev pub collected : CommandName → Line → Option Command
-collected name line = (command_row name).asks (words_of line.places) (given_of line)
+collected name line = (command_row name).asks (words_of line.positionals) (given_of line)
 
 -- what is asked for by a line and further parts
 unfoldable pub asked_with : CommandName → Line → Parts → Option Command
 asked_with name line parts = (command_row name).asks
-    (words_of line.places ++ (flat_map place_words parts.0 ++ parts.1))
+    (words_of line.positionals ++ (flat_map positional_words parts.0 ++ parts.1))
     (given_with line parts.0)
 
 -- what is asked for by a line and the words that are still to be read
@@ -76,10 +76,10 @@ asked_from name line next words = parts_next name next words >>= asked_with name
 
 -- what is asked for by a command's word and all words after it
 unfoldable pub asked_by : CommandName → List Word → Option Command
-asked_by name words = parts_from name None words >>= λ parts. requested (record { command = name; items = parts.0; behind = parts.1 })
+asked_by name words = parts_from name None words >>= λ parts. requested (record { command = name; items = parts.0; after_dashes = parts.1 })
 
 -- if an option waits for its value, it is an option of the command
 abbrev pub FitsNext : CommandName → Next → Type 0
 FitsNext name next.Item = Unit {0}
 FitsNext name (next.Value option) = IsTrue (has_option name option)
-FitsNext name next.Place = Unit {0}
+FitsNext name next.Positional = Unit {0}

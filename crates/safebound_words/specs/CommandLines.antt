@@ -12,17 +12,17 @@ use Rattle.safebound_words.specs.declared.table.OptionName.{OptionName}
 
 -- an item comes before `--`. It is a positional word, a flag, an option and its value in two words, or an option and its value in one word
 pub data Item : Type 0 where
-  Place : Word → Item
-  Alone : FlagName → Item
-  Beside : OptionName → Word → Item
-  Joined : OptionName → Word → Item
+  Positional : Word → Item
+  Flag : FlagName → Item
+  WithNextWord : OptionName → Word → Item
+  WithEquals : OptionName → Word → Item
 
 -- the words of an item; the value is any word
 abbrev pub spelling : Item → List Word
-spelling (Place word) = word ∷ []
-spelling (Alone flag) = flag_word flag ∷ []
-spelling (Beside option value) = (option_row option).word ∷ value ∷ []
-spelling (Joined option value) = ((option_row option).word ++ codes "=" ++ value) ∷ []
+spelling (Positional word) = word ∷ []
+spelling (Flag flag) = flag_word flag ∷ []
+spelling (WithNextWord option value) = (option_row option).word ∷ value ∷ []
+spelling (WithEquals option value) = ((option_row option).word ++ codes "=" ++ value) ∷ []
 
 -- two options are the same if they have the same word
 abbrev pub same_option : OptionName → OptionName → Bool
@@ -42,46 +42,46 @@ has_flag command flag = list_any (same_flag flag) (command_row command).flags
 
 -- the command's line may have this item; a positional word isn't dashed
 abbrev pub IsItemOf : CommandName → Item → Type 0
-IsItemOf command (Place word) = is_dashed word ≡ false
-IsItemOf command (Alone flag) = IsTrue (has_flag command flag)
-IsItemOf command (Beside option value) = IsTrue (has_option command option)
-IsItemOf command (Joined option value) = IsTrue (has_option command option)
+IsItemOf command (Positional word) = is_dashed word ≡ false
+IsItemOf command (Flag flag) = IsTrue (has_flag command flag)
+IsItemOf command (WithNextWord option value) = IsTrue (has_option command option)
+IsItemOf command (WithEquals option value) = IsTrue (has_option command option)
 
 -- how a list of words is read: a command, items, and the words after `--`
 pub record CommandReading : Type 0 where
   pub command : CommandName
   pub items : List Item
-  pub behind : List Word
+  pub after_dashes : List Word
 
 -- what follows the items is nothing, or `--` and any words
 abbrev pub IsEnd : List Word → List Word → Type 0
-IsEnd rest behind = ((rest ≡ []) × (behind ≡ [])) ⊎ (rest ≡ codes "--" ∷ behind)
+IsEnd rest after_dashes = ((rest ≡ []) × (after_dashes ≡ [])) ⊎ (rest ≡ codes "--" ∷ after_dashes)
 
 -- the words are read as the command's word, these items, and the end
 pub record AreReadAs (words : List Word) (reading : CommandReading) : Type 0 where
   pub rest : List Word
   pub spelled : words ≡ (command_row reading.command).word ∷ (flat_map spelling reading.items ++ rest)
-  pub end : IsEnd rest reading.behind
+  pub end : IsEnd rest reading.after_dashes
   pub items : AllByRecursion (IsItemOf reading.command) reading.items
 
 -- the positional words of an item, the words that it gives to an option, and how often it has a flag
-abbrev pub place_words : Item → List Word
-place_words (Place word) = word ∷ []
-place_words (Alone flag) = []
-place_words (Beside option value) = []
-place_words (Joined option value) = []
+abbrev pub positional_words : Item → List Word
+positional_words (Positional word) = word ∷ []
+positional_words (Flag flag) = []
+positional_words (WithNextWord option value) = []
+positional_words (WithEquals option value) = []
 
 abbrev pub given_by : OptionName → Item → List Word
-given_by option (Place word) = []
-given_by option (Alone flag) = []
-given_by option (Beside other value) = if same_option option other then value ∷ [] else []
-given_by option (Joined other value) = if same_option option other then value ∷ [] else []
+given_by option (Positional word) = []
+given_by option (Flag flag) = []
+given_by option (WithNextWord other value) = if same_option option other then value ∷ [] else []
+given_by option (WithEquals other value) = if same_option option other then value ∷ [] else []
 
 abbrev pub set_by : FlagName → Item → ℕ
-set_by flag (Place word) = 0
-set_by flag (Alone other) = if same_flag flag other then 1 else 0
-set_by flag (Beside option value) = 0
-set_by flag (Joined option value) = 0
+set_by flag (Positional word) = 0
+set_by flag (Flag other) = if same_flag flag other then 1 else 0
+set_by flag (WithNextWord option value) = 0
+set_by flag (WithEquals option value) = 0
 
 -- what items give to each option, and how often they have each flag
 abbrev pub given_in : List Item → Given
@@ -92,7 +92,7 @@ given_in items = record {
 
 -- what a reading asks for, if anything
 abbrev pub requested : CommandReading → Option Command
-requested reading = (command_row reading.command).asks (flat_map place_words reading.items ++ reading.behind) (given_in reading.items)
+requested reading = (command_row reading.command).asks (flat_map positional_words reading.items ++ reading.after_dashes) (given_in reading.items)
 
 -- the words ask for this command: they are read in a way that requests it
 abbrev pub AskFor : List Word → Command → Type 0

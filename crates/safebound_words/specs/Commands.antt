@@ -1,6 +1,6 @@
 -- Commands, as the table has them.
 use Rattle.std.specs.Prelude.{ℕ, Bool, false, true, codes, Option, None, Some}
-use Rattle.limits.specs.Profile.{most_budget, most_rows, usual_accuracy, usual_budget}
+use Rattle.limits.specs.Profile.{most_budget, most_rows, default_accuracy, default_budget}
 use Rattle.safebound_words.specs.Words.{Word}
 use Rattle.safebound_words.specs.declared.command.Aim.TheVariants as aims
 use Rattle.safebound_words.specs.declared.command.Command.{Command}
@@ -52,7 +52,7 @@ plan_by out budget accuracy reduce bushy keys memory = plan_work out budget accu
 -- `demo` asks what `audit schema.sql query.sql` asks, of the files of a shop
 abbrev pub demo_of : ℕ → Command
 demo_of number = over_query (Some number) (codes "schema.sql") (codes "query.sql")
-    (plan_by out_text.Audit usual_budget usual_accuracy false false false None)
+    (plan_by out_text.Audit default_budget default_accuracy false false false None)
 
 -- the greatest budget: for a tree it is the most rows that a table may have
 abbrev pub most_budget_of : Shape → ℕ

@@ -2,7 +2,7 @@
 -- option's value, or a flag.
 use Rattle.std.specs.Prelude.{ℕ, ◌^◌, ◌-◌, ◌==◌, ◌&&◌, ◌||◌, not, nat_le, if◌then◌else◌, suc, zero, Bool, true, false, List, [], ◌∷◌, length, Option, Some, None, codes}
 use Rattle.std.specs.Option.{option_map}
-use Rattle.limits.specs.Profile.{least_accuracy, least_budget, most_accuracy, most_budget, usual_accuracy, usual_budget}
+use Rattle.limits.specs.Profile.{least_accuracy, least_budget, most_accuracy, most_budget, default_accuracy, default_budget}
 use Rattle.safebound_words.specs.Commands.{demo_of, most_budget_of, over_query, shape_by, source_by, terms_by, with_rows}
 use Rattle.safebound_words.specs.Numbers.{number_within}
 use Rattle.safebound_words.specs.Words.{Word}
@@ -24,10 +24,10 @@ pub record OptionRow : Type 0 where
   pub word : Word
   pub least : ℕ
   pub most : ℕ
-  pub otherwise : ℕ
+  pub default_value : ℕ
 
 abbrev pub number_option : Word → ℕ → ℕ → ℕ → OptionRow
-number_option word least most otherwise = record { word = word; least = least; most = most; otherwise = otherwise }
+number_option word least most default_value = record { word = word; least = least; most = most; default_value = default_value }
 
 -- an option whose value is a file's name: the numbers aren't used
 abbrev pub file_option : Word → OptionRow
@@ -42,8 +42,8 @@ most_memory = 2 ^ 40
 
 -- one line for each option
 abbrev pub option_row : OptionName → OptionRow
-option_row option.Budget = number_option (codes "--budget") least_budget most_budget usual_budget
-option_row option.Accuracy = number_option (codes "--accuracy") least_accuracy most_accuracy usual_accuracy
+option_row option.Budget = number_option (codes "--budget") least_budget most_budget default_budget
+option_row option.Accuracy = number_option (codes "--accuracy") least_accuracy most_accuracy default_accuracy
 option_row option.Memory = number_option (codes "--memory") least_memory most_memory 0
 option_row option.Stats = file_option (codes "--stats")
 
@@ -62,7 +62,7 @@ pub record Given : Type 0 where
 -- the value of an option. Without a word it is the default. With one word it is the number in this word, which has to be in the option's
 -- range. With more words there is no value
 abbrev pub value_of : OptionName → List Word → Option ℕ
-value_of option [] = Some (option_row option).otherwise
+value_of option [] = Some (option_row option).default_value
 value_of option (word ∷ []) = number_within (option_row option).least (option_row option).most word
 value_of option (word ∷ another ∷ words) = None
 
@@ -94,8 +94,8 @@ pub record CommandRow : Type 0 where
   pub flags : List FlagName
   pub asks : List Word → Given → Option Command
 
-abbrev pub named : Word → List OptionName → List FlagName → (List Word → Given → Option Command) → CommandRow
-named word options flags asks = record { word = word; options = options; flags = flags; asks = asks }
+abbrev pub table_row : Word → List OptionName → List FlagName → (List Word → Given → Option Command) → CommandRow
+table_row word options flags asks = record { word = word; options = options; flags = flags; asks = asks }
 
 -- if there is a value, gives it to `rest`; otherwise there is no result
 infixl 10 ◌>>=◌
@@ -149,28 +149,28 @@ over_files out (schema ∷ query ∷ []) given = do
   terms ← terms_given given
   work ← work_given out terms given
   Some (over_query None schema query work)
-over_files out places given = None
+over_files out positionals given = None
 
 -- `stats` takes exactly two positional words, SCHEMA and QUERY, and the accuracy
 abbrev pub of_stats : List Word → Given → Option Command
 of_stats (schema ∷ query ∷ []) given = option_map (λ accuracy. over_query None schema query (works.WriteStats accuracy)) (value_of option.Accuracy (given.values option.Accuracy))
-of_stats places given = None
+of_stats positionals given = None
 
 -- `append` takes exactly four positional words: SCHEMA, STATS, TABLE and ROWS
 abbrev pub of_append : List Word → Given → Option Command
 of_append (schema ∷ file ∷ table ∷ rows ∷ []) given = Some (with_rows schema (record { stats_file = file; table = table; rows_file = rows }))
-of_append places given = None
+of_append positionals given = None
 
 -- `demo` takes exactly one positional word, NUMBER
 abbrev pub of_number : List Word → Given → Option Command
 of_number (number ∷ []) given = option_map demo_of (number_within 0 (2 ^ 32 - 1) number)
-of_number places given = None
+of_number positionals given = None
 
 -- one line for each command
 abbrev pub command_row : CommandName → CommandRow
-command_row command.Run = named (codes "run") (option.Budget ∷ option.Accuracy ∷ option.Memory ∷ []) (flag.Reduce ∷ flag.Bushy ∷ flag.Keys ∷ flag.Count ∷ []) (over_files out_text.Rows)
-command_row command.Plan = named (codes "plan") (option.Budget ∷ option.Accuracy ∷ option.Memory ∷ option.Stats ∷ []) (flag.Reduce ∷ flag.Bushy ∷ flag.Keys ∷ flag.Count ∷ []) (over_files out_text.Nothing)
-command_row command.Audit = named (codes "audit") (option.Budget ∷ option.Accuracy ∷ option.Memory ∷ []) (flag.Reduce ∷ flag.Bushy ∷ flag.Keys ∷ flag.Count ∷ []) (over_files out_text.Audit)
-command_row command.Stats = named (codes "stats") (option.Accuracy ∷ []) [] of_stats
-command_row command.Append = named (codes "append") [] [] of_append
-command_row command.Demo = named (codes "demo") [] [] of_number
+command_row command.Run = table_row (codes "run") (option.Budget ∷ option.Accuracy ∷ option.Memory ∷ []) (flag.Reduce ∷ flag.Bushy ∷ flag.Keys ∷ flag.Count ∷ []) (over_files out_text.Rows)
+command_row command.Plan = table_row (codes "plan") (option.Budget ∷ option.Accuracy ∷ option.Memory ∷ option.Stats ∷ []) (flag.Reduce ∷ flag.Bushy ∷ flag.Keys ∷ flag.Count ∷ []) (over_files out_text.Nothing)
+command_row command.Audit = table_row (codes "audit") (option.Budget ∷ option.Accuracy ∷ option.Memory ∷ []) (flag.Reduce ∷ flag.Bushy ∷ flag.Keys ∷ flag.Count ∷ []) (over_files out_text.Audit)
+command_row command.Stats = table_row (codes "stats") (option.Accuracy ∷ []) [] of_stats
+command_row command.Append = table_row (codes "append") [] [] of_append
+command_row command.Demo = table_row (codes "demo") [] [] of_number

@@ -12,7 +12,7 @@ use crate::table::{CommandName, FlagName, OptionName, flag_named, option_named};
 pub(crate) enum Kind<'a> {
     /// `--` itself.
     End,
-    Place,
+    Positional,
     Flag(FlagName),
     /// An option, whose value is the next word.
     Option(OptionName),
@@ -63,7 +63,7 @@ pub(crate) fn kind_of(name: CommandName, word: &str) -> Kind<'_>
         return Kind::End;
     }
     if !is_dashed(word) {
-        return Kind::Place;
+        return Kind::Positional;
     }
     match flag_named(name, word) {
         None => option_kind(name, word),

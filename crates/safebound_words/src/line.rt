@@ -10,7 +10,7 @@ use crate::table::{CommandName, FlagName, OptionName};
 
 /// The positional words so far: arguments that are no options, no values of options and no flags. No command has more than four positional words.
 #[derive(Clone, Copy)]
-pub(crate) enum Places<'a> {
+pub(crate) enum Positionals<'a> {
     Nothing,
     One(&'a str),
     Two(&'a str, &'a str),
@@ -23,13 +23,13 @@ pub(crate) enum Places<'a> {
 pub(crate) enum Next {
     Item,
     Value(OptionName),
-    Place,
+    Positional,
 }
 
 /// The positional words so far, the word that was given to each option, and whether each flag was given.
 #[derive(Clone, Copy)]
 pub(crate) struct Line<'a> {
-    pub places: Places<'a>,
+    pub positionals: Positionals<'a>,
     pub budget: Option<&'a str>,
     pub accuracy: Option<&'a str>,
     pub memory: Option<&'a str>,
@@ -67,17 +67,19 @@ fn mark(marked: &mut bool) -> Result<(), WordsError>
 impl<'a> Line<'a> {
     // Adds a positional word, if there are fewer than four.
     fn add_place(&mut self, word: &'a str) -> Result<(), WordsError>
-        ensures ok { OnOk result (words_of self.new.places ≡ words_of self.old.places ++ word.now ∷ []) }
+        ensures ok { OnOk result (words_of self.new.positionals ≡ words_of self.old.positionals ++ word.now ∷ []) }
         ensures given { (option : OptionName) → given_to self.new option ≡ given_to self.old option }
         ensures times { (flag : FlagName) → times_of self.new flag ≡ times_of self.old flag }
-        ensures full { OnErr result (length (words_of self.old.places) ≡ 4) }
+        ensures full { OnErr result (length (words_of self.old.positionals) ≡ 4) }
     {
-        self.places = match self.places {
-            Places::Nothing => Places::One(word),
-            Places::One(first) => Places::Two(first, word),
-            Places::Two(first, second) => Places::Three(first, second, word),
-            Places::Three(first, second, third) => Places::Four(first, second, third, word),
-            Places::Four(_, _, _, _) => return Err(WordsError::Usage),
+        self.positionals = match self.positionals {
+            Positionals::Nothing => Positionals::One(word),
+            Positionals::One(first) => Positionals::Two(first, word),
+            Positionals::Two(first, second) => Positionals::Three(first, second, word),
+            Positionals::Three(first, second, third) => Positionals::Four(
+                first, second, third, word,
+            ),
+            Positionals::Four(_, _, _, _) => return Err(WordsError::Usage),
         };
         Ok(())
     }
@@ -86,7 +88,7 @@ impl<'a> Line<'a> {
     fn add_value(&mut self, option: OptionName, word: &'a str) -> Result<(), WordsError>
         ensures ok { OnOk result ((other : OptionName) → given_to self.new other
             ≡ given_to self.old other ++ (if same_option other option then word.now ∷ [] else [])) }
-        ensures places { self.new.places ≡ self.old.places }
+        ensures positionals { self.new.positionals ≡ self.old.positionals }
         ensures times { (flag : FlagName) → times_of self.new flag ≡ times_of self.old flag }
         ensures again { OnErr result (length (given_to self.old option) ≡ 1) }
     {
@@ -102,7 +104,7 @@ impl<'a> Line<'a> {
     fn add_flag(&mut self, flag: FlagName) -> Result<(), WordsError>
         ensures ok { OnOk result ((other : FlagName) → times_of self.new other
             ≡ times_of self.old other + (if same_flag other flag then 1 else 0)) }
-        ensures places { self.new.places ≡ self.old.places }
+        ensures positionals { self.new.positionals ≡ self.old.positionals }
         ensures given { (option : OptionName) → given_to self.new option ≡ given_to self.old option }
         ensures again { OnErr result (times_of self.old flag ≡ 1) }
     {
@@ -123,9 +125,9 @@ impl<'a> Line<'a> {
         ensures err { OnErr result ((words : List Word) → asked_from name self.old next (word.now ∷ words) ≡ None) }
     {
         match next {
-            Next::Place => {
+            Next::Positional => {
                 self.add_place(word)?;
-                Ok(Next::Place)
+                Ok(Next::Positional)
             }
             Next::Value(option) => {
                 self.add_value(option, word)?;
@@ -143,8 +145,8 @@ impl<'a> Line<'a> {
         ensures err { OnErr result ((words : List Word) → asked_from name self.old Next.Item (word.now ∷ words) ≡ None) }
     {
         match kind_of(name, word) {
-            Kind::End => Ok(Next::Place),
-            Kind::Place => {
+            Kind::End => Ok(Next::Positional),
+            Kind::Positional => {
                 self.add_place(word)?;
                 Ok(Next::Item)
             }
@@ -168,7 +170,7 @@ pub(crate) fn read_line<'a>(name: CommandName, words: &[&'a str]) -> Result<Line
     ensures err { OnErr result (asked_by name (map (λ w. w.now) words.now) ≡ None) }
 {
     let mut line = Line {
-        places: Places::Nothing,
+        positionals: Positionals::Nothing,
         budget: None,
         accuracy: None,
         memory: None,
@@ -184,6 +186,6 @@ pub(crate) fn read_line<'a>(name: CommandName, words: &[&'a str]) -> Result<Line
     }
     match next {
         Next::Value(_) => Err(WordsError::Usage),
-        Next::Item | Next::Place => Ok(line),
+        Next::Item | Next::Positional => Ok(line),
     }
 }

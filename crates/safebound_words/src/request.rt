@@ -9,11 +9,11 @@ ghost use Rattle.safebound_words.specs.declared.table.OptionName.TheVariants as 
 use crate::command::{
     Aim, Command, ListSource, NewRows, OutText, PlanTerms, PlanWork, Shape, Work,
 };
-use crate::line::{Line, Places};
+use crate::line::{Line, Positionals};
 use crate::number::number_within;
 use crate::table::{CommandName, OptionName};
 use crate::word::Word;
-use limits::{MOST_BUDGET, MOST_ROWS, USUAL_ACCURACY, USUAL_BUDGET};
+use limits::{DEFAULT_ACCURACY, DEFAULT_BUDGET, MOST_BUDGET, MOST_ROWS};
 
 // The value of an option, from the word that was given for it. If no word was given, it is the usual value.
 fn value_of(option: OptionName, given: Option<&str>) -> Option<u64>
@@ -22,7 +22,7 @@ fn value_of(option: OptionName, given: Option<&str>) -> Option<u64>
 {
     let range = option.range();
     match given {
-        None => Some(range.otherwise),
+        None => Some(range.default_value),
         Some(word) => number_within(range.least, range.most, word),
     }
 }
@@ -157,9 +157,9 @@ fn work_in<'a>(out: OutText, terms: PlanTerms, line: &Line<'a>) -> Option<Work<'
 // A plan over SCHEMA and QUERY, if these are the positional words, each option has a right value, and the options and flags may be combined.
 #[tactic(auto, unfolding(crate::specs::Table::over_files))]
 fn over_files<'a>(out: OutText, line: &Line<'a>) -> Option<Command<'a>>
-    ensures { result ≡ asked_over_files out (words_of line.now.places) (given_of line.now) }
+    ensures { result ≡ asked_over_files out (words_of line.now.positionals) (given_of line.now) }
 {
-    let Places::Two(schema, query) = line.places else {
+    let Positionals::Two(schema, query) = line.positionals else {
         return None;
     };
     let terms = terms_in(line)?;
@@ -169,9 +169,9 @@ fn over_files<'a>(out: OutText, line: &Line<'a>) -> Option<Command<'a>>
 
 // The statistics of a query, if the positional words are SCHEMA and QUERY, at the accuracy of the line.
 fn stats_of<'a>(line: &Line<'a>) -> Option<Command<'a>>
-    ensures { result ≡ of_stats (words_of line.now.places) (given_of line.now) }
+    ensures { result ≡ of_stats (words_of line.now.positionals) (given_of line.now) }
 {
-    let Places::Two(schema, query) = line.places else {
+    let Positionals::Two(schema, query) = line.positionals else {
         return None;
     };
     let accuracy = value_of(OptionName::Accuracy, line.accuracy)?;
@@ -186,9 +186,9 @@ fn stats_of<'a>(line: &Line<'a>) -> Option<Command<'a>>
 
 // The append of new rows to a table, if the positional words are SCHEMA, STATS, TABLE and ROWS.
 fn append_of<'a>(line: &Line<'a>) -> Option<Command<'a>>
-    ensures { result ≡ asked_of_append (words_of line.now.places) (given_of line.now) }
+    ensures { result ≡ asked_of_append (words_of line.now.positionals) (given_of line.now) }
 {
-    let Places::Four(schema, stats, table, rows) = line.places else {
+    let Positionals::Four(schema, stats, table, rows) = line.positionals else {
         return None;
     };
     Some(Command {
@@ -208,11 +208,11 @@ fn demo<'a>(number: u32) -> Command<'a>
 {
     let plan = PlanWork {
         terms: PlanTerms {
-            budget: USUAL_BUDGET,
+            budget: DEFAULT_BUDGET,
             shape: Shape::Order,
             memory: None,
         },
-        accuracy: USUAL_ACCURACY,
+        accuracy: DEFAULT_ACCURACY,
         source: ListSource::Columns,
         out: OutText::Audit,
     };
@@ -223,10 +223,10 @@ fn demo<'a>(number: u32) -> Command<'a>
 }
 
 // The audit of the shop NUMBER, if this is the only positional word.
-fn shop_of<'a>(line: &Line<'a>) -> Option<Command<'a>>
-    ensures { result ≡ asked_of_number (words_of line.now.places) (given_of line.now) }
+fn demo_of_number<'a>(line: &Line<'a>) -> Option<Command<'a>>
+    ensures { result ≡ asked_of_number (words_of line.now.positionals) (given_of line.now) }
 {
-    let Places::One(word) = line.places else {
+    let Positionals::One(word) = line.positionals else {
         return None;
     };
     let number = number_within(0, u32::MAX as u64, word)?;
@@ -243,6 +243,6 @@ pub(crate) fn command_of<'a>(name: CommandName, line: &Line<'a>) -> Option<Comma
         CommandName::Stats => stats_of(line),
         CommandName::Audit => over_files(OutText::Audit, line),
         CommandName::Append => append_of(line),
-        CommandName::Demo => shop_of(line),
+        CommandName::Demo => demo_of_number(line),
     }
 }

@@ -4,7 +4,7 @@ ghost use Rattle.safebound_words.specs.Answer.{command_named as named_command, f
 ghost use Rattle.safebound_words.specs.Table.{option_row};
 
 use limits::{
-    LEAST_ACCURACY, LEAST_BUDGET, MOST_ACCURACY, MOST_BUDGET, USUAL_ACCURACY, USUAL_BUDGET,
+    DEFAULT_ACCURACY, DEFAULT_BUDGET, LEAST_ACCURACY, LEAST_BUDGET, MOST_ACCURACY, MOST_BUDGET,
 };
 
 // The least and the greatest limit of memory, in bytes.
@@ -46,7 +46,7 @@ pub enum FlagName {
 pub(crate) struct Range {
     pub least: u64,
     pub most: u64,
-    pub otherwise: u64,
+    pub default_value: u64,
 }
 
 impl OptionName {
@@ -54,28 +54,28 @@ impl OptionName {
     pub(crate) fn range(self) -> Range
         ensures least { result.least ≡ (option_row self).least }
         ensures most { result.most ≡ (option_row self).most }
-        ensures otherwise { result.otherwise ≡ (option_row self).otherwise }
+        ensures default_value { result.default_value ≡ (option_row self).default_value }
     {
         match self {
             OptionName::Budget => Range {
                 least: LEAST_BUDGET,
                 most: MOST_BUDGET,
-                otherwise: USUAL_BUDGET,
+                default_value: DEFAULT_BUDGET,
             },
             OptionName::Accuracy => Range {
                 least: LEAST_ACCURACY as u64,
                 most: MOST_ACCURACY as u64,
-                otherwise: USUAL_ACCURACY as u64,
+                default_value: DEFAULT_ACCURACY as u64,
             },
             OptionName::Memory => Range {
                 least: LEAST_MEMORY,
                 most: MOST_MEMORY,
-                otherwise: 0,
+                default_value: 0,
             },
             OptionName::Stats => Range {
                 least: 0,
                 most: 0,
-                otherwise: 0,
+                default_value: 0,
             },
         }
     }
@@ -114,7 +114,7 @@ fn accuracy_named(word: &str) -> Option<OptionName>
 }
 
 // The option with a number that a word names.
-fn number_named(word: &str) -> Option<OptionName>
+fn run_option_named(word: &str) -> Option<OptionName>
     ensures { result ≡ named_option CommandName.Run word.now }
 {
     if word == "--budget" {
@@ -129,7 +129,7 @@ fn number_named(word: &str) -> Option<OptionName>
 }
 
 // The option that a word names.
-fn any_option_named(word: &str) -> Option<OptionName>
+fn plan_option_named(word: &str) -> Option<OptionName>
     ensures { result ≡ named_option CommandName.Plan word.now }
 {
     if word == "--budget" {
@@ -167,8 +167,8 @@ pub(crate) fn option_named(name: CommandName, word: &str) -> Option<OptionName>
     ensures option { result ≡ named_option name word.now }
 {
     match name {
-        CommandName::Run | CommandName::Audit => number_named(word),
-        CommandName::Plan => any_option_named(word),
+        CommandName::Run | CommandName::Audit => run_option_named(word),
+        CommandName::Plan => plan_option_named(word),
         CommandName::Stats => accuracy_named(word),
         CommandName::Append | CommandName::Demo => None,
     }

@@ -4,16 +4,16 @@ use Rattle.ll_grammars.specs.declared.lexeme.Lexeme.{Lexeme}
 use Rattle.ll_grammars.specs.declared.terminal.Terminal.{Terminal}
 use Rattle.ll_grammars.specs.declared.terminal.Terminal.TheVariants as terminal
 use Rattle.ll_grammars.specs.Terminals.{among}
-use Rattle.ll_grammars.specs.Language.{one, ◌▸◌, made, many}
+use Rattle.ll_grammars.specs.Language.{one, ◌▸◌, mapped, many}
 use Rattle.ll_grammars.specs.Reading.{read_one}
 use Rattle.ll_grammars.specs.Reads.{FirstAndFollow, Reads}
-use Rattle.ll_grammars.specs.Rules.{all, second, word, listed, in_parentheses}
+use Rattle.ll_grammars.specs.Rules.{first_and_others, second, word, listed, in_parentheses}
 use Rattle.ll_grammars.proofs.Steps.{one_shape, then_shape, either_shape, maybe_shape, reads_one}
 use Rattle.ll_grammars.proofs.Repeats.{many_shape}
 use Rattle.ll_grammars.proofs.Tails.{tails, tails_shape, reads_tails, are_tails, tails_are}
 use Rattle.ll_grammars.proofs.Combined.{row, value, choice, option, repeat, some_token, word_shape, a_word, parentheses_shape, inside, next_shape, listed_shape, reads_same}
 use Rattle.schema_grammar.specs.declared.tree.TableNode.{TableNode}
-use Rattle.schema_grammar.specs.Grammar.{nothing, target, number_type, text_type, varying_type, not_null, primary_key, unique, references, column, primary_key_over, unique_over, foreign_key, of_column, of_rule, table, name_terminals, number_types, Name, Names, Length, DataType, ReferentialAction, TriggeredAction, Target, ConstraintName, named, ColumnConstraint, TableConstraint, ColumnDefinition, TableElement, TableDefinition, SchemaText}
+use Rattle.schema_grammar.specs.Grammar.{drop_value, target, number_type, text_type, varying_type, not_null, primary_key, unique, references, column, primary_key_over, unique_over, foreign_key, of_column, of_rule, table, name_terminals, number_types, Name, Names, Length, DataType, ReferentialAction, TriggeredAction, Target, ConstraintName, with_constraint_name, ColumnConstraint, TableConstraint, ColumnDefinition, TableElement, TableDefinition, SchemaText}
 use Rattle.schema_grammar.specs.Readers.{read_name, read_next_name, read_names, read_name_list, read_length, read_type, read_action, read_triggered_action, read_triggered_actions, read_target, read_constraint_name, read_column_constraint, read_column_rule, read_column_rules, read_foreign_key, read_table_constraint, read_table_rule, read_column, read_element, read_next_element, read_elements, read_element_list, read_table, read_other_tables, read_all_tables}
 
 a_token : (terminals : List Terminal) (t : Terminal) → among terminals t ≡ true → Reads (one terminals) (one_shape terminals) (read_one terminals)
@@ -28,13 +28,13 @@ pub reads_name : Reads Name name_shape read_name
 unfolding read_name
 reads_name = a_token name_terminals terminal.Name refl
 
-pub reads_next_name : Reads (made second (word terminal.Comma ▸ Name)) (next_shape terminal.Comma name_shape) read_next_name
+pub reads_next_name : Reads (mapped second (word terminal.Comma ▸ Name)) (next_shape terminal.Comma name_shape) read_next_name
 unfolding read_next_name
 reads_next_name = value second (row (a_word terminal.Comma refl) reads_name refl)
 
 pub reads_names : Reads Names (listed_shape terminal.Comma name_shape) read_names
 unfolding read_names
-reads_names = value all (row reads_name (repeat reads_next_name refl refl) refl)
+reads_names = value first_and_others (row reads_name (repeat reads_next_name refl refl) refl)
 
 abbrev pub name_list_shape : FirstAndFollow
 name_list_shape = parentheses_shape (listed_shape terminal.Comma name_shape)
@@ -75,8 +75,8 @@ action_shape = either_shape (then_shape (word_shape terminal.No) (word_shape ter
 pub reads_action : Reads ReferentialAction action_shape read_action
 unfolding read_action
 reads_action =
-    choice (value nothing (row (a_word terminal.No refl) (a_word terminal.Action refl) refl))
-    (choice (value nothing (a_word terminal.Cascade refl)) (value nothing (row (a_word terminal.Set refl) (a_token (terminal.Null ∷ terminal.Default ∷ []) terminal.Null refl) refl)) refl refl refl)
+    choice (value drop_value (row (a_word terminal.No refl) (a_word terminal.Action refl) refl))
+    (choice (value drop_value (a_word terminal.Cascade refl)) (value drop_value (row (a_word terminal.Set refl) (a_token (terminal.Null ∷ terminal.Default ∷ []) terminal.Null refl) refl)) refl refl refl)
     refl refl refl
 
 abbrev pub triggered_action_shape : FirstAndFollow
@@ -84,11 +84,11 @@ triggered_action_shape = then_shape (word_shape terminal.On) (then_shape (one_sh
 
 pub reads_triggered_action : Reads TriggeredAction triggered_action_shape read_triggered_action
 unfolding read_triggered_action
-reads_triggered_action = value nothing (row (a_word terminal.On refl) (row (a_token (terminal.Delete ∷ terminal.Update ∷ []) terminal.Delete refl) reads_action refl) refl)
+reads_triggered_action = value drop_value (row (a_word terminal.On refl) (row (a_token (terminal.Delete ∷ terminal.Update ∷ []) terminal.Delete refl) reads_action refl) refl)
 
-pub reads_triggered_actions : Reads (made nothing (many TriggeredAction)) (many_shape triggered_action_shape) read_triggered_actions
+pub reads_triggered_actions : Reads (mapped drop_value (many TriggeredAction)) (many_shape triggered_action_shape) read_triggered_actions
 unfolding read_triggered_actions
-reads_triggered_actions = value nothing (repeat reads_triggered_action refl refl)
+reads_triggered_actions = value drop_value (repeat reads_triggered_action refl refl)
 
 abbrev pub target_shape : FirstAndFollow
 target_shape = then_shape name_shape (then_shape (maybe_shape name_list_shape) (many_shape triggered_action_shape))
@@ -104,7 +104,7 @@ constraint_name_shape = maybe_shape (then_shape (word_shape terminal.Constraint)
 
 pub reads_constraint_name : Reads ConstraintName constraint_name_shape read_constraint_name
 unfolding read_constraint_name
-reads_constraint_name = value nothing (option (row (a_word terminal.Constraint refl) reads_name refl) refl)
+reads_constraint_name = value drop_value (option (row (a_word terminal.Constraint refl) reads_name refl) refl)
 
 abbrev pub named_shape : FirstAndFollow → FirstAndFollow
 named_shape s = then_shape constraint_name_shape s
@@ -124,18 +124,18 @@ reads_column_constraint =
     (value references (row (a_word terminal.References refl) reads_target refl)) refl refl refl) refl refl refl)
     refl refl refl
 
-pub reads_column_rule : Reads (named ColumnConstraint) (named_shape column_constraint_shape) read_column_rule
+pub reads_column_rule : Reads (with_constraint_name ColumnConstraint) (named_shape column_constraint_shape) read_column_rule
 unfolding read_column_rule
 reads_column_rule = value second (row reads_constraint_name reads_column_constraint refl)
 
-pub reads_column_rules : Reads (many (named ColumnConstraint)) (many_shape (named_shape column_constraint_shape)) read_column_rules
+pub reads_column_rules : Reads (many (with_constraint_name ColumnConstraint)) (many_shape (named_shape column_constraint_shape)) read_column_rules
 unfolding read_column_rules
 reads_column_rules = repeat reads_column_rule refl refl
 
 abbrev pub foreign_key_shape : FirstAndFollow
 foreign_key_shape = then_shape (word_shape terminal.Foreign) (then_shape (word_shape terminal.Key) (then_shape name_list_shape (then_shape (word_shape terminal.References) target_shape)))
 
-pub reads_foreign_key : Reads (made foreign_key (word terminal.Foreign ▸ word terminal.Key ▸ in_parentheses Names ▸ word terminal.References ▸ Target)) foreign_key_shape read_foreign_key
+pub reads_foreign_key : Reads (mapped foreign_key (word terminal.Foreign ▸ word terminal.Key ▸ in_parentheses Names ▸ word terminal.References ▸ Target)) foreign_key_shape read_foreign_key
 unfolding read_foreign_key
 reads_foreign_key = value foreign_key (row (a_word terminal.Foreign refl) (row (a_word terminal.Key refl) (row reads_name_list (row (a_word terminal.References refl) reads_target refl) refl) refl) refl)
 
@@ -150,7 +150,7 @@ reads_table_constraint =
     (choice (value unique_over (row (a_word terminal.Unique refl) reads_name_list refl)) reads_foreign_key refl refl refl)
     refl refl refl
 
-pub reads_table_rule : Reads (named TableConstraint) (named_shape table_constraint_shape) read_table_rule
+pub reads_table_rule : Reads (with_constraint_name TableConstraint) (named_shape table_constraint_shape) read_table_rule
 unfolding read_table_rule
 reads_table_rule = value second (row reads_constraint_name reads_table_constraint refl)
 
@@ -170,13 +170,13 @@ pub reads_element : Reads TableElement element_shape read_element
 unfolding read_element
 reads_element = choice (value of_column reads_column) (value of_rule reads_table_rule) refl refl refl
 
-pub reads_next_element : Reads (made second (word terminal.Comma ▸ TableElement)) (next_shape terminal.Comma element_shape) read_next_element
+pub reads_next_element : Reads (mapped second (word terminal.Comma ▸ TableElement)) (next_shape terminal.Comma element_shape) read_next_element
 unfolding read_next_element
 reads_next_element = value second (row (a_word terminal.Comma refl) reads_element refl)
 
 pub reads_elements : Reads (listed terminal.Comma TableElement) (listed_shape terminal.Comma element_shape) read_elements
 unfolding read_elements
-reads_elements = value all (row reads_element (repeat reads_next_element refl refl) refl)
+reads_elements = value first_and_others (row reads_element (repeat reads_next_element refl refl) refl)
 
 abbrev pub element_list_shape : FirstAndFollow
 element_list_shape = parentheses_shape (listed_shape terminal.Comma element_shape)
@@ -200,14 +200,14 @@ reads_other_tables = reads_tails (terminal.Semicolon ∷ []) reads_table refl re
 abbrev pub schema_shape : FirstAndFollow
 schema_shape = then_shape table_shape (tails_shape (terminal.Semicolon ∷ []) table_shape)
 
-to_schema : (text : List Lexeme) (v : List TableNode) → made all (TableDefinition ▸ tails (terminal.Semicolon ∷ []) TableDefinition) text v → SchemaText text v
+to_schema : (text : List Lexeme) (v : List TableNode) → mapped first_and_others (TableDefinition ▸ tails (terminal.Semicolon ∷ []) TableDefinition) text v → SchemaText text v
 unfolding SchemaText
 to_schema text v l =
     let t = l.2 in
     let others = are_tails (terminal.Semicolon ∷ []) TableDefinition l.0.1 t.rest t.second in
     ((l.0.0, (l.0.1, others.0)), l.1, record { front = t.front; rest = t.rest; whole = t.whole; first = t.first; second = others.1 })
 
-from_schema : (text : List Lexeme) (v : List TableNode) → SchemaText text v → made all (TableDefinition ▸ tails (terminal.Semicolon ∷ []) TableDefinition) text v
+from_schema : (text : List Lexeme) (v : List TableNode) → SchemaText text v → mapped first_and_others (TableDefinition ▸ tails (terminal.Semicolon ∷ []) TableDefinition) text v
 unfolding SchemaText
 from_schema text v l =
     let t = l.2 in
@@ -215,4 +215,4 @@ from_schema text v l =
 
 pub reads_all_tables : Reads SchemaText schema_shape read_all_tables
 unfolding read_all_tables
-reads_all_tables = reads_same to_schema from_schema (value all (row reads_table reads_other_tables refl))
+reads_all_tables = reads_same to_schema from_schema (value first_and_others (row reads_table reads_other_tables refl))

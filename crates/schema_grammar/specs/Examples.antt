@@ -12,12 +12,12 @@ abbrev pub token : Terminal → ℕ → ℕ → Lexeme
 token terminal start end = record { terminal = terminal; start = start; end = end }
 
 -- CREATE TABLE R (
-abbrev pub head : List Lexeme
-head = token terminal.Create 0 6 ∷ token terminal.Table 7 12 ∷ token terminal.Name 13 14 ∷ token terminal.Open 15 16 ∷ []
+abbrev pub unfinished_text : List Lexeme
+unfinished_text = token terminal.Create 0 6 ∷ token terminal.Table 7 12 ∷ token terminal.Name 13 14 ∷ token terminal.Open 15 16 ∷ []
 
 -- CREATE TABLE R (X INT UNIQUE);
-abbrev pub whole : List Lexeme
-whole =
+abbrev pub whole_text : List Lexeme
+whole_text =
     token terminal.Create 0 6 ∷ token terminal.Table 7 12 ∷ token terminal.Name 13 14 ∷ token terminal.Open 15 16
     ∷ token terminal.Name 16 17 ∷ token terminal.Int 18 21 ∷ token terminal.Unique 22 28 ∷ token terminal.Close 28 29
     ∷ token terminal.Semicolon 29 30 ∷ []
@@ -30,8 +30,8 @@ table_of_whole = record {
 }
 
 -- CREATE TABLE R (X VARCHAR(0))
-abbrev pub no_length : List Lexeme
-no_length =
+abbrev pub zero_length : List Lexeme
+zero_length =
     token terminal.Create 0 6 ∷ token terminal.Table 7 12 ∷ token terminal.Name 13 14 ∷ token terminal.Open 15 16
     ∷ token terminal.Name 16 17 ∷ token terminal.Varchar 18 25 ∷ token terminal.Open 25 26 ∷ token terminal.Zero 26 27
     ∷ token terminal.Close 27 28 ∷ token terminal.Close 28 29 ∷ []

@@ -4,7 +4,7 @@ use Rattle.std.specs.Prelude.{List, [], ◌∷◌, Option}
 use Rattle.ll_grammars.specs.declared.lexeme.Lexeme.{Lexeme}
 use Rattle.ll_grammars.specs.declared.terminal.Terminal.{Terminal}
 use Rattle.ll_grammars.specs.declared.terminal.Terminal.TheVariants as terminal
-use Rattle.ll_grammars.specs.Language.{Language, one, ◌▸◌, made, ◌∪◌, maybe, many}
+use Rattle.ll_grammars.specs.Language.{Language, one, ◌▸◌, mapped, ◌∪◌, maybe, many}
 use Rattle.ll_grammars.specs.Rules.{second, word, listed, in_parentheses}
 use Rattle.schema_grammar.specs.declared.tree.TargetNode.{TargetNode}
 use Rattle.schema_grammar.specs.declared.tree.TypeNode.{TypeNode}
@@ -21,8 +21,8 @@ use Rattle.schema_grammar.specs.declared.tree.TableNode.{TableNode}
 -- ---- how the values of parts are put together
 
 -- a part that is read, and whose value isn't kept
-abbrev pub nothing : {A : Type 0} → A → Unit {0}
-nothing value = tt
+abbrev pub drop_value : {A : Type 0} → A → Unit {0}
+drop_value value = tt
 
 abbrev pub target : Lexeme × (Option (List Lexeme) × Unit {0}) → TargetNode
 target parts = record { table = parts.0; columns = parts.1.0 }
@@ -96,61 +96,61 @@ abbrev pub Length : Language Lexeme
 Length = in_parentheses (word terminal.Number)
 
 abbrev pub DataType : Language TypeNode
-DataType = made number_type (one number_types)
-    ∪ made text_type (word terminal.Varchar ▸ Length)
-    ∪ made varying_type (one (terminal.Char ∷ terminal.Character ∷ []) ▸ word terminal.Varying ▸ Length)
+DataType = mapped number_type (one number_types)
+    ∪ mapped text_type (word terminal.Varchar ▸ Length)
+    ∪ mapped varying_type (one (terminal.Char ∷ terminal.Character ∷ []) ▸ word terminal.Varying ▸ Length)
 
 -- ---- references
 
 -- NO ACTION | CASCADE | SET NULL | SET DEFAULT
 abbrev pub ReferentialAction : Language (Unit {0})
-ReferentialAction = made nothing (word terminal.No ▸ word terminal.Action)
-    ∪ made nothing (word terminal.Cascade)
-    ∪ made nothing (word terminal.Set ▸ one (terminal.Null ∷ terminal.Default ∷ []))
+ReferentialAction = mapped drop_value (word terminal.No ▸ word terminal.Action)
+    ∪ mapped drop_value (word terminal.Cascade)
+    ∪ mapped drop_value (word terminal.Set ▸ one (terminal.Null ∷ terminal.Default ∷ []))
 
 -- ON ( DELETE | UPDATE ) action
 abbrev pub TriggeredAction : Language (Unit {0})
-TriggeredAction = made nothing (word terminal.On ▸ one (terminal.Delete ∷ terminal.Update ∷ []) ▸ ReferentialAction)
+TriggeredAction = mapped drop_value (word terminal.On ▸ one (terminal.Delete ∷ terminal.Update ∷ []) ▸ ReferentialAction)
 
 -- name [ "(" names ")" ] { ON .. }
 abbrev pub Target : Language TargetNode
-Target = made target (Name ▸ maybe (in_parentheses Names) ▸ made nothing (many TriggeredAction))
+Target = mapped target (Name ▸ maybe (in_parentheses Names) ▸ mapped drop_value (many TriggeredAction))
 
 -- ---- rules of columns and of tables
 
 -- [ CONSTRAINT name ]
 abbrev pub ConstraintName : Language (Unit {0})
-ConstraintName = made nothing (maybe (word terminal.Constraint ▸ Name))
+ConstraintName = mapped drop_value (maybe (word terminal.Constraint ▸ Name))
 
-abbrev pub named : {A : Type 0} → Language A → Language A
-named L = made second (ConstraintName ▸ L)
+abbrev pub with_constraint_name : {A : Type 0} → Language A → Language A
+with_constraint_name L = mapped second (ConstraintName ▸ L)
 
 abbrev pub ColumnConstraint : Language ColumnRule
-ColumnConstraint = made not_null (word terminal.Not ▸ word terminal.Null)
-    ∪ made primary_key (word terminal.Primary ▸ word terminal.Key)
-    ∪ made unique (word terminal.Unique)
-    ∪ made references (word terminal.References ▸ Target)
+ColumnConstraint = mapped not_null (word terminal.Not ▸ word terminal.Null)
+    ∪ mapped primary_key (word terminal.Primary ▸ word terminal.Key)
+    ∪ mapped unique (word terminal.Unique)
+    ∪ mapped references (word terminal.References ▸ Target)
 
 abbrev pub TableConstraint : Language TableRule
-TableConstraint = made primary_key_over (word terminal.Primary ▸ word terminal.Key ▸ in_parentheses Names)
-    ∪ made unique_over (word terminal.Unique ▸ in_parentheses Names)
-    ∪ made foreign_key (word terminal.Foreign ▸ word terminal.Key ▸ in_parentheses Names ▸ word terminal.References ▸ Target)
+TableConstraint = mapped primary_key_over (word terminal.Primary ▸ word terminal.Key ▸ in_parentheses Names)
+    ∪ mapped unique_over (word terminal.Unique ▸ in_parentheses Names)
+    ∪ mapped foreign_key (word terminal.Foreign ▸ word terminal.Key ▸ in_parentheses Names ▸ word terminal.References ▸ Target)
 
 -- ---- tables
 
 -- name type { [ CONSTRAINT name ] rule }
 abbrev pub ColumnDefinition : Language ColumnNode
-ColumnDefinition = made column (Name ▸ DataType ▸ many (named ColumnConstraint))
+ColumnDefinition = mapped column (Name ▸ DataType ▸ many (with_constraint_name ColumnConstraint))
 
 -- column | [ CONSTRAINT name ] rule
 abbrev pub TableElement : Language Element
-TableElement = made of_column ColumnDefinition ∪ made of_rule (named TableConstraint)
+TableElement = mapped of_column ColumnDefinition ∪ mapped of_rule (with_constraint_name TableConstraint)
 
 -- CREATE TABLE name "(" element { "," element } ")"
 abbrev pub TableDefinition : Language TableNode
-TableDefinition = made table (word terminal.Create ▸ word terminal.Table ▸ Name ▸ in_parentheses (listed terminal.Comma TableElement))
+TableDefinition = mapped table (word terminal.Create ▸ word terminal.Table ▸ Name ▸ in_parentheses (listed terminal.Comma TableElement))
 
 -- table { ";" table } [ ";" ]
 unfoldable pub SchemaText : Language (List TableNode)
-SchemaText = made tables
-    (TableDefinition ▸ many (made second (word terminal.Semicolon ▸ TableDefinition)) ▸ maybe (word terminal.Semicolon))
+SchemaText = mapped tables
+    (TableDefinition ▸ many (mapped second (word terminal.Semicolon ▸ TableDefinition)) ▸ maybe (word terminal.Semicolon))

@@ -3,7 +3,7 @@ ghost use Rattle.ll_grammars.specs.Rules.{IsReadAs};
 ghost use Rattle.schema_grammar.specs.Readers.{read_action, read_target, read_triggered_action, read_triggered_actions};
 
 use crate::names::{name, name_list};
-use crate::terminals::{ACTION, CASCADE, CHANGE, NO, NULL_OR_DEFAULT, ON, OPEN, SET};
+use crate::terminals::{ACTION, CASCADE, DELETE_OR_UPDATE, NO, NULL_OR_DEFAULT, ON, OPEN, SET};
 use crate::tree::TargetNode;
 use ll_grammars::{Reader, Stop};
 
@@ -30,7 +30,7 @@ fn triggered_action(reader: &mut Reader<'_>) -> Result<(), Stop>
     ensures { IsReadAs result reader.new (read_triggered_action reader.old) }
 {
     reader.one(ON)?;
-    reader.one(CHANGE)?;
+    reader.one(DELETE_OR_UPDATE)?;
     action(reader)
 }
 

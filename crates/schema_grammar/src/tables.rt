@@ -110,7 +110,7 @@ fn table(reader: &mut Reader<'_>) -> Result<TableNode, Stop>
 fn another(reader: &mut Reader<'_>) -> bool
     ensures { Follows result reader.old reader.new }
 {
-    reader.takes(SEMICOLON) && reader.starts(CREATE)
+    reader.reads_if_one_of(SEMICOLON) && reader.starts(CREATE)
 }
 
 // table { ";" table } [ ";" ]

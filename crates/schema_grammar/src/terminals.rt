@@ -11,7 +11,7 @@ pub const NUMBER_TYPE: &[Terminal] = &[
 
 pub const CHARACTER: &[Terminal] = &[Terminal::Char, Terminal::Character];
 
-pub const CHANGE: &[Terminal] = &[Terminal::Delete, Terminal::Update];
+pub const DELETE_OR_UPDATE: &[Terminal] = &[Terminal::Delete, Terminal::Update];
 
 pub const NULL_OR_DEFAULT: &[Terminal] = &[Terminal::Null, Terminal::Default];
 

@@ -15,12 +15,12 @@ use Rattle.schema_grammar.specs.declared.tree.Element.TheVariants as element
 use Rattle.schema_grammar.specs.declared.tree.TableNode.{TableNode}
 use Rattle.schema_types.specs.declared.types.Reference.{Reference}
 use Rattle.schema_types.specs.declared.types.Table.{Table}
-use Rattle.schema_types.specs.Declarations.{columns, column_names, referenced_columns, target_place, target_table, table_names}
-use Rattle.schema_types.specs.Meaning.{column_of, element_column, rule_keys, element_keys, led_numbers, reference_of, rule_references, element_references, table_of}
-use Rattle.schema_types.specs.Names.{place_of}
+use Rattle.schema_types.specs.Declarations.{columns, column_names, referenced_columns, target_number, target_table, table_names}
+use Rattle.schema_types.specs.Meaning.{column_of, element_column, rule_keys, element_keys, target_column_numbers, reference_of, rule_references, element_references, table_of}
+use Rattle.schema_types.specs.Names.{index_of_name}
 use Rattle.schema_types.specs.Numbers.{number_of_name, number_in, numbers_in}
 use Rattle.schema_types.specs.Validity.{AreColumnsOf, IsReference}
-use Rattle.schema_types.proofs.Places.{place_of_within}
+use Rattle.schema_types.proofs.NameIndexes.{place_of_within}
 
 -- ---- the columns of a table
 
@@ -35,7 +35,7 @@ count_of_columns text elements = sym (length-map (flat_map (element_column text)
 -- ---- the numbers that names of columns have
 
 number_within : (declared : List (List ℕ)) (name : List ℕ) → 0 < length declared → number_of_name declared name < length declared
-number_within declared name some = at (place_of declared name) (place_of_within declared name)
+number_within declared name some = at (index_of_name declared name) (place_of_within declared name)
   where
     at : (o : Option ℕ) → ((p : ℕ) → o ≡ Some p → p < length declared) → unwrap_or o 0 < length declared
     at None inside = some
@@ -84,7 +84,7 @@ resolved_within : (text : List ℕ) (declared : List (List ℕ)) (chosen : Optio
 resolved_within text declared None some = All-nil (λ n. n < length declared)
 resolved_within text declared (Some tokens) some = numbers_within text declared tokens some
 
-reference_to : (text : List ℕ) (tables : List TableNode) (table : Table) (from : List ℕ) (written : Option (List Lexeme)) (place : ℕ) (target : TableNode) → AreColumnsOf table from → slice_get tables place ≡ Some target → HasColumns text target → IsReference (map (table_of text tables) tables) table (record { columns = from; table = place; targets = led_numbers text written (Some target) })
+reference_to : (text : List ℕ) (tables : List TableNode) (table : Table) (from : List ℕ) (written : Option (List Lexeme)) (place : ℕ) (target : TableNode) → AreColumnsOf table from → slice_get tables place ≡ Some target → HasColumns text target → IsReference (map (table_of text tables) tables) table (record { columns = from; table = place; targets = target_column_numbers text written (Some target) })
 unfolding table_of
 reference_to text tables table from written place target within here some = record {
   columns = within;
@@ -111,9 +111,9 @@ has_columns_at text tables place target all here = subst (HasColumns text) (get_
 
 reference_valid : (text : List ℕ) (tables : List TableNode) (table : Table) (from : List ℕ) (target : TargetNode) → 0 < length tables → All (HasColumns text) tables → AreColumnsOf table from → IsReference (map (table_of text tables) tables) table (reference_of text tables from target)
 unfolding reference_of
-reference_valid text tables table from target some all within = at (target_place text tables target) (place_of_within (table_names text tables) _)
+reference_valid text tables table from target some all within = at (target_number text tables target) (place_of_within (table_names text tables) _)
   where
-    at : (o : Option ℕ) → ((p : ℕ) → o ≡ Some p → p < length (table_names text tables)) → IsReference (map (table_of text tables) tables) table (record { columns = from; table = unwrap_or o 0; targets = led_numbers text target.columns (option_and_then (slice_get tables) o) })
+    at : (o : Option ℕ) → ((p : ℕ) → o ≡ Some p → p < length (table_names text tables)) → IsReference (map (table_of text tables) tables) table (record { columns = from; table = unwrap_or o 0; targets = target_column_numbers text target.columns (option_and_then (slice_get tables) o) })
     at None inside = let first = some_at tables 0 some in reference_to_none text tables table from first.0 within first.1
     at (Some p) inside =
         let here = some_at tables p (simp (length-map) at (inside p refl)) in

@@ -7,9 +7,9 @@ pub mod Flat
 pub mod Keys
 pub mod Numbering
 pub mod OneAnswer
-pub mod OnePlace
-pub mod Places
+pub mod OneOffset
+pub mod NameIndexes
 pub mod Stages
 pub mod Targets
-pub mod Told
+pub mod EarlierChecks
 pub mod Valid

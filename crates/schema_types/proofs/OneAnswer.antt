@@ -1,6 +1,6 @@
 -- A schema text has at most one answer, apart from the answer that memory ran out.
 use Rattle.std.proofs.Common.{◌≡◌, ◌≢◌, ℕ, ◌⊎◌, List, map, length, Result, Ok, Err, refl, sym, ◌∙◌, ap, subst, inl, inr}
-use Rattle.ll_grammars.specs.Places.{IsSyntaxPlace}
+use Rattle.ll_grammars.specs.Places.{IsSyntaxErrorAt}
 use Rattle.schema_grammar.specs.declared.tree.TableNode.{TableNode}
 use Rattle.schema_grammar.specs.Grammar.{SchemaText}
 use Rattle.schema_grammar.proofs.Ends.{one_schema}
@@ -13,7 +13,7 @@ use Rattle.schema_types.specs.declared.errors.SchemaError.TheVariants as error
 use Rattle.schema_types.specs.declared.types.Schema.{Schema}
 use Rattle.schema_types.specs.Meaning.{schema_or_refusal}
 use Rattle.schema_types.specs.Texts.{Spells, IsUngrammatical, Declares, IsSchemaOf}
-use Rattle.schema_types.proofs.OnePlace.{one_place, not_spelled}
+use Rattle.schema_types.proofs.OneOffset.{one_place, not_spelled}
 
 abbrev Wrong : List ℕ → ℕ → Type 0
 Wrong text at = IsBad text at ⊎ IsUngrammatical text at
@@ -25,7 +25,7 @@ one_wrong text at other (inr p) (inl q) = absurd (whole.never_both text p.tokens
 one_wrong text at other (inr p) (inr q) =
     let same : q.tokens ≡ p.tokens = whole.one_list text q.tokens p.tokens q.lexed p.lexed in
     one_place SchemaText (map (lexeme_of text) p.tokens) (length text) at other p.place
-    (subst (λ (tokens : List Token). IsSyntaxPlace SchemaText (map (lexeme_of text) tokens) (length text) other) same q.place)
+    (subst (λ (tokens : List Token). IsSyntaxErrorAt SchemaText (map (lexeme_of text) tokens) (length text) other) same q.place)
 
 not_wrong_text : (text : List ℕ) (at : ℕ) (tables : List TableNode) → Wrong text at → Spells text tables → ⊥
 not_wrong_text text at tables (inl p) s = whole.never_both text s.tokens at s.lexed p

@@ -6,8 +6,8 @@ use Rattle.std.proofs.lemmas.Option.{slice_get-map}
 use Rattle.std.proofs.lemmas.List.{length-map}
 use Rattle.schema_grammar.specs.declared.tree.TableNode.{TableNode}
 use Rattle.schema_types.specs.Declarations.{table_names}
-use Rattle.schema_types.specs.Names.{place_of}
-use Rattle.schema_types.proofs.Places.{place_of_within}
+use Rattle.schema_types.specs.Names.{index_of_name}
+use Rattle.schema_types.proofs.NameIndexes.{place_of_within}
 
 pub no_target : {A B : Type 0} (f : A → B) (xs : List A) (o : Option ℕ) → o ≡ None → None ≡ option_map f (option_and_then (slice_get xs) o)
 no_target f xs None e = refl
@@ -27,7 +27,7 @@ pub some_map : {A B : Type 0} (f : A → B) (o : Option A) (y : B) → option_ma
 some_map f None y e = cc
 some_map f (Some x) y e = (x, refl, cc)
 
-pub indexed_within : {B : Type 0} (f : TableNode → B) (text : List ℕ) (tables : List TableNode) (indexes : List B) (name : List ℕ) (place : ℕ) → indexes ≡ map f tables → place_of (table_names text tables) name ≡ Some place → place < length indexes
+pub indexed_within : {B : Type 0} (f : TableNode → B) (text : List ℕ) (tables : List TableNode) (indexes : List B) (name : List ℕ) (place : ℕ) → indexes ≡ map f tables → index_of_name (table_names text tables) name ≡ Some place → place < length indexes
 indexed_within f text tables indexes name place indexed here =
     let within : place < length (table_names text tables) = place_of_within (table_names text tables) name place here in
     rw indexed (simp length-map (simp length-map at within))

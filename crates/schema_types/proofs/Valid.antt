@@ -21,30 +21,30 @@ use Rattle.schema_types.specs.declared.types.Table.{Table}
 use Rattle.schema_types.specs.declared.errors.SchemaError.{SchemaError}
 use Rattle.schema_types.specs.Declarations.{columns, column_names, table_names, element_columns}
 use Rattle.schema_types.specs.Meaning.{element_column, table_of, schema_of, unless_found, within_limits, schema_or_refusal}
-use Rattle.schema_types.specs.Names.{first, when, place_of, told_from, each_told}
-use Rattle.schema_types.specs.Offences.{stands_in, is_taken, listed_offences, list_offences, column_offences, table_rule_offences, element_offences, table_offences, target_offences, offences}
-use Rattle.schema_types.specs.Refusals.{above, column_counts, nullable_places, text_lengths}
+use Rattle.schema_types.specs.Names.{first, list_if, index_of_name, flat_map_with_earlier, flat_map_with_all_earlier}
+use Rattle.schema_types.specs.Offences.{is_one_of, is_taken, listed_offences, list_offences, column_offences, table_rule_offences, element_offences, table_offences, target_offences, offences}
+use Rattle.schema_types.specs.Refusals.{above, column_counts, nullable_offsets, text_lengths}
 use Rattle.schema_types.specs.Texts.{Declares, IsSchemaOf}
 use Rattle.schema_types.specs.Validity.{upper_case, Differ, is_plain, AreColumnsOf, IsReference, IsValidTable, IsValid}
 use Rattle.schema_types.proofs.Above.{empty_left, empty_right, not_above}
 use Rattle.schema_types.proofs.Bounds.{names_of_columns, count_of_columns, keys_valid, references_valid, HasColumns}
-use Rattle.schema_types.proofs.Filled.{IsFilled, RuleFilled, ElementFilled, FirstFilled, TableFilled, AreFilled, filled}
+use Rattle.schema_types.proofs.Filled.{IsNotEmpty, RuleFilled, ElementFilled, FirstFilled, TableFilled, AreFilled, filled}
 
 -- ---- a list in which no element offends
 
-when_none : (b : Bool) (n : ℕ) → when b n ≡ [] → b ≡ false
+when_none : (b : Bool) (n : ℕ) → list_if b n ≡ [] → b ≡ false
 when_none true n e = cc
 when_none false n e = refl
 
-told_here : {X : Type 0} (f : List X → X → List ℕ) (earlier : List X) (x : X) (rest : List X) → told_from f earlier (x ∷ rest) ≡ [] → f earlier x ≡ []
-unfolding told_from
-told_here f earlier x rest none = empty_left (f earlier x) (told_from f (earlier ++ x ∷ []) rest) none
+told_here : {X : Type 0} (f : List X → X → List ℕ) (earlier : List X) (x : X) (rest : List X) → flat_map_with_earlier f earlier (x ∷ rest) ≡ [] → f earlier x ≡ []
+unfolding flat_map_with_earlier
+told_here f earlier x rest none = empty_left (f earlier x) (flat_map_with_earlier f (earlier ++ x ∷ []) rest) none
 
-told_later : {X : Type 0} (f : List X → X → List ℕ) (earlier : List X) (x : X) (rest : List X) → told_from f earlier (x ∷ rest) ≡ [] → told_from f (earlier ++ x ∷ []) rest ≡ []
-unfolding told_from
-told_later f earlier x rest none = empty_right (f earlier x) (told_from f (earlier ++ x ∷ []) rest) none
+told_later : {X : Type 0} (f : List X → X → List ℕ) (earlier : List X) (x : X) (rest : List X) → flat_map_with_earlier f earlier (x ∷ rest) ≡ [] → flat_map_with_earlier f (earlier ++ x ∷ []) rest ≡ []
+unfolding flat_map_with_earlier
+told_later f earlier x rest none = empty_right (f earlier x) (flat_map_with_earlier f (earlier ++ x ∷ []) rest) none
 
-told_all : {X : Type 0} (f : List X → X → List ℕ) (P : X → Type 0) → ((earlier : List X) (x : X) → f earlier x ≡ [] → P x) → (earlier xs : List X) → told_from f earlier xs ≡ [] → All P xs
+told_all : {X : Type 0} (f : List X → X → List ℕ) (P : X → Type 0) → ((earlier : List X) (x : X) → f earlier x ≡ [] → P x) → (earlier xs : List X) → flat_map_with_earlier f earlier xs ≡ [] → All P xs
 told_all f P step earlier [] none = All-nil P
 told_all f P step earlier (x ∷ xs) none =
     All-cons P x xs (step earlier x (told_here f earlier x xs none)) (told_all f P step (earlier ++ x ∷ []) xs (told_later f earlier x xs none))
@@ -75,7 +75,7 @@ differ_after text tables declared earlier (element.Column column) differ none =
     differ_push (column_names text earlier) (name_of text column.name) differ free
 differ_after text tables declared earlier (element.Rule rule) differ none = subst Differ (sym (append-nil (column_names text earlier))) differ
 
-columns_differ : (text : List ℕ) (tables : List TableNode) (declared : List (List ℕ)) (earlier rest : List Element) → told_from (element_offences text tables declared) earlier rest ≡ [] → Differ (column_names text earlier) → Differ (column_names text (earlier ++ rest))
+columns_differ : (text : List ℕ) (tables : List TableNode) (declared : List (List ℕ)) (earlier rest : List Element) → flat_map_with_earlier (element_offences text tables declared) earlier rest ≡ [] → Differ (column_names text earlier) → Differ (column_names text (earlier ++ rest))
 columns_differ text tables declared earlier [] none differ = subst (λ elements. Differ (column_names text elements)) (sym (append-nil earlier)) differ
 columns_differ text tables declared earlier (x ∷ rest) none differ =
     subst (λ elements. Differ (column_names text elements)) (append_assoc earlier (x ∷ []) rest)
@@ -95,7 +95,7 @@ table_free text tables earlier x none =
     not_not true e = refl
     not_not false e = cc
 
-tables_differ : (text : List ℕ) (tables earlier rest : List TableNode) → told_from (table_offences text tables) earlier rest ≡ [] → Differ (table_names text earlier) → Differ (table_names text (earlier ++ rest))
+tables_differ : (text : List ℕ) (tables earlier rest : List TableNode) → flat_map_with_earlier (table_offences text tables) earlier rest ≡ [] → Differ (table_names text earlier) → Differ (table_names text (earlier ++ rest))
 tables_differ text tables earlier [] none differ = subst (λ ts. Differ (table_names text ts)) (sym (append-nil earlier)) differ
 tables_differ text tables earlier (x ∷ rest) none differ =
     subst (λ ts. Differ (table_names text ts)) (append_assoc earlier (x ∷ []) rest)
@@ -105,19 +105,19 @@ tables_differ text tables earlier (x ∷ rest) none differ =
 
 -- ---- a table has columns
 
-no_place : (name : List ℕ) → is_none (place_of [] name) ≡ true
-unfolding place_of
+no_place : (name : List ℕ) → is_none (index_of_name [] name) ≡ true
+unfolding index_of_name
 no_place name = refl
 
-some_names : (names : List (List ℕ)) (name : List ℕ) → is_none (place_of names name) ≡ false → 0 < length names
-some_names [] name found = let none : is_none (place_of [] name) ≡ true = no_place name in cc
+some_names : (names : List (List ℕ)) (name : List ℕ) → is_none (index_of_name names name) ≡ false → 0 < length names
+some_names [] name found = let none : is_none (index_of_name [] name) ≡ true = no_place name in cc
 some_names (other ∷ names) name found = omega arith
 
-list_some : (text : List ℕ) (declared : List (List ℕ)) (tokens : List Lexeme) → IsFilled tokens → list_offences text declared tokens ≡ [] → 0 < length declared
+list_some : (text : List ℕ) (declared : List (List ℕ)) (tokens : List Lexeme) → IsNotEmpty tokens → list_offences text declared tokens ≡ [] → 0 < length declared
 unfolding list_offences listed_offences
 list_some text declared [] is none = absurd is
 list_some text declared (token ∷ tokens) is none =
-    let parts = or_parts (is_none (place_of declared (name_of text token))) _ (when_none _ token.start (told_here (listed_offences text declared) [] token tokens none)) in
+    let parts = or_parts (is_none (index_of_name declared (name_of text token))) _ (when_none _ token.start (told_here (listed_offences text declared) [] token tokens none)) in
     some_names declared (name_of text token) parts.0
 
 rule_some : (text : List ℕ) (tables : List TableNode) (declared : List (List ℕ)) (rule : TableRule) → RuleFilled rule → table_rule_offences text tables declared [] rule ≡ [] → 0 < length declared
@@ -126,7 +126,7 @@ rule_some text tables declared (table_rule.PrimaryKey word listed) is none = lis
 rule_some text tables declared (table_rule.Unique listed) is none = list_some text declared listed is none
 rule_some text tables declared (table_rule.ForeignKey listed target) is none = list_some text declared listed is (empty_left (list_offences text declared listed) (target_offences text tables (length listed) target) none)
 
-elements_some : (text : List ℕ) (tables : List TableNode) (declared : List (List ℕ)) (elements : List Element) → FirstFilled elements → declared ≡ column_names text elements → each_told (element_offences text tables declared) elements ≡ [] → 0 < length declared
+elements_some : (text : List ℕ) (tables : List TableNode) (declared : List (List ℕ)) (elements : List Element) → FirstFilled elements → declared ≡ column_names text elements → flat_map_with_all_earlier (element_offences text tables declared) elements ≡ [] → 0 < length declared
 unfolding element_offences
 elements_some text tables declared [] is same none = absurd is
 elements_some text tables declared (element.Column column ∷ rest) is same none = rw same (omega arith)
@@ -140,10 +140,10 @@ record Facts (text : List ℕ) (table : TableNode) : Type 0 where
   some : TableFilled table → HasColumns text table
   differ : Differ (column_names text table.elements)
 
-elements_clean : (text : List ℕ) (tables earlier : List TableNode) (x : TableNode) → table_offences text tables earlier x ≡ [] → each_told (element_offences text tables (column_names text x.elements)) x.elements ≡ []
+elements_clean : (text : List ℕ) (tables earlier : List TableNode) (x : TableNode) → table_offences text tables earlier x ≡ [] → flat_map_with_all_earlier (element_offences text tables (column_names text x.elements)) x.elements ≡ []
 unfolding table_offences
 elements_clean text tables earlier x none =
-    empty_right (when (not (is_plain (name_of text x.name)) || is_taken (name_of text x.name) (table_names text earlier)) x.name.start) (each_told (element_offences text tables (column_names text x.elements)) x.elements) none
+    empty_right (list_if (not (is_plain (name_of text x.name)) || is_taken (name_of text x.name) (table_names text earlier)) x.name.start) (flat_map_with_all_earlier (element_offences text tables (column_names text x.elements)) x.elements) none
 
 table_facts : (text : List ℕ) (tables earlier : List TableNode) (x : TableNode) → table_offences text tables earlier x ≡ [] → Facts text x
 unfolding table_offences
@@ -173,7 +173,7 @@ table_valid text tables table facts is few = record {
 
 -- ---- the schema
 
-filled_some : {A : Type 0} (xs : List A) → IsFilled xs → 0 < length xs
+filled_some : {A : Type 0} (xs : List A) → IsNotEmpty xs → 0 < length xs
 filled_some [] is = absurd is
 filled_some (x ∷ xs) is = omega arith
 
@@ -208,7 +208,7 @@ pub declares_valid : (text : List ℕ) (schema : Schema) → Declares text (Ok s
 unfolding schema_or_refusal within_limits
 declares_valid text schema d =
     let named = passed (offences text d.tables) _ _ schema d.answers in
-    let full = passed (nullable_places text d.tables) _ _ schema named.1 in
+    let full = passed (nullable_offsets text d.tables) _ _ schema named.1 in
     let few = passed (above 64 (length d.tables ∷ [])) _ _ schema full.1 in
     let counts = passed (above 64 (column_counts d.tables)) _ _ schema few.1 in
     let short = passed (above 1000000 (text_lengths text d.tables)) _ _ schema counts.1 in

@@ -12,7 +12,7 @@ use Rattle.schema_grammar.specs.declared.tree.Element.{Element}
 use Rattle.schema_grammar.specs.declared.tree.Element.TheVariants as element
 use Rattle.schema_grammar.specs.declared.tree.TableNode.{TableNode}
 use Rattle.sql_tokens.specs.Words.{name_of}
-use Rattle.schema_types.specs.Names.{first, when, names_of, place_of}
+use Rattle.schema_types.specs.Names.{first, list_if, names_of, index_of_name}
 
 abbrev pub element_columns : Element → List ColumnNode
 element_columns (element.Column column) = column ∷ []
@@ -44,7 +44,7 @@ is_primary_rule (column_rule.References _) = false
 
 -- the primary key that a column's definition declares: this column alone
 abbrev pub column_primary_key : ColumnNode → List (List Lexeme)
-column_primary_key column = when (list_any is_primary_rule column.rules) (column.name ∷ [])
+column_primary_key column = list_if (list_any is_primary_rule column.rules) (column.name ∷ [])
 
 abbrev pub rule_primary_key : TableRule → List (List Lexeme)
 rule_primary_key (table_rule.PrimaryKey _ columns) = columns ∷ []
@@ -63,11 +63,11 @@ primary_key elements = first (flat_map element_primary_key elements)
 -- ---- references
 
 -- the number of the table that a reference names: the first table of this name
-abbrev pub target_place : List ℕ → List TableNode → TargetNode → Option ℕ
-target_place text tables target = place_of (table_names text tables) (name_of text target.table)
+abbrev pub target_number : List ℕ → List TableNode → TargetNode → Option ℕ
+target_number text tables target = index_of_name (table_names text tables) (name_of text target.table)
 
 abbrev pub target_table : List ℕ → List TableNode → TargetNode → Option TableNode
-target_table text tables target = option_and_then (slice_get tables) (target_place text tables target)
+target_table text tables target = option_and_then (slice_get tables) (target_number text tables target)
 
 -- the columns that a reference refers to: the columns that are written, or the target's primary key if no columns are written
 abbrev pub referenced_columns : Option (List Lexeme) → List Element → Option (List Lexeme)

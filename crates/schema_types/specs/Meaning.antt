@@ -26,9 +26,9 @@ use Rattle.schema_types.specs.declared.types.Table.{Table}
 use Rattle.schema_types.specs.declared.types.Schema.{Schema}
 use Rattle.schema_types.specs.Names.{first}
 use Rattle.schema_types.specs.Numbers.{number_in, numbers_in}
-use Rattle.schema_types.specs.Declarations.{columns, column_names, target_place, target_table, referenced_columns}
+use Rattle.schema_types.specs.Declarations.{columns, column_names, target_number, target_table, referenced_columns}
 use Rattle.schema_types.specs.Offences.{offences}
-use Rattle.schema_types.specs.Refusals.{nullable_places, above, in_64_bits, column_counts, text_lengths}
+use Rattle.schema_types.specs.Refusals.{nullable_offsets, above, in_64_bits, column_counts, text_lengths}
 
 -- ---- keys
 
@@ -55,17 +55,17 @@ element_keys text declared (element.Rule rule) = table_rule_keys text declared r
 -- ---- references
 
 -- the numbers of the columns that a reference refers to. If the reference lists no columns, they are the primary key of its target
-abbrev pub led_numbers : List ℕ → Option (List Lexeme) → Option TableNode → List ℕ
-led_numbers text written None = []
-led_numbers text written (Some table) =
+abbrev pub target_column_numbers : List ℕ → Option (List Lexeme) → Option TableNode → List ℕ
+target_column_numbers text written None = []
+target_column_numbers text written (Some table) =
     unwrap_or (option_map (numbers_in text (column_names text table.elements)) (referenced_columns written table.elements)) []
 
 -- the reference from these columns to a target. The rows of files aren't tested against the reference
 unfoldable pub reference_of : List ℕ → List TableNode → List ℕ → TargetNode → Reference
 reference_of text tables from target = record {
   columns = from;
-  table = unwrap_or (target_place text tables target) 0;
-  targets = led_numbers text target.columns (target_table text tables target);
+  table = unwrap_or (target_number text tables target) 0;
+  targets = target_column_numbers text target.columns (target_table text tables target);
 }
 
 abbrev pub rule_references : List ℕ → List TableNode → ℕ → ColumnRule → List Reference
@@ -131,5 +131,5 @@ within_limits text tables rest =
 unfoldable pub schema_or_refusal : List ℕ → List TableNode → Result Schema SchemaError
 schema_or_refusal text tables =
     unless_found (first (offences text tables)) (λ at. error.Name at)
-    (unless_found (first (nullable_places text tables)) (λ at. error.Nullable at)
+    (unless_found (first (nullable_offsets text tables)) (λ at. error.Nullable at)
     (within_limits text tables (Ok (schema_of text tables))))

@@ -10,28 +10,28 @@ first [] = None
 first (x ∷ rest) = Some x
 
 -- a list of one element if the condition is true, and otherwise the empty list
-abbrev pub when : {A : Type 0} → Bool → A → List A
-when condition x = if condition then x ∷ [] else []
+abbrev pub list_if : {A : Type 0} → Bool → A → List A
+list_if condition x = if condition then x ∷ [] else []
 
 -- the index of the first name in the list that is equal to `name`, counted from 0
-unfoldable pub place_of : List (List ℕ) → List ℕ → Option ℕ
-place_of [] name = None
-place_of (other ∷ rest) name = if bytes_eq name other then Some 0 else option_map (λ place. place + 1) (place_of rest name)
+unfoldable pub index_of_name : List (List ℕ) → List ℕ → Option ℕ
+index_of_name [] name = None
+index_of_name (other ∷ rest) name = if bytes_eq name other then Some 0 else option_map (λ place. place + 1) (index_of_name rest name)
 
 -- the index of a name after one more name was added at index `last`. If the name was in the list before, its index is the old one. If it
 -- wasn't, and `same` says that it is the added name, its index is `last`
-abbrev pub or_last : Option ℕ → ℕ → Bool → Option ℕ
-or_last (Some place) last same = Some place
-or_last None last same = if same then Some last else None
+abbrev pub index_after_push : Option ℕ → ℕ → Bool → Option ℕ
+index_after_push (Some place) last same = Some place
+index_after_push None last same = if same then Some last else None
 
 -- the names of tokens
 abbrev pub names_of : List ℕ → List Lexeme → List (List ℕ)
 names_of text tokens = map (name_of text) tokens
 
 -- what f gives for the elements of a list, one after another. f also gets the elements before each element
-unfoldable pub told_from : {X : Type 0} → (List X → X → List ℕ) → List X → List X → List ℕ
-told_from f earlier [] = []
-told_from f earlier (x ∷ rest) = f earlier x ++ told_from f (earlier ++ x ∷ []) rest
+unfoldable pub flat_map_with_earlier : {X : Type 0} → (List X → X → List ℕ) → List X → List X → List ℕ
+flat_map_with_earlier f earlier [] = []
+flat_map_with_earlier f earlier (x ∷ rest) = f earlier x ++ flat_map_with_earlier f (earlier ++ x ∷ []) rest
 
-abbrev pub each_told : {X : Type 0} → (List X → X → List ℕ) → List X → List ℕ
-each_told f xs = told_from f [] xs
+abbrev pub flat_map_with_all_earlier : {X : Type 0} → (List X → X → List ℕ) → List X → List ℕ
+flat_map_with_all_earlier f xs = flat_map_with_earlier f [] xs

@@ -2,11 +2,11 @@
 use Rattle.std.specs.Prelude.{ℕ, List, map, unwrap_or}
 use Rattle.ll_grammars.specs.declared.lexeme.Lexeme.{Lexeme}
 use Rattle.sql_tokens.specs.Words.{name_of}
-use Rattle.schema_types.specs.Names.{place_of}
+use Rattle.schema_types.specs.Names.{index_of_name}
 
 -- the number of a column by its name, counted from 0. It is 0 if no column has this name, which is an offence
 abbrev pub number_of_name : List (List ℕ) → List ℕ → ℕ
-number_of_name declared name = unwrap_or (place_of declared name) 0
+number_of_name declared name = unwrap_or (index_of_name declared name) 0
 
 abbrev pub number_in : List ℕ → List (List ℕ) → Lexeme → ℕ
 number_in text declared column = number_of_name declared (name_of text column)

@@ -14,45 +14,45 @@ use Rattle.schema_grammar.specs.declared.tree.Element.{Element}
 use Rattle.schema_grammar.specs.declared.tree.Element.TheVariants as element
 use Rattle.schema_grammar.specs.declared.tree.TableNode.{TableNode}
 use Rattle.sql_tokens.specs.Words.{name_of}
-use Rattle.schema_types.specs.Names.{when, place_of, names_of, each_told}
+use Rattle.schema_types.specs.Names.{list_if, index_of_name, names_of, flat_map_with_all_earlier}
 use Rattle.schema_types.specs.Declarations.{column_names, table_names, is_primary_rule, primary_key, target_table}
 use Rattle.schema_types.specs.Validity.{upper_case, is_plain}
 
 -- whether a name is equal to one of `names`
-abbrev pub stands_in : List ℕ → List (List ℕ) → Bool
-stands_in name names = list_any (bytes_eq name) names
+abbrev pub is_one_of : List ℕ → List (List ℕ) → Bool
+is_one_of name names = list_any (bytes_eq name) names
 
 -- whether a name is equal to one of `names`, both in ASCII upper case
 abbrev pub is_taken : List ℕ → List (List ℕ) → Bool
-is_taken name names = stands_in (upper_case name) (map upper_case names)
+is_taken name names = is_one_of (upper_case name) (map upper_case names)
 
 -- ---- lists of columns
 
 -- a column that isn't in its table, or that is in the list already
 unfoldable pub listed_offences : List ℕ → List (List ℕ) → List Lexeme → Lexeme → List ℕ
 listed_offences text declared earlier column =
-    when (is_none (place_of declared (name_of text column)) || stands_in (name_of text column) (names_of text earlier)) column.start
+    list_if (is_none (index_of_name declared (name_of text column)) || is_one_of (name_of text column) (names_of text earlier)) column.start
 
 unfoldable pub list_offences : List ℕ → List (List ℕ) → List Lexeme → List ℕ
-list_offences text declared columns = each_told (listed_offences text declared) columns
+list_offences text declared columns = flat_map_with_all_earlier (listed_offences text declared) columns
 
 -- ---- references
 
 -- the offences of the columns that a reference from `count` columns refers to. The target is the table of these elements. If its columns
 -- aren't `count` many, the target's name offends
-abbrev pub led_offences : List ℕ → ℕ → Lexeme → Option (List Lexeme) → List Element → List ℕ
-led_offences text count name (Some columns) elements =
-    when (not (length columns == count)) name.start ++ list_offences text (column_names text elements) columns
-led_offences text count name None elements = key_offences (primary_key elements)
+abbrev pub target_column_offences : List ℕ → ℕ → Lexeme → Option (List Lexeme) → List Element → List ℕ
+target_column_offences text count name (Some columns) elements =
+    list_if (not (length columns == count)) name.start ++ list_offences text (column_names text elements) columns
+target_column_offences text count name None elements = key_offences (primary_key elements)
   where
     -- the reference lists no columns: there must be a primary key of `count` columns
     key_offences : Option (List Lexeme) → List ℕ
     key_offences None = name.start ∷ []
-    key_offences (Some key) = when (not (length key == count)) name.start
+    key_offences (Some key) = list_if (not (length key == count)) name.start
 
 abbrev pub target_offences_in : List ℕ → ℕ → TargetNode → Option TableNode → List ℕ
 target_offences_in text count target None = target.table.start ∷ []
-target_offences_in text count target (Some table) = led_offences text count target.table target.columns table.elements
+target_offences_in text count target (Some table) = target_column_offences text count target.table target.columns table.elements
 
 -- the offences of a reference from `count` columns
 unfoldable pub target_offences : List ℕ → List TableNode → ℕ → TargetNode → List ℕ
@@ -70,20 +70,20 @@ is_primary (element.Rule (table_rule.ForeignKey _ _)) = false
 -- the offences of a column's rule, given the column's rules before it. `keyed` says whether the table has a primary key before the column
 unfoldable pub rule_offences : List ℕ → List TableNode → Bool → List ColumnRule → ColumnRule → List ℕ
 rule_offences text tables keyed earlier column_rule.NotNull = []
-rule_offences text tables keyed earlier (column_rule.PrimaryKey word) = when (keyed || list_any is_primary_rule earlier) word.start
+rule_offences text tables keyed earlier (column_rule.PrimaryKey word) = list_if (keyed || list_any is_primary_rule earlier) word.start
 rule_offences text tables keyed earlier column_rule.Unique = []
 rule_offences text tables keyed earlier (column_rule.References target) = target_offences text tables 1 target
 
 -- the offences of a column: its name is equal to an earlier column's, or one of its rules offends
 unfoldable pub column_offences : List ℕ → List TableNode → List Element → ColumnNode → List ℕ
 column_offences text tables earlier column =
-    when (is_taken (name_of text column.name) (column_names text earlier)) column.name.start
-    ++ each_told (rule_offences text tables (list_any is_primary earlier)) column.rules
+    list_if (is_taken (name_of text column.name) (column_names text earlier)) column.name.start
+    ++ flat_map_with_all_earlier (rule_offences text tables (list_any is_primary earlier)) column.rules
 
 -- the offences of a rule of a table with these columns
 unfoldable pub table_rule_offences : List ℕ → List TableNode → List (List ℕ) → List Element → TableRule → List ℕ
 table_rule_offences text tables declared earlier (table_rule.PrimaryKey word columns) =
-    when (list_any is_primary earlier) word.start ++ list_offences text declared columns
+    list_if (list_any is_primary earlier) word.start ++ list_offences text declared columns
 table_rule_offences text tables declared earlier (table_rule.Unique columns) = list_offences text declared columns
 table_rule_offences text tables declared earlier (table_rule.ForeignKey columns target) =
     list_offences text declared columns ++ target_offences text tables (length columns) target
@@ -98,9 +98,9 @@ element_offences text tables declared earlier (element.Rule rule) = table_rule_o
 -- the offences of a table, given the tables before it
 unfoldable pub table_offences : List ℕ → List TableNode → List TableNode → TableNode → List ℕ
 table_offences text tables earlier table =
-    when (not (is_plain (name_of text table.name)) || is_taken (name_of text table.name) (table_names text earlier)) table.name.start
-    ++ each_told (element_offences text tables (column_names text table.elements)) table.elements
+    list_if (not (is_plain (name_of text table.name)) || is_taken (name_of text table.name) (table_names text earlier)) table.name.start
+    ++ flat_map_with_all_earlier (element_offences text tables (column_names text table.elements)) table.elements
 
 -- all byte offsets at which a rule on names is broken, in text order
 unfoldable pub offences : List ℕ → List TableNode → List ℕ
-offences text tables = each_told (table_offences text tables) tables
+offences text tables = flat_map_with_all_earlier (table_offences text tables) tables

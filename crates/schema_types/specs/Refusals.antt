@@ -11,9 +11,9 @@ use Rattle.schema_grammar.specs.declared.tree.Element.{Element}
 use Rattle.schema_grammar.specs.declared.tree.Element.TheVariants as element
 use Rattle.schema_grammar.specs.declared.tree.TableNode.{TableNode}
 use Rattle.sql_tokens.specs.Words.{name_of, number_of, slice}
-use Rattle.schema_types.specs.Names.{when, names_of}
+use Rattle.schema_types.specs.Names.{list_if, names_of}
 use Rattle.schema_types.specs.Declarations.{columns, primary_key}
-use Rattle.schema_types.specs.Offences.{stands_in}
+use Rattle.schema_types.specs.Offences.{is_one_of}
 
 -- ---- nullability
 
@@ -30,10 +30,10 @@ key_names text (Some key) = names_of text key
 
 -- whether a column neither has NOT NULL nor is in the primary key of these names
 abbrev pub is_nullable : List ℕ → List (List ℕ) → ColumnNode → Bool
-is_nullable text key column = not (list_any is_not_null column.rules || stands_in (name_of text column.name) key)
+is_nullable text key column = not (list_any is_not_null column.rules || is_one_of (name_of text column.name) key)
 
 abbrev pub nullable_element : List ℕ → List (List ℕ) → Element → List ℕ
-nullable_element text key (element.Column column) = when (is_nullable text key column) column.name.start
+nullable_element text key (element.Column column) = list_if (is_nullable text key column) column.name.start
 nullable_element text key (element.Rule _) = []
 
 -- the columns of a table that may be null, as the byte offsets of their names
@@ -41,8 +41,8 @@ unfoldable pub nullable_in : List ℕ → TableNode → List ℕ
 nullable_in text table = flat_map (nullable_element text (key_names text (primary_key table.elements))) table.elements
 
 -- the columns that may be null, as the byte offsets of their names in text order (SQL-92 11.4)
-unfoldable pub nullable_places : List ℕ → List TableNode → List ℕ
-nullable_places text tables = flat_map (nullable_in text) tables
+unfoldable pub nullable_offsets : List ℕ → List TableNode → List ℕ
+nullable_offsets text tables = flat_map (nullable_in text) tables
 
 -- ---- limits
 

@@ -1,6 +1,6 @@
 -- Which answers a schema text has.
 use Rattle.std.specs.Prelude.{◌≡◌, ℕ, ◌⊎◌, List, map, length, Result, Ok, Err, ⊤}
-use Rattle.ll_grammars.specs.Places.{IsSyntaxPlace}
+use Rattle.ll_grammars.specs.Places.{IsSyntaxErrorAt}
 use Rattle.schema_grammar.specs.declared.tree.TableNode.{TableNode}
 use Rattle.schema_grammar.specs.Grammar.{SchemaText}
 use Rattle.sql_tokens.specs.declared.token.Token.{Token}
@@ -21,7 +21,7 @@ pub record Spells (text : List ℕ) (tables : List TableNode) : Type 0 where
 pub record IsUngrammatical (text : List ℕ) (at : ℕ) : Type 0 where
   pub tokens : List Token
   pub lexed : IsLexed text tokens
-  pub place : IsSyntaxPlace SchemaText (map (lexeme_of text) tokens) (length text) at
+  pub place : IsSyntaxErrorAt SchemaText (map (lexeme_of text) tokens) (length text) at
 
 -- the text spells tables, and this is their schema or refusal
 pub record Declares (text : List ℕ) (answer : Result Schema SchemaError) : Type 0 where

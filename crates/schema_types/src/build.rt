@@ -6,7 +6,7 @@ ghost use Rattle.sql_tokens.specs.Words.{IsLexemeOf};
 ghost use Rattle.schema_grammar.specs.declared.tree.TableNode.{TableNode};
 ghost use Rattle.schema_grammar.specs.Lexemes.{IsNameOf, IsTargetOf, IsTypeOf, IsColumnRuleOf, IsColumnOf, IsTableRuleOf, IsElementOf, IsTableOf};
 ghost use Rattle.schema_types.specs.Index.{table_index};
-ghost use Rattle.schema_types.specs.Meaning.{rule_keys, column_keys, table_rule_keys, element_keys, led_numbers, reference_of, rule_references, column_references, table_rule_references, element_references};
+ghost use Rattle.schema_types.specs.Meaning.{rule_keys, column_keys, table_rule_keys, element_keys, target_column_numbers, reference_of, rule_references, column_references, table_rule_references, element_references};
 ghost use Rattle.schema_types.specs.Numbers.{number_in, numbers_in};
 
 use crate::index::TableIndex;
@@ -50,10 +50,10 @@ impl Scope<'_> {
 
     // The numbers of the columns that a reference refers to. `table` is the reference's target.
     #[tactic(auto, unfolding(crate::specs::Index::table_index))]
-    fn led(&self, target: &TargetNode, table: &TableIndex) -> Result<Seq<u32>, NoMemory>
+    fn target_columns(&self, target: &TargetNode, table: &TableIndex) -> Result<Seq<u32>, NoMemory>
         requires { IsTargetOf (IsLexemeOf self.now.text.now) target.now }
         ensures { (declared : TableNode) → table.now ≡ table_index self.now.text.now declared
-            → IfOk result (λ found. found ≡ led_numbers self.now.text.now target.now.columns (Some declared)) }
+            → IfOk result (λ found. found ≡ target_column_numbers self.now.text.now target.now.columns (Some declared)) }
     {
         match &target.columns {
             Some(columns) => self.numbers(&table.columns, columns.as_slice()),
@@ -70,14 +70,14 @@ impl Scope<'_> {
         requires { IsTargetOf (IsLexemeOf self.now.text.now) target.now }
         ensures { IfOk result (λ found. found ≡ reference_of self.now.text.now self.now.tables.now columns target.now) }
     {
-        match self.table_place(&target.table)? {
+        match self.table_number(&target.table)? {
             None => Ok(Reference {
                 columns,
                 table: 0,
                 targets: Seq::new(self.alloc),
             }),
             Some(table) => {
-                let targets = self.led(target, self.indexes.get(table as usize))?;
+                let targets = self.target_columns(target, self.indexes.get(table as usize))?;
                 Ok(Reference {
                     columns,
                     table,

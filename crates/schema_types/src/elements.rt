@@ -6,7 +6,7 @@ ghost use Rattle.schema_grammar.specs.declared.tree.ColumnRule.{ColumnRule};
 ghost use Rattle.schema_grammar.specs.declared.tree.Element.{Element};
 ghost use Rattle.schema_grammar.specs.Lexemes.{IsNameOf, IsColumnRuleOf, IsColumnOf, IsTableRuleOf, IsElementOf};
 ghost use Rattle.schema_types.specs.Declarations.{column_names, is_primary_rule};
-ghost use Rattle.schema_types.specs.Names.{when, each_told};
+ghost use Rattle.schema_types.specs.Names.{list_if, flat_map_with_all_earlier};
 ghost use Rattle.schema_types.specs.Offences.{is_primary, is_taken, rule_offences, column_offences, table_rule_offences, element_offences};
 ghost use Rattle.schema_types.specs.Finds.{Finds};
 ghost use Rattle.schema_types.specs.Validity.{upper_case};
@@ -70,10 +70,10 @@ impl Scope<'_> {
     }
 
     // Checks a column's rules. `keyed` says whether the table has a primary key before the column.
-    #[tactic(auto, using(crate::proofs::Told::told_none))]
+    #[tactic(auto, using(crate::proofs::EarlierChecks::told_none))]
     fn check_rules(&self, keyed: bool, rules: &[ColumnRule]) -> Result<(), SchemaError>
         requires { All (IsColumnRuleOf (IsLexemeOf self.now.text.now)) rules.now }
-        ensures { Finds result (each_told (rule_offences self.now.text.now self.now.tables.now keyed) rules.now) }
+        ensures { Finds result (flat_map_with_all_earlier (rule_offences self.now.text.now self.now.tables.now keyed) rules.now) }
     {
         let mut keyed_here = keyed;
         'rules: for rule in rules {
@@ -84,11 +84,11 @@ impl Scope<'_> {
     }
 
     /// Adds a name to the names that are taken. In ASCII upper case it has to differ from all of these.
-    #[tactic(auto, using(crate::proofs::Places::stands_in_is))]
+    #[tactic(auto, using(crate::proofs::NameIndexes::stands_in_is))]
     pub fn take_name(&self, taken: &mut NameList, token: &Lexeme) -> Result<(), SchemaError>
         requires { IsNameOf (IsLexemeOf self.now.text.now) token.now }
         ensures offence { (before : List (List ℕ)) → taken.old ≡ map upper_case before
-            → Finds result (when (is_taken (name_of self.now.text.now token.now) before) token.now.start) }
+            → Finds result (list_if (is_taken (name_of self.now.text.now token.now) before) token.now.start) }
         ensures added { OnOk result (taken.new ≡ taken.old ++ upper_case (name_of self.now.text.now token.now) ∷ []) }
     {
         let name = name(self.alloc, self.text, token)?;
@@ -169,14 +169,14 @@ impl Scope<'_> {
     }
 
     /// Checks the elements of a table with these columns.
-    #[tactic(auto, using(crate::proofs::Told::told_none))]
+    #[tactic(auto, using(crate::proofs::EarlierChecks::told_none))]
     pub fn check_elements(
         &self,
         declared: &NameList,
         elements: &[Element],
     ) -> Result<(), SchemaError>
         requires { All (IsElementOf (IsLexemeOf self.now.text.now)) elements.now }
-        ensures { Finds result (each_told (element_offences self.now.text.now self.now.tables.now declared.now) elements.now) }
+        ensures { Finds result (flat_map_with_all_earlier (element_offences self.now.text.now self.now.tables.now declared.now) elements.now) }
     {
         let mut taken = NameList::new(self.alloc);
         let mut keyed = false;

@@ -14,7 +14,7 @@ use sql_tokens::name;
 use std::alloc::Global;
 
 // Checks a column of a list, and adds its name to the names of the columns before it.
-#[tactic(auto, using(crate::proofs::Places::stands_in_is), unfolding(crate::specs::Offences::listed_offences))]
+#[tactic(auto, using(crate::proofs::NameIndexes::stands_in_is), unfolding(crate::specs::Offences::listed_offences))]
 fn check_listed(
     alloc: Global,
     text: &[u8],
@@ -38,7 +38,7 @@ fn check_listed(
 }
 
 /// Checks a list of columns of a table: the table declares each of them, and the list has no column twice.
-#[tactic(auto, using(crate::proofs::Told::told_none), unfolding(crate::specs::Offences::list_offences))]
+#[tactic(auto, using(crate::proofs::EarlierChecks::told_none), unfolding(crate::specs::Offences::list_offences))]
 pub fn check_list(
     alloc: Global,
     text: &[u8],

@@ -2,7 +2,7 @@
 ghost use Rattle.std.specs.Prelude.{◌≡◌, ℕ, List, [], ◌∷◌, ◌++◌, IfOk, OnOk, OnErr, length, map};
 ghost use Rattle.std.specs.HashMap.{get_by_text, IsUnchanged};
 ghost use Rattle.std.specs.Str.{bytes_eq};
-ghost use Rattle.schema_types.specs.Names.{place_of, or_last};
+ghost use Rattle.schema_types.specs.Names.{index_of_name, index_after_push};
 ghost use Rattle.schema_types.specs.Numbers.{number_of_name};
 
 use base_io::{NoMemory, Seq};
@@ -20,13 +20,13 @@ pub struct NameList {
 impl Model for NameList {
     ghost use Rattle.std.specs.Prelude.{ℕ, ◌≡◌, List, map, string_bytes};
     ghost use Rattle.std.specs.HashMap.{get_by_text};
-    ghost use Rattle.schema_types.specs.Names.{place_of};
+    ghost use Rattle.schema_types.specs.Names.{index_of_name};
 
     ghost Value = { List (List ℕ) };
 
     ghost view = { λ s. map string_bytes s.names.items };
 
-    ghost invariant = { λ s. (name : List ℕ) → get_by_text s.places name ≡ place_of (map string_bytes s.names.items) name };
+    ghost invariant = { λ s. (name : List ℕ) → get_by_text s.places name ≡ index_of_name (map string_bytes s.names.items) name };
 }
 
 // Notes the index of a name, if the name has no index yet.
@@ -37,7 +37,7 @@ fn note_place(
     place: u32,
 ) -> Result<(), NoMemory>
     ensures ok { OnOk result ((other : List ℕ)
-        → get_by_text places.new other ≡ or_last (get_by_text places.old other) place (bytes_eq other name.now)) }
+        → get_by_text places.new other ≡ index_after_push (get_by_text places.old other) place (bytes_eq other name.now)) }
     ensures err { OnErr result (IsUnchanged places.old places.new) }
 {
     if places.get(name).is_none() {
@@ -48,7 +48,7 @@ fn note_place(
 
 impl NameList {
     /// The empty list.
-    #[tactic(auto, unfolding(crate::specs::Names::place_of))]
+    #[tactic(auto, unfolding(crate::specs::Names::index_of_name))]
     pub fn new(alloc: Global) -> NameList
         ensures { result ≡ [] }
     {
@@ -60,7 +60,7 @@ impl NameList {
 
     /// The first index of a name, counted from 0.
     pub fn get(&self, name: &str) -> Option<u32>
-        ensures { result ≡ place_of self.now name.now }
+        ensures { result ≡ index_of_name self.now name.now }
     {
         self.places.get(name).copied()
     }

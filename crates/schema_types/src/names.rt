@@ -7,7 +7,7 @@ ghost use Rattle.schema_types.specs.Declarations.{table_names};
 ghost use Rattle.schema_types.specs.Index.{table_index};
 ghost use Rattle.schema_types.specs.Offences.{is_taken, table_offences, offences};
 ghost use Rattle.schema_types.specs.Finds.{Finds};
-ghost use Rattle.schema_types.specs.Names.{when};
+ghost use Rattle.schema_types.specs.Names.{list_if};
 ghost use Rattle.schema_types.specs.Validity.{upper_case, is_plain};
 
 use crate::SchemaError;
@@ -33,7 +33,7 @@ impl Scope<'_> {
         requires { IsNameOf (IsLexemeOf self.now.text.now) token.now }
         ensures offence { (before : List (List ℕ)) → taken.old ≡ map upper_case before
             → Finds result
-            (when (not (is_plain (name_of self.now.text.now token.now)) || is_taken (name_of self.now.text.now token.now) before)
+            (list_if (not (is_plain (name_of self.now.text.now token.now)) || is_taken (name_of self.now.text.now token.now) before)
             token.now.start) }
         ensures added { OnOk result (taken.new ≡ taken.old ++ upper_case (name_of self.now.text.now token.now) ∷ []) }
     {
@@ -63,7 +63,7 @@ impl Scope<'_> {
     }
 
     /// Checks all rules on names.
-    #[tactic(auto, using(crate::proofs::Told::told_none), unfolding(crate::specs::Offences::offences))]
+    #[tactic(auto, using(crate::proofs::EarlierChecks::told_none), unfolding(crate::specs::Offences::offences))]
     pub fn check_names(&self) -> Result<(), SchemaError>
         requires { All (IsTableOf (IsLexemeOf self.now.text.now)) self.now.tables.now }
         ensures { Finds result (offences self.now.text.now self.now.tables.now) }

@@ -4,9 +4,9 @@ ghost use Rattle.std.specs.List.{list_any, flat_map};
 ghost use Rattle.sql_tokens.specs.Words.{IsLexemeOf, name_of};
 ghost use Rattle.schema_grammar.specs.Lexemes.{IsNameOf, IsColumnOf, IsElementOf, IsTableOf};
 ghost use Rattle.schema_types.specs.Index.{table_index};
-ghost use Rattle.schema_types.specs.Names.{when};
-ghost use Rattle.schema_types.specs.Offences.{stands_in};
-ghost use Rattle.schema_types.specs.Refusals.{is_not_null, is_nullable, nullable_element, nullable_in, nullable_places};
+ghost use Rattle.schema_types.specs.Names.{list_if};
+ghost use Rattle.schema_types.specs.Offences.{is_one_of};
+ghost use Rattle.schema_types.specs.Refusals.{is_not_null, is_nullable, nullable_element, nullable_in, nullable_offsets};
 ghost use Rattle.schema_types.specs.Finds.{FindsNullable};
 
 use crate::SchemaError;
@@ -26,10 +26,10 @@ fn is_not_null(rules: &[ColumnRule]) -> bool
 
 impl Scope<'_> {
     // Whether a name is in a primary key, if there is one.
-    #[tactic(auto, using(crate::proofs::Places::stands_in_is))]
+    #[tactic(auto, using(crate::proofs::NameIndexes::stands_in_is))]
     fn is_in_key(&self, key: &Option<NameList>, token: &Lexeme) -> Result<bool, NoMemory>
         requires { IsNameOf (IsLexemeOf self.now.text.now) token.now }
-        ensures { IfOk result (λ found. found ≡ stands_in (name_of self.now.text.now token.now) (unwrap_or key.now [])) }
+        ensures { IfOk result (λ found. found ≡ is_one_of (name_of self.now.text.now token.now) (unwrap_or key.now [])) }
     {
         match key {
             None => Ok(false),
@@ -46,7 +46,7 @@ impl Scope<'_> {
         column: &ColumnNode,
     ) -> Result<(), SchemaError>
         requires { IsColumnOf (IsLexemeOf self.now.text.now) column.now }
-        ensures { FindsNullable result (when (is_nullable self.now.text.now (unwrap_or key.now []) column.now) column.now.name.start) }
+        ensures { FindsNullable result (list_if (is_nullable self.now.text.now (unwrap_or key.now []) column.now) column.now.name.start) }
     {
         if is_not_null(column.rules.as_slice()) {
             return Ok(());
@@ -99,10 +99,10 @@ impl Scope<'_> {
     }
 
     /// Checks all columns: no column may be null.
-    #[tactic(auto, unfolding(crate::specs::Refusals::nullable_places))]
+    #[tactic(auto, unfolding(crate::specs::Refusals::nullable_offsets))]
     pub fn check_nullability(&self) -> Result<(), SchemaError>
         requires { All (IsTableOf (IsLexemeOf self.now.text.now)) self.now.tables.now }
-        ensures { FindsNullable result (nullable_places self.now.text.now self.now.tables.now) }
+        ensures { FindsNullable result (nullable_offsets self.now.text.now self.now.tables.now) }
     {
         'tables: for (i, table) in self.tables.iter().enumerate() {
             self.check_table_null(table, self.indexes.get(i))?;

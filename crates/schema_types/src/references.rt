@@ -18,14 +18,14 @@ use schema_grammar::TargetNode;
 
 impl Scope<'_> {
     /// The table that a reference refers to: the first table that has the name in the reference.
-    #[tactic(auto, using(crate::proofs::Targets::no_target, crate::proofs::Targets::target_found, crate::proofs::Places::place_of_within))]
+    #[tactic(auto, using(crate::proofs::Targets::no_target, crate::proofs::Targets::target_found, crate::proofs::NameIndexes::place_of_within))]
     pub fn target(&self, target: &TargetNode) -> Result<Option<&TableIndex>, NoMemory>
         requires { IsTargetOf (IsLexemeOf self.now.text.now) target.now }
         ensures { IfOk result (λ found.
             option_copied found
             ≡ option_map (table_index self.now.text.now) (target_table self.now.text.now self.now.tables.now target.now)) }
     {
-        match self.table_place(&target.table)? {
+        match self.table_number(&target.table)? {
             None => Ok(None),
             Some(place) => Ok(Some(self.indexes.get(place as usize))),
         }
@@ -34,7 +34,7 @@ impl Scope<'_> {
     // Checks the columns that a reference refers to. `table` is the reference's target. The reference has `count` columns of its own, and must
     // refer to as many.
     #[tactic(auto, unfolding(crate::specs::Index::table_index))]
-    fn check_led(
+    fn check_target_columns(
         &self,
         count: usize,
         target: &TargetNode,
@@ -73,7 +73,7 @@ impl Scope<'_> {
             None => Err(SchemaError::Name {
                 at: target.table.start,
             }),
-            Some(table) => self.check_led(count, target, table),
+            Some(table) => self.check_target_columns(count, target, table),
         }
     }
 }

@@ -4,7 +4,7 @@ ghost use Rattle.sql_tokens.specs.Words.{IsLexemeOf, name_of};
 ghost use Rattle.schema_grammar.specs.Lexemes.{IsNameOf, IsTableOf};
 ghost use Rattle.schema_types.specs.Declarations.{table_names};
 ghost use Rattle.schema_types.specs.Index.{table_index};
-ghost use Rattle.schema_types.specs.Names.{place_of};
+ghost use Rattle.schema_types.specs.Names.{index_of_name};
 
 use crate::index::{TableIndex, index_table};
 use crate::name_list::NameList;
@@ -77,10 +77,10 @@ impl<'a> Scope<'a> {
     }
 
     /// The number of the table that a token names.
-    pub fn table_place(&self, token: &Lexeme) -> Result<Option<u32>, NoMemory>
+    pub fn table_number(&self, token: &Lexeme) -> Result<Option<u32>, NoMemory>
         requires { IsNameOf (IsLexemeOf self.now.text.now) token.now }
         ensures { IfOk result (λ place.
-            place ≡ place_of (table_names self.now.text.now self.now.tables.now) (name_of self.now.text.now token.now)) }
+            place ≡ index_of_name (table_names self.now.text.now self.now.tables.now) (name_of self.now.text.now token.now)) }
     {
         let name = name(self.alloc, self.text, token)?;
         Ok(self.names.get(name.as_str()))

@@ -8,8 +8,8 @@ use Rattle.std.proofs.lemmas.List.Elements.{Contains-append_cases, Contains-appe
 use Rattle.entry_sets.proofs.Listing.{in_front, in_none, in_rest, one_in}
 use Rattle.berge_tree.specs.declared.edges.Edge.{Edge}
 use Rattle.berge_tree.specs.Equalities.{AreApart, ClosesNoCycle, ClosesNoCycleAfter}
-use Rattle.join_graph.specs.Kept.{KeepsAfter, at_end, equalities_within, gone_round, joins_within, keeps, kept_in_order, kept_of}
-use Rattle.join_graph.proofs.Connecting.{one_kept, own_names}
+use Rattle.join_graph.specs.Kept.{KeepsAfter, at_end, equalities_within, rotated, joins_within, keeps, kept_in_order, kept_of}
+use Rattle.join_graph.proofs.Connecting.{one_kept, own_components}
 use Rattle.entry_sets.specs.Sets.{IsWithin}
 use Rattle.set_bounds.proofs.Listing.{joins_more}
 
@@ -65,13 +65,13 @@ closes_filtered p earlier fewer (e ∷ es) among h = elim (cases_Bool (p e)) [
 
 -- ---- an equality is moved to the end of the list
 
-abbrev turned : Bool → Bool → Bool
-turned true x = not x
-turned false x = x
+abbrev not_if : Bool → Bool → Bool
+not_if true x = not x
+not_if false x = x
 
-abbrev beside : Bool → Bool → Bool
-beside true b = b
-beside false b = not b
+abbrev agree : Bool → Bool → Bool
+agree true b = b
+agree false b = not b
 
 same_or_not : (a b : Bool) → (a ≡ b) ⊎ (a ≢ b)
 same_or_not true true = inl refl
@@ -79,7 +79,7 @@ same_or_not true false = inr (λ e. cc e)
 same_or_not false true = inr (λ e. cc e)
 same_or_not false false = inl refl
 
-comes_together : (p q x y : Bool) → p ≢ q → x ≢ y → turned (beside p q) x ≡ turned (beside q q) y
+comes_together : (p q x y : Bool) → p ≢ q → x ≢ y → not_if (agree p q) x ≡ not_if (agree q q) y
 comes_together true true x y h k = absurd (h refl)
 comes_together false false x y h k = absurd (h refl)
 comes_together true false true true h k = absurd (k refl)
@@ -91,7 +91,7 @@ comes_together false true false false h k = absurd (k refl)
 comes_together false true true false h k = refl
 comes_together false true false true h k = refl
 
-turned_back : (t x y : Bool) → turned t x ≡ turned t y → x ≡ y
+turned_back : (t x y : Bool) → not_if t x ≡ not_if t y → x ≡ y
 turned_back false x y e = e
 turned_back true true true e = refl
 turned_back true true false e = absurd (cc e)
@@ -108,16 +108,16 @@ still_apart earlier e f s t = elim (same_or_not (s.side f.left.entry) (s.side f.
       comes_together (t.side f.left.entry) (t.side f.right.entry) (s.side f.left.entry) (s.side f.right.entry) t.across differ,
       both_hold (Together s.side) (Together t.side) (Together side) (λ g one other. so g.left.entry g.right.entry one other) earlier s.together t.together.1,
     );
-    across = λ same. s.across (turned_back (beside (t.side e.left.entry) (t.side f.right.entry)) (s.side e.left.entry) (s.side e.right.entry)
-        (same ∙ ap (λ v. turned (beside v (t.side f.right.entry)) (s.side e.right.entry)) (sym t.together.0)));
+    across = λ same. s.across (turned_back (agree (t.side e.left.entry) (t.side f.right.entry)) (s.side e.left.entry) (s.side e.right.entry)
+        (same ∙ ap (λ v. not_if (agree v (t.side f.right.entry)) (s.side e.right.entry)) (sym t.together.0)));
   }
 ]
   where
     side : ℕ → Bool
-    side x = turned (beside (t.side x) (t.side f.right.entry)) (s.side x)
+    side x = not_if (agree (t.side x) (t.side f.right.entry)) (s.side x)
 
     so : (x y : ℕ) → s.side x ≡ s.side y → t.side x ≡ t.side y → side x ≡ side y
-    so x y one other = ap (λ v. turned (beside v (t.side f.right.entry)) (s.side x)) other ∙ ap (turned (beside (t.side y) (t.side f.right.entry))) one
+    so x y one other = ap (λ v. not_if (agree v (t.side f.right.entry)) (s.side x)) other ∙ ap (not_if (agree (t.side y) (t.side f.right.entry))) one
 
 abbrev pub onto : List Edge → List Edge → List Edge
 onto earlier [] = earlier
@@ -143,11 +143,11 @@ put_last earlier (f ∷ fs) e h s = (h.0, put_last (f ∷ earlier) fs e h.1 s)
 moved_last : (e : Edge) (es : List Edge) → ClosesNoCycle (e ∷ es) → ClosesNoCycle (es ++ e ∷ [])
 moved_last e es h = put_last [] es e (fewer_before (e ∷ []) [] es (λ f k. absurd (in_none f k)) h.1) (apart_last [] es e h.0 h.1)
 
-goes_round : (front behind : List Edge) → ClosesNoCycle (front ++ behind) → ClosesNoCycle (behind ++ front)
-goes_round [] behind h = subst ClosesNoCycle (sym (append-nil behind)) h
-goes_round (e ∷ front) behind h =
+rotates : (front behind : List Edge) → ClosesNoCycle (front ++ behind) → ClosesNoCycle (behind ++ front)
+rotates [] behind h = subst ClosesNoCycle (sym (append-nil behind)) h
+rotates (e ∷ front) behind h =
     subst ClosesNoCycle (append_assoc behind (e ∷ []) front)
-    (goes_round front (behind ++ e ∷ []) (subst ClosesNoCycle (append_assoc front behind (e ∷ [])) (moved_last e (front ++ behind) h)))
+    (rotates front (behind ++ e ∷ []) (subst ClosesNoCycle (append_assoc front behind (e ∷ [])) (moved_last e (front ++ behind) h)))
 
 -- ---- if equalities close no cycle, all of them are kept
 
@@ -156,17 +156,17 @@ all_kept earlier [] h = at_end earlier
 all_kept earlier (e ∷ es) h = keeps earlier e es es h.0 (all_kept (e ∷ earlier) es h.1)
 
 keeps_all : (es : List Edge) → ClosesNoCycle es → kept_in_order es ≡ es
-keeps_all es h = sym (one_kept (all_kept [] es h) (λ x. x) own_names)
+keeps_all es h = sym (one_kept (all_kept [] es h) (λ x. x) own_components)
 
-pub forest_kept : (es : List Edge) (subset turn : ℕ) → ClosesNoCycle (equalities_within subset es) → kept_of subset turn es ≡ gone_round turn (equalities_within subset es)
+pub forest_kept : (es : List Edge) (subset turn : ℕ) → ClosesNoCycle (equalities_within subset es) → kept_of subset turn es ≡ rotated turn (equalities_within subset es)
 forest_kept es subset turn h =
     let of_set : List Edge = equalities_within subset es in
-    keeps_all (gone_round turn of_set) (goes_round (take turn of_set) (drop turn of_set) (subst ClosesNoCycle (sym (take-append-drop turn of_set)) h))
+    keeps_all (rotated turn of_set) (rotates (take turn of_set) (drop turn of_set) (subst ClosesNoCycle (sym (take-append-drop turn of_set)) h))
 
-pub round_among : (turn : ℕ) (es : List Edge) → AreAmong (gone_round turn es) es
+pub round_among : (turn : ℕ) (es : List Edge) → AreAmong (rotated turn es) es
 round_among turn es e k = subst (λ (xs : List Edge). Contains xs e) (take-append-drop turn es) (other_order (drop turn es) (take turn es) e k)
 
-pub among_round : (turn : ℕ) (es : List Edge) → AreAmong es (gone_round turn es)
+pub among_round : (turn : ℕ) (es : List Edge) → AreAmong es (rotated turn es)
 among_round turn es e k = other_order (take turn es) (drop turn es) e (subst (λ (xs : List Edge). Contains xs e) (sym (take-append-drop turn es)) k)
 
 -- ---- fewer entries: the equalities within a smaller set close no cycle either

@@ -1,9 +1,9 @@
 pub mod Listing
-pub mod Telling
+pub mod SetBySet
 pub mod Forests
 pub mod SameTrees
 pub mod Parted
 pub mod Tested
-pub mod Classed
+pub mod ColumnClasses
 pub mod Skipping
 pub mod Within

@@ -22,7 +22,7 @@ use Rattle.tree_bounds.specs.TreeBounds.{EntryBounds, bound_of_tree, bound_of_tr
 use Rattle.tree_bounds.proofs.Turns.{closes, trees_are, trees_there}
 use Rattle.set_bounds.specs.Parts.{AreUnjoined, FallsInto}
 use Rattle.set_bounds.proofs.Forests.{AreAmong, all_in, among_round, each, forest_kept, forest_within, round_among, within_of}
-use Rattle.set_bounds.proofs.SameTrees.{Carries, classes_among, forest_set, places_where, tree_carries}
+use Rattle.set_bounds.proofs.SameTrees.{CarriesTrees, classes_among, forest_set, places_where, tree_carries}
 
 -- ---- filters
 
@@ -134,7 +134,7 @@ module _ (es : List Edge) (subset part : ℕ) (forest : ClosesNoCycle (equalitie
               let right : side f.right.entry ≡ false = sym (same_side f k) ∙ n in
               ap (λ b. cond b (key f.left.entry f.left.column) 0) n ∙ ap (λ b. cond b (key f.right.entry f.right.column) 0) (sym right)
 
-  carries : Carries (λ x. side x ≡ true) kept_whole kept_part
+  carries : CarriesTrees (λ x. side x ≡ true) kept_whole kept_part
   carries = record {
     places_to = λ q k. places_where kept_part kept_whole q (λ e h at. part_of_whole e h) k;
     places_from = λ q own k. places_where kept_whole kept_part q (λ e h at. whole_in_part e h (left_side e h q own at)) k;

@@ -23,13 +23,13 @@ use Rattle.set_bounds.proofs.Forests.{AreAmong, all_among, all_in, among_round, 
 
 -- for the entries that have Q, es and fs name the same columns and make the same classes. For other entries, each column that fs names is
 -- also named by es
-pub record Carries (Q : ℕ → Type 0) (es fs : List Edge) : Type 0 where
+pub record CarriesTrees (Q : ℕ → Type 0) (es fs : List Edge) : Type 0 where
   pub places_to : (q : Place) → Contains (places_of fs) q → Contains (places_of es) q
   pub places_from : (q : Place) → Q q.entry → Contains (places_of es) q → Contains (places_of fs) q
   pub class_to : (p q : Place) → Q p.entry → class_of fs p ≡ class_of fs q → class_of es p ≡ class_of es q
   pub class_from : (p q : Place) → Q p.entry → class_of es p ≡ class_of es q → class_of fs p ≡ class_of fs q
 
-module _ (Q : ℕ → Type 0) (es fs : List Edge) (c : Carries Q es fs) where
+module _ (Q : ℕ → Type 0) (es fs : List Edge) (c : CarriesTrees Q es fs) where
   columns_carry : (entry : ℕ) (above : Option ℕ) (xs : List ℕ) → Q entry → AreItsColumns es entry above xs → AreItsColumns fs entry above xs
   columns_carry entry above xs q h = record {
     ascending = h.ascending;
@@ -104,7 +104,7 @@ pub classes_among : (xs ys : List Edge) → AreAmong xs ys → (p q : Place) →
 classes_among xs ys among p q e =
     class_of-joined ys p q (λ key all. joined xs p q e key (all_among (λ f. key f.left.entry f.left.column ≡ key f.right.entry f.right.column) xs ys among all))
 
-alike : (es fs : List Edge) → AreAmong es fs → AreAmong fs es → Carries (λ x. ⊤) es fs
+alike : (es fs : List Edge) → AreAmong es fs → AreAmong fs es → CarriesTrees (λ x. ⊤) es fs
 alike es fs there back = record {
   places_to = λ q k. places_where fs es q (λ e h at. back e h) k;
   places_from = λ q any k. places_where es fs q (λ e h at. there e h) k;
@@ -112,7 +112,7 @@ alike es fs there back = record {
   class_from = λ p q any e. classes_among es fs there p q e;
 }
 
-pub all_trees_carry : (es fs : List Edge) (set : List ℕ) (ts : List BergeTree) → Carries (λ x. ⊤) es fs → AreAllTreesOf es set ts → AreAllTreesOf fs set ts
+pub all_trees_carry : (es fs : List Edge) (set : List ℕ) (ts : List BergeTree) → CarriesTrees (λ x. ⊤) es fs → AreAllTreesOf es set ts → AreAllTreesOf fs set ts
 all_trees_carry es fs set ts c h = record {
   trees = for_trees (IsTreeOf es) (IsTreeOf fs) (λ t is. tree_carries (λ x. ⊤) es fs c t (all_in (λ x. ⊤) (entries t) (λ x k. tt)) is) ts h.trees;
   ascending = h.ascending;
@@ -123,7 +123,7 @@ all_trees_carry es fs set ts c h = record {
 
 -- ---- turns that keep equalities with the same classes have the same trees
 
-pub same_trees : (es : List Edge) (subset turn other : ℕ) → Carries (λ x. ⊤) (kept_of subset turn es) (kept_of subset other es)
+pub same_trees : (es : List Edge) (subset turn other : ℕ) → CarriesTrees (λ x. ⊤) (kept_of subset turn es) (kept_of subset other es)
     → trees_of (kept_of subset turn es) subset ≡ trees_of (kept_of subset other es) subset
 same_trees es subset turn other c =
     trees_are es subset other (trees_of (kept_of subset turn es) subset)

@@ -7,7 +7,7 @@ use Rattle.join_graph.specs.Kept.{kept_of}
 use Rattle.tree_bounds.specs.SetBounds.{bound_of_turn, least_to}
 use Rattle.tree_bounds.specs.TreeBounds.{EntryBounds, bound_of_trees}
 use Rattle.tree_bounds.proofs.Turns.{closes, least_to-le}
-use Rattle.set_bounds.specs.Alike.{AreAlike, AreOfTurnsBefore, IsLikeEarlier, IsOfTurnBefore, least_told}
+use Rattle.set_bounds.specs.Alike.{AreAlike, AreOfTurnsBefore, IsLikeEarlier, IsOfTurnBefore, least_in_128_bits}
 use Rattle.set_bounds.proofs.SameTrees.{alike_trees}
 
 -- ---- the least bound
@@ -16,12 +16,12 @@ least_same : (f : ℕ → ℕ) (n k : ℕ) → k ≤ n → f k ≡ f (suc n) →
 least_same f n k low same = omega (arith, least_to-le f n k low, same)
 
 module _ (b : EntryBounds) (es : List Edge) (subset : ℕ) where
-  pub skipped : (turn least : ℕ) → 0 < turn → least ≡ least_told b es subset (turn - 1) → IsLikeEarlier es subset turn → least ≡ least_told b es subset turn
+  pub skipped : (turn least : ℕ) → 0 < turn → least ≡ least_in_128_bits b es subset (turn - 1) → IsLikeEarlier es subset turn → least ≡ least_in_128_bits b es subset turn
   skipped zero least some before like = absurd (omega arith)
   skipped (suc k) least some before like =
       let earlier : suc k - 1 ≡ k = omega arith in
       let same : bound_of_turn b es subset like.earlier ≡ bound_of_turn b es subset (suc k) = ap (bound_of_trees b) (alike_trees es subset like.earlier (suc k) like.alike) in
-      before ∙ ap (least_told b es subset) earlier
+      before ∙ ap (least_in_128_bits b es subset) earlier
       ∙ sym (ap saturated (least_same (bound_of_turn b es subset) k like.earlier (omega (arith, like.before)) same))
 
 -- ---- turns that were folded

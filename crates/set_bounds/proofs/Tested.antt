@@ -11,12 +11,12 @@ use Rattle.degree_sequences.specs.Saturation.{saturated}
 use Rattle.entry_sets.specs.Sets.{has_entry}
 use Rattle.berge_tree.specs.declared.edges.Edge.{Edge}
 use Rattle.berge_tree.specs.Equalities.{ClosesNoCycle}
-use Rattle.berge_tree.specs.Testing.{joined_parts}
+use Rattle.berge_tree.specs.Testing.{merged_components}
 use Rattle.join_graph.specs.Kept.{equalities_within, joins_within, kept_by_names, kept_of}
 use Rattle.tree_bounds.specs.SetBounds.{bound_of_set}
 use Rattle.tree_bounds.specs.TreeBounds.{EntryBounds}
-use Rattle.set_bounds.specs.AllSets.{bound_told, bounds_below}
-use Rattle.set_bounds.specs.Parts.{LooksAtParts, AreUnjoined, FallsInto, crosses, some_cross}
+use Rattle.set_bounds.specs.AllSets.{bound_in_128_bits, bounds_below}
+use Rattle.set_bounds.specs.Parts.{DependsOnPartsOnly, AreUnjoined, FallsInto, crosses, some_cross}
 use Rattle.set_bounds.proofs.Parted.{parts_multiply}
 
 -- ---- if a turn keeps as many equalities as the set has, they close no cycle
@@ -25,7 +25,7 @@ kept_fewer : (name : ℕ → ℕ) (es : List Edge) → length (kept_by_names nam
 kept_fewer name [] = omega arith
 kept_fewer name (e ∷ es) = elim (cases_Bool (eqb (name e.left.entry) (name e.right.entry))) [
   | inl t ↦ rw t (omega (arith, kept_fewer name es))
-  | inr n ↦ rw n (omega (arith, kept_fewer (joined_parts name e.left.entry e.right.entry) es))
+  | inr n ↦ rw n (omega (arith, kept_fewer (merged_components name e.left.entry e.right.entry) es))
 ]
 
 kept_step : (name : ℕ → ℕ) (e : Edge) (es : List Edge)
@@ -35,8 +35,8 @@ kept_step name e es later true u same =
     let shorter : length (kept_by_names name es) ≡ suc (length es) = rw u at same in
     absurd (omega (arith, shorter, kept_fewer name es))
 kept_step name e es later false u same =
-    let rest : suc (length (kept_by_names (joined_parts name e.left.entry e.right.entry) es)) ≡ suc (length es) = rw u at same in
-    rw u (ap (λ (s : List Edge). e ∷ s) (later (joined_parts name e.left.entry e.right.entry) (omega (arith, rest))))
+    let rest : suc (length (kept_by_names (merged_components name e.left.entry e.right.entry) es)) ≡ suc (length es) = rw u at same in
+    rw u (ap (λ (s : List Edge). e ∷ s) (later (merged_components name e.left.entry e.right.entry) (omega (arith, rest))))
 
 kept_every : (name : ℕ → ℕ) (es : List Edge) → length (kept_by_names name es) ≡ length es → kept_by_names name es ≡ es
 kept_every name [] same = refl
@@ -87,19 +87,19 @@ rest_has set part entry fits = elim (cases_Bool (ltb entry 16)) [
 -- ---- the bound of a set as the product of the bounds that were found for its parts
 
 module _ (b : ℕ → EntryBounds) (es : List Edge) where
-  told_below : (k subset : ℕ) (told : List ℕ) → told ≡ bounds_below b es k → subset < k → get_or told subset 0 ≡ bound_told (b subset) es subset
+  told_below : (k subset : ℕ) (told : List ℕ) → told ≡ bounds_below b es k → subset < k → get_or told subset 0 ≡ bound_in_128_bits (b subset) es subset
   told_below k subset told is low =
-      ap (λ (s : List ℕ). get_or s subset 0) is ∙ get_or-map-range_with_len (λ (set : ℕ). bound_told (b set) es set) 0 k subset subset 0 low (omega arith)
+      ap (λ (s : List ℕ). get_or s subset 0) is ∙ get_or-map-range_with_len (λ (set : ℕ). bound_in_128_bits (b set) es set) 0 k subset subset 0 low (omega arith)
 
   pub told_length : (k : ℕ) (told : List ℕ) → told ≡ bounds_below b es k → length told ≡ k
-  told_length k told is = ap length is ∙ length-map-range_with_len (λ (set : ℕ). bound_told (b set) es set) 0 k
+  told_length k told is = ap length is ∙ length-map-range_with_len (λ (set : ℕ). bound_in_128_bits (b set) es set) 0 k
 
-  pub product_told : (subset part rest own others : ℕ) (told : List ℕ) → ClosesNoCycle (equalities_within subset es) → FallsInto es subset part rest → LooksAtParts b es
+  pub product_told : (subset part rest own others : ℕ) (told : List ℕ) → ClosesNoCycle (equalities_within subset es) → FallsInto es subset part rest → DependsOnPartsOnly b es
       → told ≡ bounds_below b es subset → part < subset → rest < subset → own ≡ get_or told part 0 → others ≡ get_or told rest 0
-      → min (own * others) (2 ^ 128 - 1) ≡ bound_told (b subset) es subset
+      → min (own * others) (2 ^ 128 - 1) ≡ bound_in_128_bits (b subset) es subset
   product_told subset part rest own others told forest falls looks is low high own_is others_is =
       let parts = looks subset part rest falls in
       ap (λ m. saturated (m * others)) (own_is ∙ told_below subset part told is low ∙ parts.0)
-      ∙ ap (λ m. saturated (bound_told (b subset) es part * m)) (others_is ∙ told_below subset rest told is high ∙ parts.1)
+      ∙ ap (λ m. saturated (bound_in_128_bits (b subset) es part * m)) (others_is ∙ told_below subset rest told is high ∙ parts.1)
       ∙ saturated-mul (bound_of_set (b subset) es part) (bound_of_set (b subset) es rest)
       ∙ ap saturated (sym (parts_multiply (b subset) es subset part rest forest falls))

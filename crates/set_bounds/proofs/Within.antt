@@ -4,14 +4,14 @@ use Rattle.std.specs.Prelude.{IsSome}
 use Rattle.std.proofs.lemmas.Bool.{cases_Bool}
 use Rattle.degree_sequences.specs.Saturation.{saturated}
 use Rattle.berge_tree.specs.declared.edges.Edge.{Edge}
-use Rattle.join_graph.specs.Kept.{equalities_within, gone_round, joins_within, kept_in_order}
+use Rattle.join_graph.specs.Kept.{equalities_within, rotated, joins_within, kept_in_order}
 use Rattle.tree_bounds.specs.Columns.{EachNamedColumn}
 use Rattle.tree_bounds.specs.SetBounds.{least_to, trees_of}
 use Rattle.tree_bounds.specs.TreeBounds.{EntryBounds, bound_of_trees}
 use Rattle.bound_fold.specs.declared.lists.EntryLists.{EntryLists}
 use Rattle.bound_fold.specs.Lists.{list_of}
-use Rattle.bound_fold.specs.Sets.{SetIsListed}
-use Rattle.set_bounds.specs.AllSets.{bound_told}
+use Rattle.bound_fold.specs.Sets.{SetHasBounds}
+use Rattle.set_bounds.specs.AllSets.{bound_in_128_bits}
 
 within_twice : (subset : ℕ) (es : List Edge) → equalities_within subset (equalities_within subset es) ≡ equalities_within subset es
 within_twice subset [] = refl
@@ -20,7 +20,7 @@ within_twice subset (e ∷ es) = elim (cases_Bool (joins_within subset e)) [
   | inr n ↦ rw n (within_twice subset es)
 ]
 
-pub own_listed : (lists : EntryLists) (es own : List Edge) (subset : ℕ) → own ≡ equalities_within subset es → SetIsListed lists es subset → SetIsListed lists own subset
+pub own_listed : (lists : EntryLists) (es own : List Edge) (subset : ℕ) → own ≡ equalities_within subset es → SetHasBounds lists es subset → SetHasBounds lists own subset
 own_listed lists es own subset is h =
     let same : equalities_within subset es ≡ equalities_within subset own = sym (ap (equalities_within subset) is ∙ within_twice subset es) in
     record {
@@ -28,7 +28,7 @@ own_listed lists es own subset is h =
       columns = subst (EachNamedColumn (λ entry column. IsSome (list_of lists entry column))) same h.columns;
     }
 
-pub own_bound : (b : EntryBounds) (es own : List Edge) (subset : ℕ) → own ≡ equalities_within subset es → bound_told b own subset ≡ bound_told b es subset
+pub own_bound : (b : EntryBounds) (es own : List Edge) (subset : ℕ) → own ≡ equalities_within subset es → bound_in_128_bits b own subset ≡ bound_in_128_bits b es subset
 own_bound b es own subset is =
-    ap (λ (within : List Edge). saturated (least_to (λ turn. bound_of_trees b (trees_of (kept_in_order (gone_round turn within)) subset)) (max (min (length within) 16) 1 - 1)))
+    ap (λ (within : List Edge). saturated (least_to (λ turn. bound_of_trees b (trees_of (kept_in_order (rotated turn within)) subset)) (max (min (length within) 16) 1 - 1)))
     (ap (equalities_within subset) is ∙ within_twice subset es)

@@ -36,5 +36,5 @@ pub record IsLikeEarlier (es : List Edge) (subset turn : ℕ) : Type 0 where
   pub alike : AreAlike (kept_of subset earlier es) (kept_of subset turn es)
 
 -- the least bound of the turns from 0 to `turn`, or 2^128 - 1 if it is larger
-abbrev pub least_told : EntryBounds → List Edge → ℕ → ℕ → ℕ
-least_told b es subset turn = saturated (least_to (bound_of_turn b es subset) turn)
+abbrev pub least_in_128_bits : EntryBounds → List Edge → ℕ → ℕ → ℕ
+least_in_128_bits b es subset turn = saturated (least_to (bound_of_turn b es subset) turn)

@@ -11,12 +11,12 @@ abbrev pub first_entries : ℕ → ℕ
 first_entries n = 2 ^ n - 1
 
 -- the bound of a set, or 2^128 - 1 if it is larger
-abbrev pub bound_told : EntryBounds → List Edge → ℕ → ℕ
-bound_told b es subset = saturated (bound_of_set b es subset)
+abbrev pub bound_in_128_bits : EntryBounds → List Edge → ℕ → ℕ
+bound_in_128_bits b es subset = saturated (bound_of_set b es subset)
 
 -- the bounds of all sets whose numbers are below k. What is known of the entries (`b`) may depend on the set in which they are joined
 abbrev pub bounds_below : (ℕ → EntryBounds) → List Edge → ℕ → List ℕ
-bounds_below b es k = map (λ subset. bound_told (b subset) es subset) (range_with_len 0 k)
+bounds_below b es k = map (λ subset. bound_in_128_bits (b subset) es subset) (range_with_len 0 k)
 
 -- the bounds of all sets of the first n entries, each at the index whose bits are the set's entries
 abbrev pub bounds_in_sets : (ℕ → EntryBounds) → List Edge → ℕ → List ℕ

@@ -5,7 +5,7 @@ use Rattle.entry_sets.specs.Sets.{IsWithin, has_entry}
 use Rattle.berge_tree.specs.declared.edges.Edge.{Edge}
 use Rattle.join_graph.specs.Kept.{equalities_within, joins_within}
 use Rattle.tree_bounds.specs.TreeBounds.{EntryBounds}
-use Rattle.set_bounds.specs.AllSets.{bound_told}
+use Rattle.set_bounds.specs.AllSets.{bound_in_128_bits}
 
 -- no equality of the set joins an entry of the part with an entry outside the part
 abbrev pub AreUnjoined : List Edge → ℕ → ℕ → Type 0
@@ -19,9 +19,9 @@ pub record FallsInto (es : List Edge) (subset part rest : ℕ) : Type 0 where
 
 -- what is known of the entries of a part doesn't depend on the rest of the set. So the bound of a part is the same, whether it is computed
 -- from what is known in the set or from what is known in the part alone. The same is true of the bound of the rest
-abbrev pub LooksAtParts : (ℕ → EntryBounds) → List Edge → Type 0
-LooksAtParts b es = (subset part rest : ℕ) → FallsInto es subset part rest
-    → (bound_told (b part) es part ≡ bound_told (b subset) es part) × (bound_told (b rest) es rest ≡ bound_told (b subset) es rest)
+abbrev pub DependsOnPartsOnly : (ℕ → EntryBounds) → List Edge → Type 0
+DependsOnPartsOnly b es = (subset part rest : ℕ) → FallsInto es subset part rest
+    → (bound_in_128_bits (b part) es part ≡ bound_in_128_bits (b subset) es part) × (bound_in_128_bits (b rest) es rest ≡ bound_in_128_bits (b subset) es rest)
 
 -- ---- the tests for this
 

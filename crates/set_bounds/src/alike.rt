@@ -6,10 +6,10 @@ ghost use Rattle.berge_tree.specs.Equalities.{ClosesNoCycle};
 ghost use Rattle.join_graph.specs.Kept.{kept_of};
 ghost use Rattle.set_bounds.specs.Alike.{AreAlike, AreInOneClass, AreOfTurnsBefore, IsLikeEarlier};
 
-use berge_tree::{Classed, Edge};
+use berge_tree::{ColumnClasses, Edge};
 
 // True only if the two columns of each equality of `edges` are in one class of the equalities `others`.
-fn are_in_classes(others: &Classed, edges: &[Edge]) -> bool
+fn are_in_classes(others: &ColumnClasses, edges: &[Edge]) -> bool
     ensures { result ≡ true → AllByRecursion (AreInOneClass others.now) edges.now }
 {
     for edge in edges {
@@ -20,14 +20,14 @@ fn are_in_classes(others: &Classed, edges: &[Edge]) -> bool
     true
 }
 
-fn are_alike(a: &Classed, b: &Classed) -> bool
+fn are_alike(a: &ColumnClasses, b: &ColumnClasses) -> bool
     ensures { result ≡ true → ClosesNoCycle a.now → ClosesNoCycle b.now → AreAlike a.now b.now }
 {
     are_in_classes(a, b.edges()) && are_in_classes(b, a.edges())
 }
 
 /// If the answer is true, the turn that keeps `kept` is like an earlier turn whose bound was computed. If the answer is false, nothing is promised.
-pub(crate) fn is_like_earlier(kept: &Classed, folded: &[Classed]) -> bool
+pub(crate) fn is_like_earlier(kept: &ColumnClasses, folded: &[ColumnClasses]) -> bool
     ensures { result ≡ true → (es : List Edge) → (subset turn : ℕ) → kept.now ≡ kept_of subset turn es
         → AreOfTurnsBefore es subset turn folded.now → IsLikeEarlier es subset turn }
 {

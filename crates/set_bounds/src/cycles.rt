@@ -3,13 +3,13 @@
 ghost use Rattle.std.specs.Prelude.{◌≡◌, ◌+◌, ◌-◌, ◌<◌, IfOk};
 ghost use Rattle.join_graph.specs.Kept.{equalities_within, kept_of};
 ghost use Rattle.bound_fold.specs.Lists.{bounds_of};
-ghost use Rattle.bound_fold.specs.Sets.{SetIsListed};
-ghost use Rattle.set_bounds.specs.Alike.{AreOfTurnsBefore, least_told};
-ghost use Rattle.set_bounds.specs.AllSets.{bound_told};
+ghost use Rattle.bound_fold.specs.Sets.{SetHasBounds};
+ghost use Rattle.set_bounds.specs.Alike.{AreOfTurnsBefore, least_in_128_bits};
+ghost use Rattle.set_bounds.specs.AllSets.{bound_in_128_bits};
 
 use crate::alike::is_like_earlier;
 use base_io::{NoMemory, Seq};
-use berge_tree::{Classed, Edge};
+use berge_tree::{ColumnClasses, Edge};
 use bound_fold::{EntryLists, turn_bound};
 use entry_sets::EntrySet;
 use join_graph::{Parts, joins_within, kept, turns};
@@ -21,11 +21,11 @@ fn classed_turn(
     parts: &Parts,
     subset: EntrySet,
     turn: u32,
-) -> Result<Classed, NoMemory>
+) -> Result<ColumnClasses, NoMemory>
     ensures { IfOk result (λ classed. classed ≡ kept_of subset turn parts.now.equalities) }
 {
     let edges = kept(alloc, parts, subset, turn)?;
-    Classed::new(alloc, edges)
+    ColumnClasses::new(alloc, edges)
 }
 
 // The least bound over the turns from 0 to `turn`. `least` is the least bound over the turns before `turn`. A turn that is like an earlier turn isn't
@@ -37,13 +37,13 @@ fn least_with(
     subset: EntrySet,
     turn: u32,
     least: u128,
-    folded: &mut Vec<Classed>,
+    folded: &mut Vec<ColumnClasses>,
 ) -> Result<u128, NoMemory>
-    requires listed { SetIsListed lists.now parts.now.equalities subset }
+    requires listed { SetHasBounds lists.now parts.now.equalities subset }
     requires turn { 0 < turn }
-    requires least { least ≡ least_told (bounds_of lists.now) parts.now.equalities subset (turn - 1) }
+    requires least { least ≡ least_in_128_bits (bounds_of lists.now) parts.now.equalities subset (turn - 1) }
     requires folded { AreOfTurnsBefore parts.now.equalities subset turn folded.old.items }
-    ensures least { IfOk result (λ n. n ≡ least_told (bounds_of lists.now) parts.now.equalities subset turn) }
+    ensures least { IfOk result (λ n. n ≡ least_in_128_bits (bounds_of lists.now) parts.now.equalities subset turn) }
     ensures folded { IfOk result (λ _. AreOfTurnsBefore parts.now.equalities subset (turn + 1) folded.new.items) }
 {
     let classed = classed_turn(alloc, parts, subset, turn)?;
@@ -62,8 +62,8 @@ fn least_of_turns(
     lists: &EntryLists,
     subset: EntrySet,
 ) -> Result<u128, NoMemory>
-    requires listed { SetIsListed lists.now parts.now.equalities subset }
-    ensures { IfOk result (λ n. n ≡ bound_told (bounds_of lists.now) parts.now.equalities subset) }
+    requires listed { SetHasBounds lists.now parts.now.equalities subset }
+    ensures { IfOk result (λ n. n ≡ bound_in_128_bits (bounds_of lists.now) parts.now.equalities subset) }
 {
     let mut least = turn_bound(alloc, parts, subset, 0, lists)?;
     let first = classed_turn(alloc, parts, subset, 0)?;
@@ -103,8 +103,8 @@ pub(crate) fn cyclic_bound(
     lists: &EntryLists,
     subset: EntrySet,
 ) -> Result<u128, NoMemory>
-    requires listed { SetIsListed lists.now parts.now.equalities subset }
-    ensures { IfOk result (λ n. n ≡ bound_told (bounds_of lists.now) parts.now.equalities subset) }
+    requires listed { SetHasBounds lists.now parts.now.equalities subset }
+    ensures { IfOk result (λ n. n ≡ bound_in_128_bits (bounds_of lists.now) parts.now.equalities subset) }
 {
     let own = only_within(alloc, parts, subset)?;
     let bound = least_of_turns(alloc, &own, lists, subset)?;

@@ -8,9 +8,9 @@ ghost use Rattle.entry_sets.specs.Sets.{entries_of_set};
 ghost use Rattle.join_graph.specs.Kept.{equalities_within};
 ghost use Rattle.tree_bounds.specs.Tables.{KeyedTables, ChoicesAreDifferent, Satisfies, SetDominates};
 ghost use Rattle.bound_fold.specs.Lists.{bounds_of};
-ghost use Rattle.bound_fold.specs.Sets.{SetIsListed};
+ghost use Rattle.bound_fold.specs.Sets.{SetHasBounds};
 ghost use Rattle.set_bounds.specs.AllSets.{bounds_in_sets as told_in_sets, bounds_of_sets as bounds_told, first_entries};
-ghost use Rattle.set_bounds.specs.Parts.{LooksAtParts};
+ghost use Rattle.set_bounds.specs.Parts.{DependsOnPartsOnly};
 
 use crate::in_sets::KnownInSets;
 use crate::one_set::next_bound;
@@ -35,7 +35,7 @@ pub fn bounds_in_sets<K: KnownInSets>(
 ) -> Result<Seq<u128>, NoMemory>
     requires few { count ≤ most_entries }
     requires listed { (subset : ℕ) → subset < 2 ^ count → K.is_listed lists.now parts.now.equalities subset }
-    requires looks { LooksAtParts (K.known lists.now) parts.now.equalities }
+    requires looks { DependsOnPartsOnly (K.known lists.now) parts.now.equalities }
     ensures { IfOk result (λ bounds. bounds ≡ told_in_sets (K.known lists.now) parts.now.equalities count) }
 {
     let all = EntrySet::from_bits((1u16 << count) - 1);
@@ -58,7 +58,7 @@ pub fn bounds_of_sets(
     count: u8,
 ) -> Result<Seq<u128>, NoMemory>
     requires few { count ≤ most_entries }
-    requires listed { SetIsListed lists.now parts.now.equalities (first_entries count) }
+    requires listed { SetHasBounds lists.now parts.now.equalities (first_entries count) }
     ensures exact { IfOk result (λ bounds. bounds ≡ bounds_told (bounds_of lists.now) parts.now.equalities count) }
     ensures never_under { IfOk result (λ bounds. (subset : ℕ) → subset < 2 ^ count
         → (tables : KeyedTables) → SetDominates (bounds_of lists.now) tables parts.now.equalities subset

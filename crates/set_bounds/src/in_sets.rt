@@ -5,8 +5,8 @@ ghost use Rattle.berge_tree.specs.Equalities.{ClosesNoCycle};
 ghost use Rattle.join_graph.specs.Kept.{equalities_within};
 ghost use Rattle.tree_bounds.specs.TreeBounds.{EntryBounds};
 ghost use Rattle.bound_fold.specs.Lists.{bounds_of};
-ghost use Rattle.bound_fold.specs.Sets.{SetIsListed};
-ghost use Rattle.set_bounds.specs.AllSets.{bound_told, in_every_set};
+ghost use Rattle.bound_fold.specs.Sets.{SetHasBounds};
+ghost use Rattle.set_bounds.specs.AllSets.{bound_in_128_bits, in_every_set};
 
 use crate::cycles::cyclic_bound;
 use base_io::NoMemory;
@@ -33,7 +33,7 @@ pub trait KnownInSets {
     ) -> Result<u128, NoMemory>
         requires listed { is_listed self.now parts.now.equalities subset }
         requires forest { forest ≡ true → ClosesNoCycle (equalities_within subset parts.now.equalities) }
-        ensures { IfOk result (λ n. n ≡ bound_told (known self.now subset) parts.now.equalities subset) };
+        ensures { IfOk result (λ n. n ≡ bound_in_128_bits (known self.now subset) parts.now.equalities subset) };
 }
 
 /// The bound of a set by folds of its trees, or `u128::MAX` if the bound is larger. If the equalities of the set close no cycle (`forest`), all turns
@@ -45,9 +45,9 @@ pub fn folded_bound(
     subset: EntrySet,
     forest: bool,
 ) -> Result<u128, NoMemory>
-    requires listed { SetIsListed lists.now parts.now.equalities subset }
+    requires listed { SetHasBounds lists.now parts.now.equalities subset }
     requires forest { forest ≡ true → ClosesNoCycle (equalities_within subset parts.now.equalities) }
-    ensures { IfOk result (λ n. n ≡ bound_told (bounds_of lists.now) parts.now.equalities subset) }
+    ensures { IfOk result (λ n. n ≡ bound_in_128_bits (bounds_of lists.now) parts.now.equalities subset) }
 {
     if forest {
         let bound = turn_bound(alloc, parts, subset, 0, lists)?;
@@ -61,7 +61,7 @@ pub fn folded_bound(
 impl KnownInSets for EntryLists {
     ghost known = { λ lists. in_every_set (bounds_of lists) };
 
-    ghost is_listed = { SetIsListed };
+    ghost is_listed = { SetHasBounds };
 
     fn folded(
         &self,

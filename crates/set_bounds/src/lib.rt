@@ -5,7 +5,7 @@
 //! whose bits are the set's entries.
 //!
 //! Callers cite `bounds_in_sets` for the bounds, or `bounds_of_sets` if row bounds and lists are the same in every set. For
-//! `bounds_of_sets` they show `SetIsListed` of bound_fold, for the set of all entries.
+//! `bounds_of_sets` they show `SetHasBounds` of bound_fold, for the set of all entries.
 #![tactic(auto)]
 
 mod alike;

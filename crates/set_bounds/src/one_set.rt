@@ -2,8 +2,8 @@
 ghost use Rattle.std.specs.Prelude.{◌≡◌, IfOk, true};
 ghost use Rattle.berge_tree.specs.Equalities.{ClosesNoCycle};
 ghost use Rattle.join_graph.specs.Kept.{equalities_within};
-ghost use Rattle.set_bounds.specs.AllSets.{bound_told, bounds_below};
-ghost use Rattle.set_bounds.specs.Parts.{LooksAtParts};
+ghost use Rattle.set_bounds.specs.AllSets.{bound_in_128_bits, bounds_below};
+ghost use Rattle.set_bounds.specs.Parts.{DependsOnPartsOnly};
 
 use crate::in_sets::KnownInSets;
 use crate::parts::{falls_into, first_part, is_forest, rest_of};
@@ -23,9 +23,9 @@ fn forest_bound<K: KnownInSets>(
 ) -> Result<u128, NoMemory>
     requires forest { ClosesNoCycle (equalities_within subset parts.now.equalities) }
     requires listed { K.is_listed lists.now parts.now.equalities subset }
-    requires looks { LooksAtParts (K.known lists.now) parts.now.equalities }
+    requires looks { DependsOnPartsOnly (K.known lists.now) parts.now.equalities }
     requires smaller { smaller.now ≡ bounds_below (K.known lists.now) parts.now.equalities subset }
-    ensures { IfOk result (λ n. n ≡ bound_told (K.known lists.now subset) parts.now.equalities subset) }
+    ensures { IfOk result (λ n. n ≡ bound_in_128_bits (K.known lists.now subset) parts.now.equalities subset) }
 {
     let edges = parts.equalities.as_slice();
     let part = first_part(edges, subset);
@@ -66,9 +66,9 @@ pub(crate) fn next_bound<K: KnownInSets>(
 ) -> Result<u128, NoMemory>
     requires whole { whole ≡ true → ClosesNoCycle (equalities_within subset parts.now.equalities) }
     requires listed { K.is_listed lists.now parts.now.equalities subset }
-    requires looks { LooksAtParts (K.known lists.now) parts.now.equalities }
+    requires looks { DependsOnPartsOnly (K.known lists.now) parts.now.equalities }
     requires smaller { smaller.now ≡ bounds_below (K.known lists.now) parts.now.equalities subset }
-    ensures { IfOk result (λ n. n ≡ bound_told (K.known lists.now subset) parts.now.equalities subset) }
+    ensures { IfOk result (λ n. n ≡ bound_in_128_bits (K.known lists.now subset) parts.now.equalities subset) }
 {
     if is_forest_within(alloc, parts, subset, whole)? {
         let bound = forest_bound(alloc, parts, lists, subset, smaller)?;

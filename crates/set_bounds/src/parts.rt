@@ -3,7 +3,7 @@ ghost use Rattle.std.specs.Prelude.{◌≡◌, ◌<◌, ◌&&◌, ℕ, true, not
 ghost use Rattle.entry_sets.specs.Sets.{has_entry};
 ghost use Rattle.berge_tree.specs.Equalities.{ClosesNoCycle};
 ghost use Rattle.join_graph.specs.Kept.{equalities_within};
-ghost use Rattle.join_graph.specs.Names.{IsNamed};
+ghost use Rattle.join_graph.specs.Names.{HasEntriesBelow16};
 ghost use Rattle.set_bounds.specs.Parts.{FallsInto, crosses, some_cross};
 
 use base_io::NoMemory;
@@ -25,7 +25,7 @@ pub(crate) fn is_forest(alloc: Global, parts: &Parts, subset: EntrySet) -> Resul
 
 // If an entry of the equality is in the part, both entries of the equality are added to the part. Otherwise the part is as before.
 fn with_edge(part: EntrySet, edge: Edge) -> EntrySet
-    requires { IsNamed edge }
+    requires { HasEntriesBelow16 edge }
 {
     if part.has(edge.left.entry) || part.has(edge.right.entry) {
         part.with(edge.left.entry).with(edge.right.entry)

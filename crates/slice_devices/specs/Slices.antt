@@ -9,5 +9,5 @@ files_of files = map (λ file. (file.name.now, file.bytes.now)) files
 
 -- A sink tells the ghost name of its room, and then the bytes that were written. By this name the lender knows that the sink still has the
 -- same room, and so that the bytes that the sink took are in this room.
-abbrev pub told_of : ℕ → ℕ → List ℕ → Option (List ℕ)
-told_of name used room = Some (name ∷ take used room)
+abbrev pub named_bytes : ℕ → ℕ → List ℕ → Option (List ℕ)
+named_bytes name used room = Some (name ∷ take used room)

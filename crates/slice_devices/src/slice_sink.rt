@@ -2,7 +2,7 @@
 ghost use Rattle.std.specs.Prelude.{◌≡◌, ◌<◌, ◌≤◌, IfOk, OnErr, drop, length, take};
 ghost use Rattle.base_io.specs.Causes.{Rose};
 ghost use Rattle.base_io.specs.Sinks.{appended};
-ghost use Rattle.slice_devices.specs.Slices.{told_of};
+ghost use Rattle.slice_devices.specs.Slices.{named_bytes};
 
 use base_io::{Failed, Sink};
 
@@ -34,7 +34,7 @@ impl<'a> SliceSink<'a> {
 }
 
 impl Sink for SliceSink<'_> {
-    ghost taken = { λ s. told_of s.room.ghost_name s.used s.room.now };
+    ghost taken = { λ s. named_bytes s.room.ghost_name s.used s.room.now };
 
     ghost faults = { λ s. s.faults };
 
@@ -42,10 +42,10 @@ impl Sink for SliceSink<'_> {
     fn write(&mut self, bytes: &[u8]) -> Result<usize, Failed>
         ensures bound { IfOk result (λ n. n ≤ length bytes.now) }
         ensures progress { 0 < length bytes.now → IfOk result (λ n. 0 < n) }
-        ensures took { IfOk result (λ n. told_of self.new.room.ghost_name self.new.used self.new.room.now
-            ≡ appended (told_of self.old.room.ghost_name self.old.used self.old.room.now) (take n bytes.now)) }
-        ensures nothing { OnErr result (told_of self.new.room.ghost_name self.new.used self.new.room.now
-            ≡ told_of self.old.room.ghost_name self.old.used self.old.room.now) }
+        ensures took { IfOk result (λ n. named_bytes self.new.room.ghost_name self.new.used self.new.room.now
+            ≡ appended (named_bytes self.old.room.ghost_name self.old.used self.old.room.now) (take n bytes.now)) }
+        ensures nothing { OnErr result (named_bytes self.new.room.ghost_name self.new.used self.new.room.now
+            ≡ named_bytes self.old.room.ghost_name self.old.used self.old.room.now) }
         ensures later { self.old.faults ≤ self.new.faults }
         ensures failed { OnErr result (Rose self.old.faults self.new.faults) }
 

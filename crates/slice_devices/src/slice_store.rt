@@ -42,16 +42,16 @@ fn find_file<'b>(files: &[SliceFile<'b>], name: &str) -> Option<&'b [u8]>
     None
 }
 
-// Copies the bytes from offset `place` on to the front of a buffer: all that there are, or as many as fit. Answers how many it copied.
-fn copy_front(bytes: &[u8], place: u64, into: &mut [u8]) -> usize
+// Copies the bytes from offset `offset` on to the front of a buffer: all that there are, or as many as fit. Answers how many it copied.
+fn copy_front(bytes: &[u8], offset: u64, into: &mut [u8]) -> usize
     requires { 0 < length into.old }
-    ensures count { result ≡ min (length bytes.now - place) (length into.new) }
-    ensures fills { Fills bytes.now place result into.new }
+    ensures count { result ≡ min (length bytes.now - offset) (length into.new) }
+    ensures fills { Fills bytes.now offset result into.new }
 {
-    if place >= bytes.len() as u64 {
+    if offset >= bytes.len() as u64 {
         return 0;
     }
-    let rest = &bytes[place as usize..];
+    let rest = &bytes[offset as usize..];
     let count = rest.len().min(into.len());
     into[..count].copy_from_slice(&rest[..count]);
     count

@@ -1,6 +1,6 @@
 ghost use Rattle.std.specs.Prelude.{◌≡◌, ◌<◌, ◌≤◌, ◌+◌, ◌||◌, ◌&&◌, nat_eq, nat_lt, min, if◌then◌else◌, is_err, IfOk, OnErr, length, take, Some};
 ghost use Rattle.base_io.specs.Causes.{Rose, one_more};
-ghost use Rattle.base_io.specs.Planned.{is_listed};
+ghost use Rattle.base_io.specs.FailingCalls.{is_failing_call};
 ghost use Rattle.base_io.specs.Sinks.{appended};
 ghost use Rattle.slow_devices.specs.Cuts.{most_bytes};
 
@@ -42,7 +42,7 @@ impl Sink for SlowSink {
         // A call fails exactly if the inner sink lists this call as one that fails, or if the call has bytes and finds no room.
         ensures calls { self.new.inner.calls ≡ one_more self.old.inner.calls }
         ensures fail_at { self.new.inner.fail_at ≡ self.old.inner.fail_at }
-        ensures fails { is_err result ≡ (is_listed self.new.inner.calls self.old.inner.fail_at
+        ensures fails { is_err result ≡ (is_failing_call self.new.inner.calls self.old.inner.fail_at
             || (nat_eq self.old.inner.room 0 && nat_lt 0 (length bytes.now))) }
 
         // A call takes as many bytes as are handed on, and at most as many as there is room for.

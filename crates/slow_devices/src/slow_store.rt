@@ -1,8 +1,8 @@
 ghost use Rattle.std.specs.Prelude.{◌≡◌, ◌<◌, ◌≤◌, ◌-◌, min, if◌then◌else◌, length, drop, IfOk, List, Some, ℕ, IsErrOf};
 ghost use Rattle.limits.specs.Profile.{most_file};
 ghost use Rattle.base_io.specs.Causes.{Rose, one_more};
-ghost use Rattle.base_io.specs.Files.{file_of, ReadsAt, told};
-ghost use Rattle.base_io.specs.Planned.{has_failed, is_listed};
+ghost use Rattle.base_io.specs.Files.{file_of, ReadsAt, answer_about};
+ghost use Rattle.base_io.specs.FailingCalls.{has_failed, is_failing_call};
 ghost use Rattle.slow_devices.specs.Cuts.{most_bytes};
 
 use base_io::{MemStore, Store, StoreError};
@@ -36,7 +36,7 @@ impl Store for SlowStore {
     fn read_at(&mut self, name: &str, at: u64, into: &mut [u8]) -> Result<usize, StoreError>
         requires place { at ≤ most_file }
         requires room { 0 < length into.old }
-        ensures read { ReadsAt (told (Some self.old.inner.files) name.now) at result into.new }
+        ensures read { ReadsAt (answer_about (Some self.old.inner.files) name.now) at result into.new }
         ensures files { Some self.new.inner.files ≡ Some self.old.inner.files }
         ensures later { self.old.inner.faults ≤ self.new.inner.faults }
         ensures later_misses { self.old.inner.misses ≤ self.new.inner.misses }
@@ -55,9 +55,9 @@ impl Store for SlowStore {
         // A call fails exactly if the inner store lists this call as one that fails.
         ensures calls { self.new.inner.calls ≡ one_more self.old.inner.calls }
         ensures fail_at { self.new.inner.fail_at ≡ self.old.inner.fail_at }
-        ensures fails { has_failed result ≡ is_listed self.new.inner.calls self.old.inner.fail_at }
+        ensures fails { has_failed result ≡ is_failing_call self.new.inner.calls self.old.inner.fail_at }
         ensures faults { self.new.inner.faults
-            ≡ (if is_listed self.new.inner.calls self.old.inner.fail_at then one_more self.old.inner.faults else self.old.inner.faults) }
+            ≡ (if is_failing_call self.new.inner.calls self.old.inner.fail_at then one_more self.old.inner.faults else self.old.inner.faults) }
     {
         let count = (self.most.max(1) as usize).min(into.len());
         self.inner.read_at(name, at, &mut into[..count])

@@ -11,7 +11,7 @@ use Rattle.query_types.specs.declared.types.Cond.TheOpen as layer
 use Rattle.sql_meaning.specs.Answers.{conjunct_of}
 use Rattle.sql_meaning.specs.Conditions.{all_of, any_of, cond_holds, holds_step, operand_value}
 use Rattle.query_types.specs.Named.{entries_named, entries_of_operand, entries_step}
-use Rattle.sql_meaning.specs.Levels.{AsksOnly}
+use Rattle.sql_meaning.specs.Levels.{DependsOnNamed}
 use Rattle.sql_meaning.specs.Tables.{Tables}
 
 abbrev is_in : List ℕ → ℕ → Bool
@@ -40,11 +40,11 @@ module _ (tables : Tables) (f g : ℕ → ℕ) where
   same_value (operand.Int number) agree = refl
   same_value (operand.Text text) agree = refl
 
-abbrev Asks : Tables → Cond → Type 0
-Asks tables cond = (f g : ℕ → ℕ) → Agree f g (entries_named cond) → cond_holds tables f cond ≡ cond_holds tables g cond
+abbrev DependsOnNamedRows : Tables → Cond → Type 0
+DependsOnNamedRows tables cond = (f g : ℕ → ℕ) → Agree f g (entries_named cond) → cond_holds tables f cond ≡ cond_holds tables g cond
 
 module _ (tables : Tables) where
-  same_members : (f g : ℕ → ℕ) (ys : List ((c : Cond) × Asks tables c)) → Agree f g (flat_map (λ inner. inner) (map entries_named (map (λ y. y.0) ys)))
+  same_members : (f g : ℕ → ℕ) (ys : List ((c : Cond) × DependsOnNamedRows tables c)) → Agree f g (flat_map (λ inner. inner) (map entries_named (map (λ y. y.0) ys)))
       → map (cond_holds tables f) (map (λ y. y.0) ys) ≡ map (cond_holds tables g) (map (λ y. y.0) ys)
   same_members f g [] agree = refl
   same_members f g (y ∷ ys) agree =
@@ -56,8 +56,8 @@ module _ (tables : Tables) where
   abbrev from_layer : (x : Cond-F Cond) (f g : ℕ → ℕ) → Type 0
   from_layer x f g = holds_step tables f (map-Cond Cond Bool (cond_holds tables f) x) ≡ holds_step tables g (map-Cond Cond Bool (cond_holds tables g) x)
 
-  asks_layer : (y : Cond-F ((c : Cond) × Asks tables c)) (f g : ℕ → ℕ)
-      → Agree f g (entries_step (map-Cond Cond (List ℕ) entries_named (map-Cond ((c : Cond) × Asks tables c) Cond (λ e. e.0) y))) → from_layer (map-Cond ((c : Cond) × Asks tables c) Cond (λ e. e.0) y) f g
+  asks_layer : (y : Cond-F ((c : Cond) × DependsOnNamedRows tables c)) (f g : ℕ → ℕ)
+      → Agree f g (entries_step (map-Cond Cond (List ℕ) entries_named (map-Cond ((c : Cond) × DependsOnNamedRows tables c) Cond (λ e. e.0) y))) → from_layer (map-Cond ((c : Cond) × DependsOnNamedRows tables c) Cond (λ e. e.0) y) f g
   asks_layer (layer.And ys) f g agree = ap all_of (same_members f g ys agree)
   asks_layer (layer.Or ys) f g agree = ap any_of (same_members f g ys agree)
   asks_layer (layer.Not y) f g agree = ap not (y.1 f g agree)
@@ -66,13 +66,13 @@ module _ (tables : Tables) where
       let two : operand_value tables f right ≡ operand_value tables g right = same_value tables f g right (λ x h. agree x (in_right (entries_of_operand left) (entries_of_operand right) x h)) in
       rw (one, two) refl
 
-  pub asks_rows : (cond : Cond) → Asks tables cond
-  asks_rows = ind-Cond (Asks tables) (λ x y is. subst (λ x. Asks tables (roll-Cond x)) is (λ f g agree.
-      let inner : Cond-F Cond = map-Cond ((c : Cond) × Asks tables c) Cond (λ e. e.0) y in
+  pub depends_on_named : (cond : Cond) → DependsOnNamedRows tables cond
+  depends_on_named = ind-Cond (DependsOnNamedRows tables) (λ x y is. subst (λ x. DependsOnNamedRows tables (roll-Cond x)) is (λ f g agree.
+      let inner : Cond-F Cond = map-Cond ((c : Cond) × DependsOnNamedRows tables c) Cond (λ e. e.0) y in
       fold-roll-Cond Bool (holds_step tables f) inner
       ∙ asks_layer y f g (subst (Agree f g) (fold-roll-Cond (List ℕ) entries_step inner) agree)
       ∙ sym (fold-roll-Cond Bool (holds_step tables g) inner)))
 
-  pub asks_only : (conds : List Cond) → AllByRecursion AsksOnly (map (conjunct_of tables) conds)
-  asks_only [] = tt
-  asks_only (cond ∷ conds) = (asks_rows cond, asks_only conds)
+  pub depend_on_named : (conds : List Cond) → AllByRecursion DependsOnNamed (map (conjunct_of tables) conds)
+  depend_on_named [] = tt
+  depend_on_named (cond ∷ conds) = (depends_on_named cond, depend_on_named conds)

@@ -11,7 +11,7 @@ use Rattle.query_types.specs.declared.types.Cond.TheFolds.{fold-roll-Cond}
 use Rattle.query_types.specs.declared.types.Cond.TheOpen.{Cond-F}
 use Rattle.query_types.specs.declared.types.Cond.TheOpen as layer
 use Rattle.query_types.specs.declared.types.Cond.TheVariants.{rolls-And, rolls-Or, rolls-Not, rolls-Compare}
-use Rattle.sql_meaning.specs.Conditions.{all_of, any_of, comparison_says, cond_holds, holds_step}
+use Rattle.sql_meaning.specs.Conditions.{all_of, any_of, comparison_holds, cond_holds, holds_step}
 use Rattle.query_types.specs.Named.{entries_named}
 use Rattle.query_types.proofs.CondFacts.{entries_and, entries_not, entries_or, every_and, every_not, every_or}
 use Rattle.sql_meaning.specs.Tables.{Tables}
@@ -65,55 +65,55 @@ module _ (Q : Cond-F Cond → Type 0) where
 -- ---- a condition holds by its parts
 
 module _ (tables : Tables) (row_of : ℕ → ℕ) where
-  abbrev says : Cond → Bool
-  says cond = cond_holds tables row_of cond
+  abbrev is_true : Cond → Bool
+  is_true cond = cond_holds tables row_of cond
 
-  pub holds_and : (all : List Cond) → says (And all) ≡ all_of (map says all)
-  holds_and all = ap says (sym (rolls-And all)) ∙ fold-roll-Cond Bool (holds_step tables row_of) (layer.And all)
+  pub holds_and : (all : List Cond) → is_true (And all) ≡ all_of (map is_true all)
+  holds_and all = ap is_true (sym (rolls-And all)) ∙ fold-roll-Cond Bool (holds_step tables row_of) (layer.And all)
 
-  pub holds_or : (any : List Cond) → says (Or any) ≡ any_of (map says any)
-  holds_or any = ap says (sym (rolls-Or any)) ∙ fold-roll-Cond Bool (holds_step tables row_of) (layer.Or any)
+  pub holds_or : (any : List Cond) → is_true (Or any) ≡ any_of (map is_true any)
+  holds_or any = ap is_true (sym (rolls-Or any)) ∙ fold-roll-Cond Bool (holds_step tables row_of) (layer.Or any)
 
-  pub holds_not : (inner : Cond) → says (Not inner) ≡ not (says inner)
-  holds_not inner = ap says (sym (rolls-Not inner)) ∙ fold-roll-Cond Bool (holds_step tables row_of) (layer.Not inner)
+  pub holds_not : (inner : Cond) → is_true (Not inner) ≡ not (is_true inner)
+  holds_not inner = ap is_true (sym (rolls-Not inner)) ∙ fold-roll-Cond Bool (holds_step tables row_of) (layer.Not inner)
 
-  pub holds_compare : (op : Op) (left right : Operand) → says (Compare op left right) ≡ comparison_says tables row_of op left right
-  holds_compare op left right = ap says (sym (rolls-Compare op left right)) ∙ fold-roll-Cond Bool (holds_step tables row_of) (layer.Compare op left right)
+  pub holds_compare : (op : Op) (left right : Operand) → is_true (Compare op left right) ≡ comparison_holds tables row_of op left right
+  holds_compare op left right = ap is_true (sym (rolls-Compare op left right)) ∙ fold-roll-Cond Bool (holds_step tables row_of) (layer.Compare op left right)
 
-  each_says : (all : List Cond) → all_of (map says all) ≡ true → AllByRecursion (λ c. says c ≡ true) all
+  each_says : (all : List Cond) → all_of (map is_true all) ≡ true → AllByRecursion (λ c. is_true c ≡ true) all
   each_says [] h = tt
-  each_says (c ∷ all) h = let parts = and_parts (says c) (all_of (map says all)) h in (parts.0, each_says all parts.1)
+  each_says (c ∷ all) h = let parts = and_parts (is_true c) (all_of (map is_true all)) h in (parts.0, each_says all parts.1)
 
-  all_say : (all : List Cond) → AllByRecursion (λ c. says c ≡ true) all → all_of (map says all) ≡ true
+  all_say : (all : List Cond) → AllByRecursion (λ c. is_true c ≡ true) all → all_of (map is_true all) ≡ true
   all_say [] h = refl
-  all_say (c ∷ all) h = and_from (says c) (all_of (map says all)) h.0 (all_say all h.1)
+  all_say (c ∷ all) h = and_from (is_true c) (all_of (map is_true all)) h.0 (all_say all h.1)
 
-  some_says : (any : List Cond) → any_of (map says any) ≡ true → Any (λ c. says c ≡ true) any
+  some_says : (any : List Cond) → any_of (map is_true any) ≡ true → Any (λ c. is_true c ≡ true) any
   some_says [] h = absurd (false≢true h)
-  some_says (c ∷ any) h = elim (or_cases (says c) (any_of (map says any)) h) [
+  some_says (c ∷ any) h = elim (or_cases (is_true c) (any_of (map is_true any)) h) [
     | inl here ↦ (0, c, omega arith, refl, here)
-    | inr later ↦ (let rest : Any (λ c. says c ≡ true) any = some_says any later in (suc rest.0, rest.1, omega (arith, rest.2), rest.3, rest.4))
+    | inr later ↦ (let rest : Any (λ c. is_true c ≡ true) any = some_says any later in (suc rest.0, rest.1, omega (arith, rest.2), rest.3, rest.4))
   ]
 
-  any_says : (any : List Cond) (k : ℕ) (x : Cond) → k < length any → get_or any k x ≡ x → says x ≡ true → any_of (map says any) ≡ true
+  any_says : (any : List Cond) (k : ℕ) (x : Cond) → k < length any → get_or any k x ≡ x → is_true x ≡ true → any_of (map is_true any) ≡ true
   any_says [] k x low is h = absurd (omega arith)
-  any_says (c ∷ any) zero x low is h = rw (ap says is ∙ h) refl
-  any_says (c ∷ any) (suc k) x low is h = or_right (says c) (any_of (map says any)) (any_says any k x (omega arith) is h)
+  any_says (c ∷ any) zero x low is h = rw (ap is_true is ∙ h) refl
+  any_says (c ∷ any) (suc k) x low is h = or_right (is_true c) (any_of (map is_true any)) (any_says any k x (omega arith) is h)
 
-  pub and_says : (all : List Cond) → IsTrue (says (And all)) ↔ All (λ c. IsTrue (says c)) all
+  pub and_says : (all : List Cond) → IsTrue (is_true (And all)) ↔ All (λ c. IsTrue (is_true c)) all
   and_says all = (
-    λ h. All-from_recursion (λ c. IsTrue (says c)) all (each_says all (sym (holds_and all) ∙ h)),
-    λ h. holds_and all ∙ all_say all (recursion_from_All (λ c. IsTrue (says c)) all h),
+    λ h. All-from_recursion (λ c. IsTrue (is_true c)) all (each_says all (sym (holds_and all) ∙ h)),
+    λ h. holds_and all ∙ all_say all (recursion_from_All (λ c. IsTrue (is_true c)) all h),
   )
 
-  pub or_says : (any : List Cond) → IsTrue (says (Or any)) ↔ Any (λ c. IsTrue (says c)) any
+  pub or_says : (any : List Cond) → IsTrue (is_true (Or any)) ↔ Any (λ c. IsTrue (is_true c)) any
   or_says any = (
     λ h. some_says any (sym (holds_or any) ∙ h),
     λ h. holds_or any ∙ any_says any h.0 h.1 h.2 h.3 h.4,
   )
 
-  pub not_says : (inner : Cond) → IsTrue (says (Not inner)) ↔ (¬ IsTrue (says inner))
+  pub not_says : (inner : Cond) → IsTrue (is_true (Not inner)) ↔ (¬ IsTrue (is_true inner))
   not_says inner = (
     λ h k. false≢true (sym (ap not k) ∙ sym (holds_not inner) ∙ h),
-    λ h. holds_not inner ∙ ap not (false_from_ne_true (says inner) h),
+    λ h. holds_not inner ∙ ap not (false_from_ne_true (is_true inner) h),
   )

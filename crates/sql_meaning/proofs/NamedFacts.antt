@@ -1,4 +1,4 @@
--- A condition that can be asked of a database (`IsAskable`) names only entries of the database, and a comparison of operands of one kind
+-- A condition that can be asked of a database (`IsWellTyped`) names only entries of the database, and a comparison of operands of one kind
 -- can be asked.
 use Rattle.std.proofs.Common.{◌<◌, length, refl, subst}
 use Rattle.std.specs.List.{All}
@@ -11,12 +11,12 @@ use Rattle.query_types.specs.declared.types.Cond.TheVariants.{rolls-Compare}
 use Rattle.query_types.specs.Named.{entries_named}
 use Rattle.query_types.specs.Typing.{Compares, IsTypedLayer}
 use Rattle.query_types.proofs.CondFacts.{entries_typed}
-use Rattle.sql_meaning.specs.Databases.{IsAskable, IsColumnOfKind}
+use Rattle.sql_meaning.specs.Databases.{IsWellTyped, IsColumnOfKind}
 
-pub entries_exist : (db : Database) (cond : Cond) → IsAskable db cond → All (λ entry. entry < length db.slots) (entries_named cond)
-entries_exist db = entries_typed (IsColumnOfKind db) (λ entry. entry < length db.slots) (λ column text h. h.exists.entry)
+pub entries_in_database : (db : Database) (cond : Cond) → IsWellTyped db cond → All (λ entry. entry < length db.slots) (entries_named cond)
+entries_in_database db = entries_typed (IsColumnOfKind db) (λ entry. entry < length db.slots) (λ column text h. h.exists.entry)
 
-pub can_ask : (db : Database) (op : Op) (left right : Operand) → Compares (IsColumnOfKind db) left right → IsAskable db (Compare op left right)
+pub can_ask : (db : Database) (op : Op) (left right : Operand) → Compares (IsColumnOfKind db) left right → IsWellTyped db (Compare op left right)
 can_ask db op left right can =
     subst (every-Cond (IsTypedLayer (IsColumnOfKind db))) (rolls-Compare op left right)
     (every_made-Cond (IsTypedLayer (IsColumnOfKind db)) (layer.Compare op left right) (layer.Compare op left right) refl can)

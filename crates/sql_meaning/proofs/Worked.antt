@@ -10,8 +10,8 @@ use Rattle.query_types.specs.declared.types.Cond.{Cond, Or, Compare}
 use Rattle.query_types.specs.Validity.{is_text}
 use Rattle.sql_meaning.specs.Answers.{answer, chosen, query_holds, selected, entries_of}
 use Rattle.sql_meaning.specs.Choices.{choices_of}
-use Rattle.sql_meaning.specs.Conditions.{comparison_says, cond_holds}
-use Rattle.sql_meaning.specs.Databases.{AreCells, IsAskable, IsColumnOf, IsColumnOfKind, IsDatabaseOf}
+use Rattle.sql_meaning.specs.Conditions.{comparison_holds, cond_holds}
+use Rattle.sql_meaning.specs.Databases.{AreCells, IsWellTyped, IsColumnOf, IsColumnOfKind, IsDatabaseOf}
 use Rattle.sql_meaning.specs.Examples.{column_at, from_three_to_one, not_in_one_three, one_two_three, rows_where, three_rows, triangle, triangle_tables, x_is}
 use Rattle.sql_meaning.specs.Tables.{cells_of, Tables, row_counts, tables_of}
 use Rattle.sql_meaning.proofs.NamedFacts.{can_ask}
@@ -19,7 +19,7 @@ use Rattle.sql_meaning.proofs.ConditionFacts.{holds_and, holds_or, holds_not, ho
 
 -- the comparison is of column X with a number
 abbrev x_says : Op → ℕ → ℕ → Bool
-x_says op number row = comparison_says one_two_three (λ entry. row) op (column_at 0 0) (operand.Int (pos number))
+x_says op number row = comparison_holds one_two_three (λ entry. row) op (column_at 0 0) (operand.Int (pos number))
 
 one_says : (op : Op) (number row : ℕ) → cond_holds one_two_three (λ entry. row) (x_is op number) ≡ x_says op number row
 one_says op number row = holds_compare one_two_three (λ entry. row) op (column_at 0 0) (operand.Int (pos number))
@@ -50,7 +50,7 @@ abbrev T : Tables
 T = tables_of triangle_tables
 
 abbrev equal : (ℕ → ℕ) → ℕ → ℕ → ℕ → ℕ → Bool
-equal row_of a i b j = comparison_says T row_of op.Eq (column_at a i) (column_at b j)
+equal row_of a i b j = comparison_holds T row_of op.Eq (column_at a i) (column_at b j)
 
 triangle_says : (row_of : ℕ → ℕ) → query_holds triangle T row_of ≡ (equal row_of 0 0 1 0 && (equal row_of 1 1 2 0 && (equal row_of 2 1 0 1 && true)))
 triangle_says row_of =
@@ -89,7 +89,7 @@ is_number from (suc zero) low within = record { exists = is_column from (suc zer
     second (suc (suc (suc from))) low = absurd (omega arith)
 is_number from (suc (suc column)) low within = absurd (omega arith)
 
-equality : (a i b j : ℕ) → a < 3 → i < 2 → b < 3 → j < 2 → IsAskable triangle_tables (Compare op.Eq (column_at a i) (column_at b j))
+equality : (a i b j : ℕ) → a < 3 → i < 2 → b < 3 → j < 2 → IsWellTyped triangle_tables (Compare op.Eq (column_at a i) (column_at b j))
 equality a i b j la li lb lj =
     can_ask triangle_tables op.Eq (column_at a i) (column_at b j) (record { text = false; left_kind = is_number a i la li; right_kind = is_number b j lb lj })
 
@@ -117,8 +117,8 @@ triangle_fits = record {
     slots = All-from_recursion (λ slot. slot < 3) (0 ∷ 1 ∷ 2 ∷ []) (omega arith, (omega arith, (omega arith, tt)));
   };
   few_rows = few_in_triangle;
-  one_place = λ i j low high same. same;
-  conjuncts = All-from_recursion (IsAskable triangle_tables) triangle.conjuncts (
+  same_slot = λ i j low high same. same;
+  conjuncts = All-from_recursion (IsWellTyped triangle_tables) triangle.conjuncts (
     equality 0 0 1 0 (omega arith) (omega arith) (omega arith) (omega arith),
     (
       equality 1 1 2 0 (omega arith) (omega arith) (omega arith) (omega arith),

@@ -35,8 +35,8 @@ compares op.Gt order = is_gt order
 compares op.Ge order = is_ge order
 
 -- whether a comparison of two operands holds in these rows
-abbrev pub comparison_says : Tables → (ℕ → ℕ) → Op → Operand → Operand → Bool
-comparison_says tables row_of op left right =
+abbrev pub comparison_holds : Tables → (ℕ → ℕ) → Op → Operand → Operand → Bool
+comparison_holds tables row_of op left right =
     compares op (value_cmp (operand_value tables row_of left) (operand_value tables row_of right))
 
 abbrev pub all_of : List Bool → Bool
@@ -52,7 +52,7 @@ abbrev pub holds_step : Tables → (ℕ → ℕ) → Cond-F Bool → Bool
 holds_step tables row_of (layer.And all) = all_of all
 holds_step tables row_of (layer.Or any) = any_of any
 holds_step tables row_of (layer.Not inner) = not inner
-holds_step tables row_of (layer.Compare op left right) = comparison_says tables row_of op left right
+holds_step tables row_of (layer.Compare op left right) = comparison_holds tables row_of op left right
 
 -- whether a condition holds when each entry has the row that `row_of` picks
 abbrev pub cond_holds : Tables → (ℕ → ℕ) → Cond → Bool

@@ -34,8 +34,8 @@ pub record IsColumnOfKind (db : Database) (column : ColumnRef) (text : Bool) : T
   pub kind : option_map is_text (slice_get (cells_of db column.from).kinds column.column) ≡ Some text
 
 -- the condition can be asked of the database: every comparison in it is between values of one kind, over columns that exist
-abbrev pub IsAskable : Database → Cond → Type 0
-IsAskable db cond = IsTyped (IsColumnOfKind db) cond
+abbrev pub IsWellTyped : Database → Cond → Type 0
+IsWellTyped db cond = IsTyped (IsColumnOfKind db) cond
 
 -- the cells of each table are right (`AreCells`), and each entry's slot is the number of a table
 pub record AreTables (db : Database) : Type 0 where
@@ -51,10 +51,10 @@ pub record IsDatabaseOf (query : Query) (db : Database) : Type 0 where
   pub entries : length db.slots ≡ length query.from
   pub tables : AreTables db
   pub few_rows : (entry : ℕ) → entry < length query.from → row_counts (tables_of db) entry ≤ most_rows
-  pub one_place : (i j : ℕ) → i < length query.from → j < length query.from
+  pub same_slot : (i j : ℕ) → i < length query.from → j < length query.from
       → slice_index (map (λ source. source.table) query.from) i ≡ slice_index (map (λ source. source.table) query.from) j
       → slice_index db.slots i ≡ slice_index db.slots j
-  pub conjuncts : All (IsAskable db) query.conjuncts
+  pub conjuncts : All (IsWellTyped db) query.conjuncts
   pub outputs : All (λ out. IsColumnOf db out.column) query.select
 
 -- for each of these entries, `rows` has the number of a row in the entry's table

@@ -1,9 +1,9 @@
 //! When a condition holds.
 ghost use Rattle.std.specs.Prelude.{◌≡◌, length, slice_index};
-ghost use Rattle.sql_meaning.specs.Conditions.{comparison_says, cond_holds};
+ghost use Rattle.sql_meaning.specs.Conditions.{comparison_holds, cond_holds};
 ghost use Rattle.query_types.specs.Named.{entries_named, entries_of_operand};
 ghost use Rattle.query_types.specs.Typing.{Compares};
-ghost use Rattle.sql_meaning.specs.Databases.{AreTables, HaveRows, IsAskable, IsColumnOfKind};
+ghost use Rattle.sql_meaning.specs.Databases.{AreTables, HaveRows, IsWellTyped, IsColumnOfKind};
 ghost use Rattle.sql_meaning.specs.Tables.{tables_of};
 
 use crate::columns::value_of_operand;
@@ -18,7 +18,7 @@ fn comparison_holds(op: Op, left: &Operand, right: &Operand, db: &Database, rows
     requires places { length rows.now ≡ length db.now.slots }
     requires left_row { HaveRows db.now rows.now (entries_of_operand left.now) }
     requires right_row { HaveRows db.now rows.now (entries_of_operand right.now) }
-    ensures { result ≡ comparison_says (tables_of db.now) (slice_index rows.now) op left.now right.now }
+    ensures { result ≡ comparison_holds (tables_of db.now) (slice_index rows.now) op left.now right.now }
 {
     let left = value_of_operand(left, db, rows);
     let right = value_of_operand(right, db, rows);
@@ -29,7 +29,7 @@ fn comparison_holds(op: Op, left: &Operand, right: &Operand, db: &Database, rows
 /// recursion is as deep as the condition.
 pub fn holds(cond: &Cond, db: &Database, rows: &[u32]) -> bool
     requires tables { AreTables db.now }
-    requires askable { IsAskable db.now cond.now }
+    requires askable { IsWellTyped db.now cond.now }
     requires places { length rows.now ≡ length db.now.slots }
     requires rows { HaveRows db.now rows.now (entries_named cond.now) }
     ensures { result ≡ cond_holds (tables_of db.now) (slice_index rows.now) cond.now }

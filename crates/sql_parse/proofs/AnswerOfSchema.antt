@@ -14,7 +14,7 @@ use Rattle.query_types.specs.Validity.{IsOf}
 use Rattle.query_names.specs.Names.{entries}
 use Rattle.query_names.specs.Offences.{name_offences, all_kind_offences}
 use Rattle.query_names.specs.Values.{conjuncts, query_of}
-use Rattle.sql_parse.specs.QueryOrRefusal.{over, first_list, first_place, name_error, kind_error, limit_refusals, long_lists, refusals, unless, query_or_refusal}
+use Rattle.sql_parse.specs.QueryOrRefusal.{over, first_list, refusal_at_first, name_error, kind_error, limit_refusals, long_lists, refusals, unless, query_or_refusal}
 use Rattle.query_names.specs.Numbers.{number_offences}
 use Rattle.sql_parse.proofs.BindFacts.{not_over}
 use Rattle.sql_parse.specs.Reading.{lexemes_of, unless_number, IsAnswer}
@@ -29,7 +29,7 @@ pub none_behind : (xs ys : List QueryError) → xs ++ ys ≡ [] → ys ≡ []
 none_behind [] ys none = none
 none_behind (x ∷ xs) ys none = absurd cc
 
-no_place : (wrong : ℕ → QueryError) (places : List ℕ) → first_place wrong places ≡ [] → places ≡ []
+no_place : (wrong : ℕ → QueryError) (places : List ℕ) → refusal_at_first wrong places ≡ [] → places ≡ []
 no_place wrong [] none = refl
 no_place wrong (place ∷ rest) none = absurd cc
 
@@ -41,8 +41,8 @@ pub bound_of_schema : (schema : Schema) (text : List ℕ) (tokens : List Lexeme)
 unfolding query_or_refusal refusals query_of
 bound_of_schema schema text tokens tree query spelled is =
     let from : List Source = entries schema text tree in
-    let names : List QueryError = first_place name_error (name_offences schema text from tree) in
-    let kinds : List QueryError = first_place kind_error (all_kind_offences schema text from tree) in
+    let names : List QueryError = refusal_at_first name_error (name_offences schema text from tree) in
+    let kinds : List QueryError = refusal_at_first kind_error (all_kind_offences schema text from tree) in
     let many_entries : List QueryError = over limit.FromEntries most_entries (length from) in
     let lists : List QueryError = first_list (long_lists from tree) in
     let many_conjuncts : List QueryError = over limit.Conjuncts most_conjuncts (length (conjuncts schema text from tree)) in

@@ -1,7 +1,7 @@
 -- A text is answered in stages: tokens, nesting, grammar, numbers, and the tree. The lemmas say what the answer is if the text fails in one of them.
 use Rattle.std.proofs.Common.{◌≡◌, inl, inr, ℕ, ◌-◌, ◌^◌, ◌<◌, ◌≤◌, min, All, List, [], ◌∷◌, length, Option, Some, None, Result, Err, ap, subst, sym, ◌∙◌, refl, arith}
 use Rattle.ll_grammars.specs.declared.lexeme.Lexeme.{Lexeme}
-use Rattle.ll_grammars.specs.Places.{IsSyntaxPlace}
+use Rattle.ll_grammars.specs.Places.{IsSyntaxErrorAt}
 use Rattle.sql_tokens.specs.Words.{IsLexemeOf}
 use Rattle.query_grammar.specs.declared.tree.QueryNode.{QueryNode}
 use Rattle.query_grammar.specs.Grammar.{QuerySpecification}
@@ -51,13 +51,13 @@ module _ (schema : Schema) (text : List ℕ) (lexemes : List Lexeme) (are : AreL
       })))
 
   module _ (shallow : nesting lexemes ≤ 64) where
-    pub unspelled : (place : ℕ) (number : Option ℕ) → number ≡ first (number_offences text lexemes) → IsSyntaxPlace QuerySpecification lexemes (length text) place → IsAnswer schema text (Err (error.Syntax (least_of place number)))
+    pub unspelled : (place : ℕ) (number : Option ℕ) → number ≡ first (number_offences text lexemes) → IsSyntaxErrorAt QuerySpecification lexemes (length text) place → IsAnswer schema text (Err (error.Syntax (least_of place number)))
     unspelled place number is wrong = inr (inr (inr (inl (record {
       tokens = are.tokens;
       lexed = are.lexed;
       shallow = subst (λ l. nesting l ≤ 64) are.are shallow;
       place = place;
-      wrong = subst (λ l. IsSyntaxPlace QuerySpecification l (length text) place) are.are wrong;
+      wrong = subst (λ l. IsSyntaxErrorAt QuerySpecification l (length text) place) are.are wrong;
       refused = ap (λ n. Err (error.Syntax (least_of place n))) is ∙ ap (λ p. Err (error.Syntax p)) (least_is place (number_offences text lexemes))
           ∙ ap (λ l. Err (error.Syntax (least place (number_offences text l)))) are.are;
     }))))

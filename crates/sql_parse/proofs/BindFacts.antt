@@ -20,12 +20,12 @@ use Rattle.query_names.specs.Names.{entries, from_offences}
 use Rattle.query_names.specs.Scopes.{whole_scope, conditions}
 use Rattle.query_names.specs.Offences.{outs_offences, name_offences_in, name_offences, all_kind_offences}
 use Rattle.query_names.specs.Values.{conjuncts, selected, query_of}
-use Rattle.sql_parse.specs.QueryOrRefusal.{refusal, over, first_list, first_place, name_error, kind_error, limit_refusals, long_lists, refusals, unless, query_or_refusal}
+use Rattle.sql_parse.specs.QueryOrRefusal.{refusal, over, first_list, refusal_at_first, name_error, kind_error, limit_refusals, long_lists, refusals, unless, query_or_refusal}
 use Rattle.query_names.specs.Answers.{first}
 use Rattle.query_names.specs.Binding.{schema_of, from_of, names_in, kinds_in, lists_in, members_in, outs_offences_of, test_offences_of, kind_offences_of, members_by}
-use Rattle.sql_parse.specs.Behind.{names_behind, kinds_behind, lists_behind, conjuncts_by}
+use Rattle.sql_parse.specs.AfterFrom.{names_after_from, kinds_after_from, lists_after_from, conjuncts_by}
 use Rattle.sql_parse.specs.Outputs.{selected_by, capped}
-use Rattle.sql_parse.specs.Refusing.{too_long_list, limits_passed, limits_by, late_refusals, refusals_behind, IsFirstOf, Answers}
+use Rattle.sql_parse.specs.Refusing.{too_long_list, limits_passed, limits_by, late_refusals, refusals_after_from, IsFirstOf, Answers}
 
 -- ---- the first element of a list
 
@@ -52,11 +52,11 @@ none_at_all : (xs : List QueryError) → first xs ≡ None → xs ≡ []
 none_at_all [] none = refl
 none_at_all (x ∷ xs) none = absurd cc
 
-at_place : (wrong : ℕ → QueryError) (places : List ℕ) (at : ℕ) → first places ≡ Some at → first (first_place wrong places) ≡ Some (wrong at)
+at_place : (wrong : ℕ → QueryError) (places : List ℕ) (at : ℕ) → first places ≡ Some at → first (refusal_at_first wrong places) ≡ Some (wrong at)
 at_place wrong [] at is = absurd cc
 at_place wrong (place ∷ rest) at is = let same : place ≡ at = cc in ap (λ p. Some (wrong p)) same
 
-no_place : (wrong : ℕ → QueryError) (places : List ℕ) → first places ≡ None → first_place wrong places ≡ []
+no_place : (wrong : ℕ → QueryError) (places : List ℕ) → first places ≡ None → refusal_at_first wrong places ≡ []
 no_place wrong [] none = refl
 no_place wrong (place ∷ rest) none = absurd cc
 
@@ -99,47 +99,47 @@ module _ (from counted conjuncts outputs : ℕ) where
   passed lists same = passed_by (nat_lt most_entries from) lists refl same
 
 module _ (binder : Binder) (query : QueryNode) where
-  kind_first : (at : ℕ) → Some at ≡ first (kinds_behind binder query) → Some (error.Kind at) ≡ first (late_refusals binder query)
+  kind_first : (at : ℕ) → Some at ≡ first (kinds_after_from binder query) → Some (error.Kind at) ≡ first (late_refusals binder query)
   unfolding late_refusals
-  kind_first at is = sym (first_append (first_place kind_error (kinds_behind binder query)) (limits_by binder query) (error.Kind at) (at_place kind_error (kinds_behind binder query) at (sym is)))
+  kind_first at is = sym (first_append (refusal_at_first kind_error (kinds_after_from binder query)) (limits_by binder query) (error.Kind at) (at_place kind_error (kinds_after_from binder query) at (sym is)))
 
-  limit_first : (list : Option ℕ) (found : List Cond) (outputs : ℕ) → list ≡ first (lists_behind binder query)
+  limit_first : (list : Option ℕ) (found : List Cond) (outputs : ℕ) → list ≡ first (lists_after_from binder query)
       → (length (from_of binder) ≤ 12 → list ≡ None → found ≡ conjuncts_by binder query) → outputs ≡ capped (length (selected_by binder query.outs))
       → first (limits_passed (length (from_of binder)) list (length found) outputs) ≡ first (limits_by binder query)
   unfolding limits_by
   limit_first list found outputs is_list is_found is_outputs =
       ap (λ l. first (limits_passed (length (from_of binder)) l (length found) outputs)) is_list
-      ∙ ap (λ n. first (limits_passed (length (from_of binder)) (first (lists_behind binder query)) (length found) n)) is_outputs
-      ∙ passed (length (from_of binder)) (length found) (length (conjuncts_by binder query)) (length (selected_by binder query.outs)) (lists_behind binder query) (λ few none. ap length (is_found few (is_list ∙ none)))
+      ∙ ap (λ n. first (limits_passed (length (from_of binder)) (first (lists_after_from binder query)) (length found) n)) is_outputs
+      ∙ passed (length (from_of binder)) (length found) (length (conjuncts_by binder query)) (length (selected_by binder query.outs)) (lists_after_from binder query) (λ few none. ap length (is_found few (is_list ∙ none)))
 
-  no_kind : None ≡ first (kinds_behind binder query) → first (limits_by binder query) ≡ first (late_refusals binder query)
+  no_kind : None ≡ first (kinds_after_from binder query) → first (limits_by binder query) ≡ first (late_refusals binder query)
   unfolding late_refusals
-  no_kind none = sym (first_behind (first_place kind_error (kinds_behind binder query)) (limits_by binder query) (no_place kind_error (kinds_behind binder query) (sym none)))
+  no_kind none = sym (first_behind (refusal_at_first kind_error (kinds_after_from binder query)) (limits_by binder query) (no_place kind_error (kinds_after_from binder query) (sym none)))
 
   -- ---- the refusals of a query whose FROM entries are known
 
-  no_name : names_behind binder query ≡ [] → refusals_behind binder query ≡ late_refusals binder query
-  unfolding refusals_behind
-  no_name none = ap (λ l. first_place name_error l ++ late_refusals binder query) none
+  no_name : names_after_from binder query ≡ [] → refusals_after_from binder query ≡ late_refusals binder query
+  unfolding refusals_after_from
+  no_name none = ap (λ l. refusal_at_first name_error l ++ late_refusals binder query) none
 
-  pub name_refused : (e : QueryError) → IsNameError (names_behind binder query) e → IsFirstOf (refusals_behind binder query) e
-  unfolding refusals_behind
-  name_refused (error.Name place) wrong = inr (first_append (first_place name_error (names_behind binder query)) (late_refusals binder query) (error.Name place) (at_place name_error (names_behind binder query) place wrong))
+  pub name_refused : (e : QueryError) → IsNameError (names_after_from binder query) e → IsFirstOf (refusals_after_from binder query) e
+  unfolding refusals_after_from
+  name_refused (error.Name place) wrong = inr (first_append (refusal_at_first name_error (names_after_from binder query)) (late_refusals binder query) (error.Name place) (at_place name_error (names_after_from binder query) place wrong))
   name_refused error.NoMemory wrong = inl refl
   name_refused (error.Syntax place) wrong = absurd wrong
   name_refused (error.Kind place) wrong = absurd wrong
   name_refused (error.Limit which n) wrong = absurd wrong
 
-  pub late_refused : (e : QueryError) → names_behind binder query ≡ [] → Some e ≡ first (late_refusals binder query) → IsFirstOf (refusals_behind binder query) e
+  pub late_refused : (e : QueryError) → names_after_from binder query ≡ [] → Some e ≡ first (late_refusals binder query) → IsFirstOf (refusals_after_from binder query) e
   late_refused e none is = inr (ap first (no_name none) ∙ sym is)
 
-  pub none_refused : names_behind binder query ≡ [] → None ≡ first (late_refusals binder query) → first (refusals_behind binder query) ≡ None
+  pub none_refused : names_after_from binder query ≡ [] → None ≡ first (late_refusals binder query) → first (refusals_after_from binder query) ≡ None
   none_refused none is = ap first (no_name none) ∙ sym is
 
-  pub kind_refused : (at : ℕ) → names_behind binder query ≡ [] → Some at ≡ first (kinds_behind binder query) → IsFirstOf (refusals_behind binder query) (error.Kind at)
+  pub kind_refused : (at : ℕ) → names_after_from binder query ≡ [] → Some at ≡ first (kinds_after_from binder query) → IsFirstOf (refusals_after_from binder query) (error.Kind at)
   kind_refused at none is = late_refused (error.Kind at) none (kind_first at is)
 
-  pub late_first : {wrong : Option QueryError} (list : Option ℕ) (found : List Cond) {entries number outputs : ℕ} → None ≡ first (kinds_behind binder query) → list ≡ first (lists_behind binder query)
+  pub late_first : {wrong : Option QueryError} (list : Option ℕ) (found : List Cond) {entries number outputs : ℕ} → None ≡ first (kinds_after_from binder query) → list ≡ first (lists_after_from binder query)
       → (length (from_of binder) ≤ 12 → list ≡ None → found ≡ conjuncts_by binder query) → outputs ≡ capped (length (selected_by binder query.outs))
       → entries ≡ length (from_of binder) → number ≡ length found → wrong ≡ first (limits_passed entries list number outputs) → wrong ≡ first (late_refusals binder query)
   late_first list found {entries} {number} {outputs} none is_list is_found is_outputs is_entries is_number is =
@@ -151,7 +151,7 @@ module _ (binder : Binder) (query : QueryNode) where
     many = over limit.FromEntries most_entries (length (from_of binder))
 
     abbrev lists : List QueryError
-    lists = first_list (lists_behind binder query)
+    lists = first_list (lists_after_from binder query)
 
     abbrev conjs : List QueryError
     conjs = over limit.Conjuncts most_conjuncts (length (conjuncts_by binder query))
@@ -161,7 +161,7 @@ module _ (binder : Binder) (query : QueryNode) where
 
     no_limit : first (((many ++ lists) ++ conjs) ++ outs) ≡ None
     unfolding late_refusals limits_by
-    no_limit = none_last (first_place kind_error (kinds_behind binder query)) (limits_by binder query) (sym is)
+    no_limit = none_last (refusal_at_first kind_error (kinds_after_from binder query)) (limits_by binder query) (sym is)
 
     no_early : many ++ lists ≡ []
     no_early = none_first (many ++ lists) conjs (ap first (none_first ((many ++ lists) ++ conjs) outs no_limit))
@@ -169,8 +169,8 @@ module _ (binder : Binder) (query : QueryNode) where
     pub few_entries : length (from_of binder) ≤ 12
     few_entries = not_over limit.FromEntries most_entries (length (from_of binder)) (none_first many lists (ap first no_early))
 
-    pub no_long_list : first (lists_behind binder query) ≡ None
-    no_long_list = no_list (lists_behind binder query) (none_last many lists (ap first no_early))
+    pub no_long_list : first (lists_after_from binder query) ≡ None
+    no_long_list = no_list (lists_after_from binder query) (none_last many lists (ap first no_early))
 
     pub few_outputs : length (selected_by binder query.outs) ≤ most_outputs
     few_outputs = not_over limit.Outputs most_outputs (length (selected_by binder query.outs)) (none_at_all outs (none_last ((many ++ lists) ++ conjs) outs no_limit))
@@ -188,10 +188,10 @@ limits_after schema text from query =
     ++ over limit.Outputs most_outputs (length (selected schema text from query.outs))
 
 unfoldable refusals_after : Schema → List ℕ → List Source → QueryNode → List QueryError
-refusals_after schema text from query = first_place name_error (names_after schema text from query) ++ (first_place kind_error (all_kind_offences schema text from query) ++ limits_after schema text from query)
+refusals_after schema text from query = refusal_at_first name_error (names_after schema text from query) ++ (refusal_at_first kind_error (all_kind_offences schema text from query) ++ limits_after schema text from query)
 
-refusals_by : (binder : Binder) (query : QueryNode) → refusals_behind binder query ≡ refusals_after (schema_of binder) binder.text.now (from_of binder) query
-unfolding refusals_after refusals_behind late_refusals limits_by names_behind kinds_behind lists_behind conjuncts_by selected_by names_in kinds_in lists_in members_in outs_offences_of test_offences_of kind_offences_of members_by all_kind_offences long_lists conjuncts
+refusals_by : (binder : Binder) (query : QueryNode) → refusals_after_from binder query ≡ refusals_after (schema_of binder) binder.text.now (from_of binder) query
+unfolding refusals_after refusals_after_from late_refusals limits_by names_after_from kinds_after_from lists_after_from conjuncts_by selected_by names_in kinds_in lists_in members_in outs_offences_of test_offences_of kind_offences_of members_by all_kind_offences long_lists conjuncts
 refusals_by binder query = refl
 
 conjuncts_are : (binder : Binder) (query : QueryNode) → conjuncts_by binder query ≡ conjuncts (schema_of binder) binder.text.now (from_of binder) query
@@ -207,9 +207,9 @@ module _ (schema : Schema) (text : List ℕ) (query : QueryNode) where
   unfolding refusals name_offences query_of refusals_after
   refusals_are none =
       let from : List Source = entries schema text query in
-      ap (λ l. first_place name_error (l ++ outs_offences schema text from (whole_scope from) query.outs ++ flat_map (name_offences_in schema text from) (conditions from query))
-      ++ first_place kind_error (all_kind_offences schema text from query) ++ limits_after schema text from query) none
-      ∙ append_assoc (first_place name_error (names_after schema text from query)) (first_place kind_error (all_kind_offences schema text from query)) (limits_after schema text from query)
+      ap (λ l. refusal_at_first name_error (l ++ outs_offences schema text from (whole_scope from) query.outs ++ flat_map (name_offences_in schema text from) (conditions from query))
+      ++ refusal_at_first kind_error (all_kind_offences schema text from query) ++ limits_after schema text from query) none
+      ∙ append_assoc (refusal_at_first name_error (names_after schema text from query)) (refusal_at_first kind_error (all_kind_offences schema text from query)) (limits_after schema text from query)
 
   unless_first : (wrong : List QueryError) (value : Query) (e : QueryError) → first wrong ≡ Some e → unless wrong value ≡ Err e
   unless_first [] value e is = absurd cc
@@ -230,8 +230,8 @@ module _ (schema : Schema) (text : List ℕ) (query : QueryNode) where
       let outs : List ℕ = outs_offences schema text from (whole_scope from) query.outs in
       let conds : List ℕ = flat_map (name_offences_in schema text from) (conditions from query) in
       let names : first ((from_offences schema text query ++ outs) ++ conds) ≡ Some place = first_place_append place (from_offences schema text query ++ outs) conds (first_place_append place (from_offences schema text query) outs wrong) in
-      first_append (first_place name_error (name_offences schema text from query) ++ first_place kind_error (all_kind_offences schema text from query)) (limit_refusals (query_of schema text query) (long_lists from query)) (error.Name place)
-      (first_append (first_place name_error (name_offences schema text from query)) (first_place kind_error (all_kind_offences schema text from query)) (error.Name place)
+      first_append (refusal_at_first name_error (name_offences schema text from query) ++ refusal_at_first kind_error (all_kind_offences schema text from query)) (limit_refusals (query_of schema text query) (long_lists from query)) (error.Name place)
+      (first_append (refusal_at_first name_error (name_offences schema text from query)) (refusal_at_first kind_error (all_kind_offences schema text from query)) (error.Name place)
       (at_place name_error ((from_offences schema text query ++ outs) ++ conds) place names))
 
   pub from_refused : (e : QueryError) → IsNameError (from_offences schema text query) e → Answers (query_or_refusal schema text query) (Err e)
@@ -248,7 +248,7 @@ module _ (schema : Schema) (text : List ℕ) (query : QueryNode) where
       pub from_is : from_of binder ≡ entries schema text query
       pub no_offence : from_offences schema text query ≡ []
 
-    same_refusals : Knows → refusals_behind binder query ≡ refusals schema text query
+    same_refusals : Knows → refusals_after_from binder query ≡ refusals schema text query
     same_refusals k =
         refusals_by binder query
         ∙ ap (λ s. refusals_after s binder.text.now (from_of binder) query) k.schema_is
@@ -256,7 +256,7 @@ module _ (schema : Schema) (text : List ℕ) (query : QueryNode) where
         ∙ ap (λ f. refusals_after schema text f query) k.from_is
         ∙ sym (refusals_are k.no_offence)
 
-    pub behind_by : Knows → (e : QueryError) → IsFirstOf (refusals_behind binder query) e → Answers (query_or_refusal schema text query) (Err e)
+    pub behind_by : Knows → (e : QueryError) → IsFirstOf (refusals_after_from binder query) e → Answers (query_or_refusal schema text query) (Err e)
     behind_by k e (inl memory) = inl (ap (λ y. Err y) memory)
     behind_by k e (inr is) = inr (sym (refused_first e (ap first (sym (same_refusals k)) ∙ is)))
 
@@ -273,7 +273,7 @@ module _ (schema : Schema) (text : List ℕ) (query : QueryNode) where
         rw (is_from, same_conjs, same_outs) refl
 
     pub value_by : Knows → (from : List Source) (conjs : List Cond) (outs : List Out) → from ≡ entries schema text query → conjs ≡ conjuncts_by binder query → outs ≡ selected_by binder query.outs
-        → first (refusals_behind binder query) ≡ None → Answers (query_or_refusal schema text query) (Ok (record { from = from; conjuncts = conjs; select = outs }))
+        → first (refusals_after_from binder query) ≡ None → Answers (query_or_refusal schema text query) (Ok (record { from = from; conjuncts = conjs; select = outs }))
     unfolding query_or_refusal
     value_by k from conjs outs is_from is_conjs is_outs none =
         inr (sym (unless_none (refusals schema text query) (query_of schema text query) (ap first (sym (same_refusals k)) ∙ none) ∙ ap (λ q. Ok q) (made k from conjs outs is_from is_conjs is_outs)))

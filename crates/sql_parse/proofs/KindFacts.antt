@@ -28,12 +28,12 @@ use Rattle.query_types.specs.declared.types.Operand.{Operand}
 use Rattle.query_types.specs.declared.types.Cond.TheVariants as cond
 use Rattle.query_types.specs.Validity.{is_text, FindsColumn, IsColumnOf, IsCondOf}
 use Rattle.query_types.specs.Typing.{IsOfKind, Compares}
-use Rattle.query_names.specs.Names.{at}
+use Rattle.query_names.specs.Names.{place_if}
 use Rattle.query_names.specs.Scopes.{resolve, head_of, tests}
 use Rattle.query_names.specs.Offences.{of_literal, first_of, differ, operand_offences, test_offences, is_text_column, is_text_operand, kind_offence, kind_offences}
 use Rattle.query_names.specs.Values.{Meaning, alone, wholes, all_of, any_of, negated_where, resolved_column, operand_value, comparison, equality, test_meaning, meaning_step, meaning}
 use Rattle.query_names.proofs.TestFacts.{tests_and, tests_or, tests_not, tests_test}
-use Rattle.query_names.proofs.Resolved.{Stands, resolve_stands}
+use Rattle.query_names.proofs.Resolved.{ColumnExists, resolved_exists}
 use Rattle.schema_types.proofs.Above.{empty_left, empty_right}
 use Rattle.sql_parse.proofs.CondShapes.{compare_of, not_of, and_of, or_of}
 
@@ -51,7 +51,7 @@ without_offences f g h P each (x ∷ xs) no_f no_g =
     (each x (empty_left (f x) (flat_map f xs) no_f) (empty_left (g x) (flat_map g xs) no_g))
     (without_offences f g h P each xs (empty_right (f x) (flat_map f xs) no_f) (empty_right (g x) (flat_map g xs) no_g))
 
-pub not_at : (wrong : Bool) (token : Lexeme) → at wrong token ≡ [] → wrong ≡ false
+pub not_at : (wrong : Bool) (token : Lexeme) → place_if wrong token ≡ [] → wrong ≡ false
 not_at true token none = absurd cc
 not_at false token none = refl
 
@@ -101,18 +101,18 @@ module _ (schema : Schema) (from : List Source) where
 
 -- ---- operands and tests
 
-pub found_finds : (schema : Schema) (from : List Source) (found : EntryColumn) (there : Stands schema from found) → FindsColumn schema from (resolved_column (Some found)) there.column
+pub found_finds : (schema : Schema) (from : List Source) (found : EntryColumn) (there : ColumnExists schema from found) → FindsColumn schema from (resolved_column (Some found)) there.column
 found_finds schema from found there = record { source = there.source; entry = there.entry; table = there.table; exists = there.exists; declared = there.declared }
 
 module _ (schema : Schema) (words : List ℕ) (from : List Source) (scope : Scope) where
   abbrev value : OperandNode → Operand
   value o = operand_value schema words from scope o
 
-  column_kind : (reference : ColumnNode) (found : Option EntryColumn) → found ≡ resolve schema words from scope reference → at (is_none found) (head_of reference) ≡ []
+  column_kind : (reference : ColumnNode) (found : Option EntryColumn) → found ≡ resolve schema words from scope reference → place_if (is_none found) (head_of reference) ≡ []
       → IsColumnOf schema from (resolved_column found) (is_text_column schema words from scope found)
   column_kind reference None is none = absurd cc
   column_kind reference (Some found) is none =
-      let there : Stands schema from found = resolve_stands schema words from scope reference found (sym is) in
+      let there : ColumnExists schema from found = resolved_exists schema words from scope reference found (sym is) in
       record { column = there.column; finds = found_finds schema from found there; kind = ap is_text there.kind }
 
   operand_kind : (o : OperandNode) → operand_offences schema words from scope o ≡ [] → IsOfKind (IsColumnOf schema from) (value o) (is_text_operand schema words from scope o)

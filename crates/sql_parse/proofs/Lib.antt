@@ -6,7 +6,7 @@ pub mod SomeEntry
 pub mod PartFacts
 pub mod AnswerOfSchema
 pub mod OneAnswer
-pub mod BehindFacts
+pub mod AfterFromFacts
 pub mod NumberRange
 pub mod BindFacts
 pub mod TreeFacts

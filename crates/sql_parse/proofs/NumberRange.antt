@@ -5,7 +5,7 @@ use Rattle.std.proofs.lemmas.List.{drop_all}
 use Rattle.ll_grammars.specs.declared.lexeme.Lexeme.{Lexeme}
 use Rattle.query_names.specs.Answers.{first}
 use Rattle.query_names.specs.Numbers.{is_too_large, sign_before, number_offence, offences_after}
-use Rattle.query_names.proofs.Walk.{left_at, first-append}
+use Rattle.query_names.proofs.Walk.{rest_at, first-append}
 
 pub still_too_large : (negative : Bool) (n : ℕ) → is_too_large negative (min n (2 ^ 64 - 1)) ≡ is_too_large negative n
 still_too_large true n = grind (arith, common_steps)
@@ -23,7 +23,7 @@ module _ (text : List ℕ) (tokens : List Lexeme) (before : Option Lexeme) (whol
   rest = offences_after text (Some (get_or tokens i d)) (drop (i + 1) tokens)
 
   split : i < length tokens → whole ≡ first (offences_after text before (drop i tokens)) → whole ≡ first (here ++ rest)
-  split below left = left ∙ ap (λ l. first (offences_after text before l)) (left_at tokens i d below)
+  split below left = left ∙ ap (λ l. first (offences_after text before l)) (rest_at tokens i d below)
 
   pub none_here : i < length tokens → whole ≡ first (offences_after text before (drop i tokens)) → first here ≡ None → whole ≡ first rest
   none_here below left none = split below left ∙ none_before here rest none

@@ -21,12 +21,12 @@ use Rattle.query_names.specs.declared.scope.Entry.{Entry}
 use Rattle.query_names.specs.declared.scope.EntryColumn.{EntryColumn}
 use Rattle.query_types.specs.declared.types.Source.{Source}
 use Rattle.query_types.specs.Validity.{IsSourceOf, IsOutOf, IsCondOf, IsOf}
-use Rattle.query_names.specs.Names.{at, table_names, table_of, entry_of, alias_of, alias_token, sources, entries, offences_behind, from_offences, is_among}
+use Rattle.query_names.specs.Names.{place_if, table_names, table_of, entry_of, alias_of, alias_token, sources, entries, offences_of_later_sources, from_offences, is_among}
 use Rattle.query_names.specs.Scopes.{in_scope, whole_scope, entry_named, resolve, head_of, conditions}
 use Rattle.query_names.specs.Offences.{name_offences, all_kind_offences, name_offences_in, kind_offences_in, out_offences, outs_offences}
 use Rattle.query_names.specs.Values.{resolved_column, members_in, conjuncts, outs_from, outs_of_table, outs_of_entry, outs_of_found, outs_of, selected, query_of}
-use Rattle.schema_types.proofs.Places.{place_of_within}
-use Rattle.query_names.proofs.Resolved.{Stands, resolve_stands, IsEntry, AllEntries, in_scope_are, named_is}
+use Rattle.schema_types.proofs.NameIndexes.{place_of_within}
+use Rattle.query_names.proofs.Resolved.{ColumnExists, resolved_exists, IsEntry, AllEntries, in_scope_are, named_is}
 use Rattle.schema_types.proofs.Above.{empty_left, empty_right}
 use Rattle.sql_parse.proofs.KindFacts.{not_at, without_offences, found_finds, condition_of}
 
@@ -39,12 +39,12 @@ module _ (schema : Schema) (text : List ℕ) where
       let within : n < length (table_names schema) = place_of_within (table_names schema) (name_of text source.table) n (sym is) in
       omega (arith, length-map schema.tables (λ (table : Table). table.name))
 
-  sources_of_schema : (earlier : List (List ℕ)) (from : List SourceNode) → offences_behind schema text earlier from ≡ [] → All (IsSourceOf schema) (map (entry_of schema text) from)
+  sources_of_schema : (earlier : List (List ℕ)) (from : List SourceNode) → offences_of_later_sources schema text earlier from ≡ [] → All (IsSourceOf schema) (map (entry_of schema text) from)
   sources_of_schema earlier [] none = All-nil (IsSourceOf schema)
   sources_of_schema earlier (source ∷ rest) none =
-      let unknown : List ℕ = at (is_none (table_of schema text source)) source.table in
-      let again : List ℕ = at (is_among earlier (alias_of schema text source)) (alias_token source) in
-      let others : List ℕ = offences_behind schema text (earlier ++ alias_of schema text source ∷ []) rest in
+      let unknown : List ℕ = place_if (is_none (table_of schema text source)) source.table in
+      let again : List ℕ = place_if (is_among earlier (alias_of schema text source)) (alias_token source) in
+      let others : List ℕ = offences_of_later_sources schema text (earlier ++ alias_of schema text source ∷ []) rest in
       let known : unknown ≡ [] = empty_left unknown again (empty_left (unknown ++ again) others none) in
       All-cons (IsSourceOf schema) (entry_of schema text source) (map (entry_of schema text) rest)
       (table_exists source (table_of schema text source) refl (not_at (is_none (table_of schema text source)) source.table known))
@@ -83,11 +83,11 @@ module _ (schema : Schema) (from : List Source) where
     named_outs alias None is = All-nil (IsOutOf schema from)
     named_outs alias (Some e) is = entry_outs e (named_is from (whole_scope from) (name_of text alias) e (sym is))
 
-    column_out : (reference : ColumnNode) (name : List ℕ) (found : Option EntryColumn) → found ≡ resolve schema text from (whole_scope from) reference → at (is_none found) (head_of reference) ≡ []
+    column_out : (reference : ColumnNode) (name : List ℕ) (found : Option EntryColumn) → found ≡ resolve schema text from (whole_scope from) reference → place_if (is_none found) (head_of reference) ≡ []
         → IsOutOf schema from (record { column = resolved_column found; name = name })
     column_out reference name None is none = absurd cc
     column_out reference name (Some found) is none =
-        let there : Stands schema from found = resolve_stands schema text from (whole_scope from) reference found (sym is) in
+        let there : ColumnExists schema from found = resolved_exists schema text from (whole_scope from) reference found (sym is) in
         record { column = there.column; finds = found_finds schema from found there }
 
     out_of : (o : OutNode) → out_offences schema text from (whole_scope from) o ≡ [] → out_offences schema text from (whole_scope from) o ≡ [] → All (IsOutOf schema from) (outs_of schema text from o)

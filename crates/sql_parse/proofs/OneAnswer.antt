@@ -3,7 +3,7 @@ use Rattle.std.proofs.Common.{◌≡◌, ◌⊎◌, inl, inr, ℕ, ◌<◌, ◌�
 use Rattle.std.proofs.lemmas.List.{append-nil}
 use Rattle.ll_grammars.specs.declared.lexeme.Lexeme.{Lexeme}
 use Rattle.ll_grammars.specs.Language.{Language, IsViablePrefix, Fails, GoesWrong}
-use Rattle.ll_grammars.specs.Places.{IsSyntaxPlace}
+use Rattle.ll_grammars.specs.Places.{IsSyntaxErrorAt}
 use Rattle.ll_grammars.specs.Rules.{place}
 use Rattle.query_grammar.specs.declared.tree.QueryNode.{QueryNode}
 use Rattle.query_grammar.specs.Grammar.{QuerySpecification}
@@ -76,7 +76,7 @@ module _ {A : Type 0} (L : Language A) where
     at (t ∷ rest) whole fails =
         fails (record { more = rest; value = value; spelled = subst (λ l. L l value) (whole ∙ sym (append_assoc wrong.front (t ∷ []) rest)) spells })
 
-  one_syntax_place : (tokens : List Lexeme) (text_len at other : ℕ) → IsSyntaxPlace L tokens text_len at → IsSyntaxPlace L tokens text_len other → at ≡ other
+  one_syntax_place : (tokens : List Lexeme) (text_len at other : ℕ) → IsSyntaxErrorAt L tokens text_len at → IsSyntaxErrorAt L tokens text_len other → at ≡ other
   one_syntax_place tokens text_len at other a b = a.here ∙ ap (λ r. place r text_len) (one_rest tokens a.rest b.rest a.wrong b.wrong) ∙ sym b.here
 
 -- ---- one answer
@@ -91,7 +91,7 @@ module _ (schema : Schema) (text : List ℕ) (a b : Result Query QueryError) whe
   both_unspelled : IsUnspelled schema text a → IsUnspelled schema text b → a ≡ b
   both_unspelled x y =
       let same : x.tokens ≡ y.tokens = one_list text x.tokens y.tokens x.lexed y.lexed in
-      let there : IsSyntaxPlace QuerySpecification (lexemes_of text y.tokens) (length text) x.place = subst (λ ts. IsSyntaxPlace QuerySpecification (lexemes_of text ts) (length text) x.place) same x.wrong in
+      let there : IsSyntaxErrorAt QuerySpecification (lexemes_of text y.tokens) (length text) x.place = subst (λ ts. IsSyntaxErrorAt QuerySpecification (lexemes_of text ts) (length text) x.place) same x.wrong in
       x.refused
       ∙ ap (λ ts. Err (error.Syntax (least x.place (number_offences text (lexemes_of text ts))))) same
       ∙ ap (λ at. Err (error.Syntax (least at (number_offences text (lexemes_of text y.tokens))))) (one_syntax_place QuerySpecification (lexemes_of text y.tokens) (length text) x.place y.place there y.wrong)
@@ -111,7 +111,7 @@ module _ (schema : Schema) (text : List ℕ) (a b : Result Query QueryError) whe
       let same : nesting (lexemes_of text ts) ≡ nesting (lexemes_of text us) = ap (λ l. nesting (lexemes_of text l)) (one_list text ts us lexed others) in
       omega arith
 
-  spelled_or_not : (ts us : List Token) (at : ℕ) (tree : QueryNode) → IsLexed text ts → IsLexed text us → IsSyntaxPlace QuerySpecification (lexemes_of text ts) (length text) at
+  spelled_or_not : (ts us : List Token) (at : ℕ) (tree : QueryNode) → IsLexed text ts → IsLexed text us → IsSyntaxErrorAt QuerySpecification (lexemes_of text ts) (length text) at
       → QuerySpecification (lexemes_of text us) tree → ⊥
   spelled_or_not ts us at tree lexed others wrong spells =
       not_spelled QuerySpecification (lexemes_of text ts) wrong.rest tree wrong.wrong

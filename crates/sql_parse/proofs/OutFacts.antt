@@ -22,7 +22,7 @@ use Rattle.query_names.specs.Values.{outs_from, outs_of_table, outs_of_entry}
 use Rattle.query_names.specs.Binding.{schema_of, from_of}
 use Rattle.sql_parse.specs.declared.outputs.Selected.{Selected}
 use Rattle.sql_parse.specs.Outputs.{capped, outs_of_entry_by, all_outs_by, outs_by, selected_by}
-use Rattle.query_names.proofs.Walk.{left_at}
+use Rattle.query_names.proofs.Walk.{rest_at}
 use Rattle.query_names.proofs.Resolved.{IsEntry, named_is}
 use Rattle.query_names.proofs.ScopeFacts.{none_in_scope, one_more_in_scope}
 
@@ -38,7 +38,7 @@ column_added from xs {i} {n} d old {new} {whole} {name} here below left named is
     let rest : List Out = outs_from from (n + 1) (drop (i + 1) xs) in
     added old (record { column = record { from = from; column = n }; name = name } ∷ []) rest
     (ap (λ m. old ++ (record { column = record { from = from; column = n }; name = m } ∷ rest)) named
-    ∙ ap (λ l. old ++ outs_from from n l) (sym (left_at xs i d below)) ∙ left)
+    ∙ ap (λ l. old ++ outs_from from n l) (sym (rest_at xs i d below)) ∙ left)
     is
 
 pub columns_added : (from : ℕ) (xs : List Column) {i : ℕ} (n : ℕ) {old whole : List Out} → length xs ≤ i → old ++ outs_from from n (drop i xs) ≡ whole → old ≡ whole
@@ -67,14 +67,14 @@ few_columns schema i table valid found =
 -- ---- what is counted and built
 
 -- the outputs are always counted, and built unless the limit on outputs or the limit on FROM entries is passed
-pub record IsGathered (binder : Binder) (found : Selected) (list : List Out) : Type 0 where
+pub record IsCountedAndBuilt (binder : Binder) (found : Selected) (list : List Out) : Type 0 where
   pub count : found.count ≡ capped (length list)
   pub outs : length (from_of binder) ≤ 12 → found.count ≤ most_outputs → found.outs ≡ list
 
 module _ (binder : Binder) where
-  pub gathered_more : (list item : List Out) {old new : Selected} {next : List Out} → next ≡ list ++ item → IsGathered binder old list
-      → new.count ≡ capped (old.count + length item) → (length (from_of binder) ≤ 12 → new.count ≤ most_outputs → new.outs ≡ old.outs ++ item) → IsGathered binder new next
-  gathered_more list item {old} {new} {next} is so_far counted added = subst (IsGathered binder new) (sym is) (record {
+  pub gathered_more : (list item : List Out) {old new : Selected} {next : List Out} → next ≡ list ++ item → IsCountedAndBuilt binder old list
+      → new.count ≡ capped (old.count + length item) → (length (from_of binder) ≤ 12 → new.count ≤ most_outputs → new.outs ≡ old.outs ++ item) → IsCountedAndBuilt binder new next
+  gathered_more list item {old} {new} {next} is so_far counted added = subst (IsCountedAndBuilt binder new) (sym is) (record {
     count = omega (arith, length-append list item, so_far.count);
     outs = λ few within. added few within ∙ ap (λ l. l ++ item) (so_far.outs few (omega (arith, so_far.count)));
   })

@@ -2,7 +2,7 @@
 use Rattle.std.proofs.Common.{◌≡◌, ℕ, ◌<◌, List, [], ◌∷◌, length, map, ap, subst, ◌∙◌, arith}
 use Rattle.std.specs.List.{flat_map}
 use Rattle.ll_grammars.specs.declared.lexeme.Lexeme.{Lexeme}
-use Rattle.query_grammar.specs.declared.tree.PartNode.{PartNode}
+use Rattle.query_grammar.specs.declared.tree.FromItemNode.{FromItemNode}
 use Rattle.query_grammar.specs.declared.tree.SourceNode.{SourceNode}
 use Rattle.query_grammar.specs.declared.tree.QueryNode.{QueryNode}
 use Rattle.query_grammar.specs.Grammar.{QuerySpecification}
@@ -15,9 +15,9 @@ unfolding QuerySpecification
 some_parts tokens query spells =
     let listed = spells.2.second.second.second.first in
     let are : listed.0.0 ∷ listed.0.1 ≡ query.parts = listed.1 ∙ ap (λ (q : QueryNode). q.parts) spells.1 in
-    subst (λ (parts : List PartNode). 0 < length parts) are (omega arith)
+    subst (λ (parts : List FromItemNode). 0 < length parts) are (omega arith)
 
-some_sources : (f : SourceNode → Source) (parts : List PartNode) → 0 < length parts → 0 < length (map f (flat_map sources_of parts))
+some_sources : (f : SourceNode → Source) (parts : List FromItemNode) → 0 < length parts → 0 < length (map f (flat_map sources_of parts))
 some_sources f [] some = absurd (omega arith)
 some_sources f (part ∷ rest) some = omega arith
 

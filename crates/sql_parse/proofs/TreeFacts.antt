@@ -6,7 +6,7 @@ use Rattle.std.proofs.lemmas.List.{length-map}
 use Rattle.std.proofs.lemmas.List.Elements.{All-nil, All-cons, All-head, All-tail, All-append}
 use Rattle.ll_grammars.specs.declared.lexeme.Lexeme.{Lexeme}
 use Rattle.query_grammar.specs.declared.tree.JoinedNode.{JoinedNode}
-use Rattle.query_grammar.specs.declared.tree.PartNode.{PartNode}
+use Rattle.query_grammar.specs.declared.tree.FromItemNode.{FromItemNode}
 use Rattle.query_grammar.specs.declared.tree.QueryNode.{QueryNode}
 use Rattle.query_grammar.specs.declared.tree.SourceNode.{SourceNode}
 use Rattle.query_grammar.specs.Lexemes.{IsSourceOf, IsJoinOf, IsPartOf, IsQueryOf}
@@ -20,9 +20,9 @@ use Rattle.query_names.specs.Names.{sources_of, entry_of, entries, from_offences
 use Rattle.sql_parse.specs.QueryOrRefusal.{query_or_refusal}
 use Rattle.query_names.specs.Answers.{first}
 use Rattle.query_names.specs.Binding.{schema_of, from_of}
-use Rattle.sql_parse.specs.Behind.{conjuncts_by}
+use Rattle.sql_parse.specs.AfterFrom.{conjuncts_by}
 use Rattle.sql_parse.specs.Outputs.{selected_by}
-use Rattle.sql_parse.specs.Refusing.{refusals_behind, IsFirstOf, Answers}
+use Rattle.sql_parse.specs.Refusing.{refusals_after_from, IsFirstOf, Answers}
 use Rattle.sql_parse.proofs.BindFacts.{behind_by, value_by}
 
 module _ (P : Lexeme → Type 0) where
@@ -30,10 +30,10 @@ module _ (P : Lexeme → Type 0) where
   joined_lie_in [] lie = All-nil (IsSourceOf P)
   joined_lie_in (join ∷ rest) lie = All-cons (IsSourceOf P) join.source (map (λ join. join.source) rest) (All-head (IsJoinOf P) join rest lie).0 (joined_lie_in rest (All-tail (IsJoinOf P) join rest lie))
 
-  part_lies_in : (part : PartNode) → IsPartOf P part → All (IsSourceOf P) (sources_of part)
+  part_lies_in : (part : FromItemNode) → IsPartOf P part → All (IsSourceOf P) (sources_of part)
   part_lies_in part lies = All-cons (IsSourceOf P) part.first (map (λ join. join.source) part.joins) lies.0 (joined_lie_in part.joins lies.1)
 
-  parts_lie_in : (parts : List PartNode) → All (IsPartOf P) parts → All (IsSourceOf P) (flat_map sources_of parts)
+  parts_lie_in : (parts : List FromItemNode) → All (IsPartOf P) parts → All (IsSourceOf P) (flat_map sources_of parts)
   parts_lie_in [] lie = All-nil (IsSourceOf P)
   parts_lie_in (part ∷ rest) lie =
       All-append (IsSourceOf P) (sources_of part) (flat_map sources_of rest) (part_lies_in part (All-head (IsPartOf P) part rest lie)) (parts_lie_in rest (All-tail (IsPartOf P) part rest lie))
@@ -54,16 +54,16 @@ module _ (schema : Schema) (text : List ℕ) (query : QueryNode) (from : List So
 
 module _ (schema : Schema) (text : List ℕ) (query : QueryNode) (binder : Binder) where
   pub behind_refused : schema_of binder ≡ schema → binder.text.now ≡ text → from_of binder ≡ entries schema text query → from_offences schema text query ≡ []
-      → (e : QueryError) → IsFirstOf (refusals_behind binder query) e → Answers (query_or_refusal schema text query) (Err e)
+      → (e : QueryError) → IsFirstOf (refusals_after_from binder query) e → Answers (query_or_refusal schema text query) (Err e)
   behind_refused is_schema is_text is_from none e wrong = behind_by schema text query binder (record { schema_is = is_schema; text_is = is_text; from_is = is_from; no_offence = none }) e wrong
 
   pub behind_errs : schema_of binder ≡ schema → binder.text.now ≡ text → from_of binder ≡ entries schema text query → from_offences schema text query ≡ []
-      → {A : Type 0} (answer : Result A QueryError) → IfErr answer (IsFirstOf (refusals_behind binder query)) → IfErr answer (λ e. Answers (query_or_refusal schema text query) (Err e))
+      → {A : Type 0} (answer : Result A QueryError) → IfErr answer (IsFirstOf (refusals_after_from binder query)) → IfErr answer (λ e. Answers (query_or_refusal schema text query) (Err e))
   behind_errs is_schema is_text is_from none (Ok value) wrong = tt
   behind_errs is_schema is_text is_from none (Err e) wrong = behind_refused is_schema is_text is_from none e wrong
 
   pub answered : schema_of binder ≡ schema → binder.text.now ≡ text → from_of binder ≡ entries schema text query → from_offences schema text query ≡ []
-      → (conjs : List Cond) (outs : List Out) → conjs ≡ conjuncts_by binder query → outs ≡ selected_by binder query.outs → first (refusals_behind binder query) ≡ None
+      → (conjs : List Cond) (outs : List Out) → conjs ≡ conjuncts_by binder query → outs ≡ selected_by binder query.outs → first (refusals_after_from binder query) ≡ None
       → Answers (query_or_refusal schema text query) (Ok (record { from = from_of binder; conjuncts = conjs; select = outs }))
   answered is_schema is_text is_from none conjs outs is_conjs is_outs no_refusal =
       value_by schema text query binder (record { schema_is = is_schema; text_is = is_text; from_is = is_from; no_offence = none }) (from_of binder) conjs outs is_from is_conjs is_outs no_refusal

@@ -1,6 +1,6 @@
 pub mod QueryOrRefusal
 pub mod Outputs
 pub mod Reading
-pub mod Behind
+pub mod AfterFrom
 pub mod Refusing
 pub mod Stages

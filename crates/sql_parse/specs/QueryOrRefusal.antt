@@ -44,9 +44,9 @@ limit_refusals query lists =
 
 -- ---- names, then kinds, then limits
 
-abbrev pub first_place : (ℕ → QueryError) → List ℕ → List QueryError
-first_place wrong [] = []
-first_place wrong (place ∷ rest) = wrong place ∷ []
+abbrev pub refusal_at_first : (ℕ → QueryError) → List ℕ → List QueryError
+refusal_at_first wrong [] = []
+refusal_at_first wrong (place ∷ rest) = wrong place ∷ []
 
 abbrev pub name_error : ℕ → QueryError
 name_error place = error.Name place
@@ -58,8 +58,8 @@ module _ (schema : Schema) (text : List ℕ) (query : QueryNode) where
   unfoldable pub refusals : List QueryError
   refusals =
       let from = entries schema text query in
-      first_place name_error (name_offences schema text from query)
-      ++ first_place kind_error (all_kind_offences schema text from query)
+      refusal_at_first name_error (name_offences schema text from query)
+      ++ refusal_at_first kind_error (all_kind_offences schema text from query)
       ++ limit_refusals (query_of schema text query) (long_lists from query)
 
 abbrev pub unless : {A : Type 0} → List QueryError → A → Result A QueryError

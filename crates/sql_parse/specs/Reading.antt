@@ -1,7 +1,7 @@
 -- What reading a query text may answer.
 use Rattle.std.specs.Prelude.{◌≡◌, ◌⊎◌, ℕ, ◌<◌, ◌≤◌, min, List, [], ◌∷◌, length, map, Result, Err}
 use Rattle.ll_grammars.specs.declared.lexeme.Lexeme.{Lexeme}
-use Rattle.ll_grammars.specs.Places.{IsSyntaxPlace}
+use Rattle.ll_grammars.specs.Places.{IsSyntaxErrorAt}
 use Rattle.sql_tokens.specs.declared.token.Token.{Token}
 use Rattle.sql_tokens.specs.Words.{lexeme_of}
 use Rattle.sql_tokens.specs.Lexing.{IsLexed, IsBad}
@@ -54,7 +54,7 @@ module _ (schema : Schema) (text : List ℕ) (answer : Result Query QueryError) 
     pub lexed : IsLexed text tokens
     pub shallow : nesting (lexemes_of text tokens) ≤ most_nesting
     pub place : ℕ
-    pub wrong : IsSyntaxPlace QuerySpecification (lexemes_of text tokens) (length text) place
+    pub wrong : IsSyntaxErrorAt QuerySpecification (lexemes_of text tokens) (length text) place
     pub refused : answer ≡ Err (error.Syntax (least place (number_offences text (lexemes_of text tokens))))
 
   -- the tokens are a query of the grammar. A number outside the range is refused first; otherwise names, kinds and limits decide the answer

@@ -7,10 +7,10 @@ use Rattle.query_names.specs.declared.binder.Binder.{Binder}
 use Rattle.query_names.specs.declared.errors.QueryError.{QueryError}
 use Rattle.query_names.specs.declared.errors.QueryError.TheVariants as error
 use Rattle.query_types.specs.declared.types.Query.{Query}
-use Rattle.sql_parse.specs.QueryOrRefusal.{refusal, over, first_list, first_place, name_error, kind_error}
+use Rattle.sql_parse.specs.QueryOrRefusal.{refusal, over, first_list, refusal_at_first, name_error, kind_error}
 use Rattle.query_names.specs.Answers.{first}
 use Rattle.query_names.specs.Binding.{from_of}
-use Rattle.sql_parse.specs.Behind.{names_behind, kinds_behind, lists_behind, conjuncts_by}
+use Rattle.sql_parse.specs.AfterFrom.{names_after_from, kinds_after_from, lists_after_from, conjuncts_by}
 use Rattle.sql_parse.specs.Outputs.{selected_by}
 
 -- ---- the limits that are passed, given the numbers of entries, conjuncts and outputs, and the length of the first list of IN that is too long
@@ -28,17 +28,17 @@ limits_passed entries list conjuncts outputs =
 unfoldable pub limits_by : Binder → QueryNode → List QueryError
 limits_by binder query =
     over limit.FromEntries most_entries (length (from_of binder))
-    ++ first_list (lists_behind binder query)
+    ++ first_list (lists_after_from binder query)
     ++ over limit.Conjuncts most_conjuncts (length (conjuncts_by binder query))
     ++ over limit.Outputs most_outputs (length (selected_by binder query.outs))
 
 -- the refusals for kinds, then for limits
 unfoldable pub late_refusals : Binder → QueryNode → List QueryError
-late_refusals binder query = first_place kind_error (kinds_behind binder query) ++ limits_by binder query
+late_refusals binder query = refusal_at_first kind_error (kinds_after_from binder query) ++ limits_by binder query
 
 -- the refusals for names, then for kinds and limits
-unfoldable pub refusals_behind : Binder → QueryNode → List QueryError
-refusals_behind binder query = first_place name_error (names_behind binder query) ++ late_refusals binder query
+unfoldable pub refusals_after_from : Binder → QueryNode → List QueryError
+refusals_after_from binder query = refusal_at_first name_error (names_after_from binder query) ++ late_refusals binder query
 
 -- `e` is the first of the refusals. The answer that memory ran out may come at any time
 abbrev pub IsFirstOf : List QueryError → QueryError → Type 0

@@ -8,7 +8,7 @@ ghost use Rattle.query_names.specs.Answers.{IsNameError};
 ghost use Rattle.sql_parse.specs.QueryOrRefusal.{query_or_refusal};
 ghost use Rattle.sql_parse.specs.Refusing.{Answers};
 
-use crate::query_limits::behind_from;
+use crate::query_limits::after_from;
 use base_io::Seq;
 use query_grammar::QueryNode;
 use query_names::{Binder, Catalog, Entries, QueryError, all_sources, read_entries};
@@ -35,7 +35,7 @@ fn entries_of(
 
 /// The conjuncts and the outputs of a query whose FROM entries don't offend, or the first refusal.
 #[tactic(auto, using(crate::proofs::TreeFacts::behind_refused, crate::proofs::TreeFacts::answered, crate::proofs::TreeFacts::ends_within))]
-fn bind_behind(
+fn bind_after_from(
     alloc: Global,
     catalog: &Catalog<'_>,
     text: &[u8],
@@ -57,7 +57,7 @@ fn bind_behind(
         text,
         entries: from,
     };
-    behind_from(&binder, query)
+    after_from(&binder, query)
 }
 
 /// The query of a syntax tree, or the first refusal in the order names, kinds, limits.
@@ -74,7 +74,7 @@ pub fn bind(
 {
     let catalog = Catalog::new(alloc, schema)?;
     let entries = entries_of(alloc, &catalog, text, query)?;
-    let (conjuncts, select) = bind_behind(alloc, &catalog, text, &entries, query)?;
+    let (conjuncts, select) = bind_after_from(alloc, &catalog, text, &entries, query)?;
     Ok(Query {
         from: entries.sources,
         conjuncts,

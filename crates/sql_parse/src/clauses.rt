@@ -8,12 +8,12 @@ ghost use Rattle.query_grammar.specs.Lexemes.{IsQueryOf};
 ghost use Rattle.query_names.specs.Names.{sources_of};
 ghost use Rattle.query_names.specs.Scopes.{whole_scope};
 ghost use Rattle.query_names.specs.Answers.{IsNameError, or_first};
-ghost use Rattle.query_names.specs.Binding.{Shows, schema_of, from_of};
-ghost use Rattle.sql_parse.specs.Behind.{names_behind, kinds_behind, lists_behind, conjuncts_by};
+ghost use Rattle.query_names.specs.Binding.{FirstTwoAreEnough, schema_of, from_of};
+ghost use Rattle.sql_parse.specs.AfterFrom.{names_after_from, kinds_after_from, lists_after_from, conjuncts_by};
 ghost use Rattle.sql_parse.specs.Outputs.{selected_by, capped};
 
 use crate::outputs::Selected;
-use crate::parts::{look_at_filter, look_at_parts};
+use crate::parts::{bind_filter, bind_parts};
 use crate::select_list::select;
 use base_io::Seq;
 use query_grammar::QueryNode;
@@ -22,7 +22,7 @@ use query_types::Cond;
 
 /// Resolves the names of the SELECT list and gathers its outputs. Then checks all conditions. The conjuncts are added if the query doesn't have too
 /// many entries and no list of IN is too long.
-#[tactic(auto, using(crate::proofs::BehindFacts::no_name, crate::proofs::BehindFacts::name_in_outs, crate::proofs::BehindFacts::name_in_parts, crate::proofs::BehindFacts::name_in_filter, crate::proofs::BehindFacts::kinds_behind_are, crate::proofs::BehindFacts::lists_behind_are, crate::proofs::BehindFacts::conjuncts_are_both), unfolding(query_grammar::specs::Lexemes::IsQueryOf))]
+#[tactic(auto, using(crate::proofs::AfterFromFacts::no_name, crate::proofs::AfterFromFacts::name_in_outs, crate::proofs::AfterFromFacts::name_in_parts, crate::proofs::AfterFromFacts::name_in_filter, crate::proofs::AfterFromFacts::kinds_behind_are, crate::proofs::AfterFromFacts::lists_behind_are, crate::proofs::AfterFromFacts::conjuncts_are_both), unfolding(query_grammar::specs::Lexemes::IsQueryOf))]
 pub fn check_clauses(
     binder: &Binder<'_>,
     visible: &Visible,
@@ -30,23 +30,23 @@ pub fn check_clauses(
     held: &mut HeldOffences,
     conjuncts: &mut Seq<Cond>,
 ) -> Result<Selected, QueryError>
-    requires shows { Shows binder.now visible.now }
+    requires shows { FirstTwoAreEnough binder.now visible.now }
     requires all { visible.now.scope ≡ whole_scope (from_of binder.now) }
     requires valid { IsValid (schema_of binder.now) }
     requires ends { length (flat_map sources_of query.now.parts) ≤ length (from_of binder.now) }
     requires tokens { IsQueryOf (IsLexemeOf binder.now.text.now) query.now }
-    ensures names { IfOk result (λ _. names_behind binder.now query.now ≡ []) }
-    ensures kind { IfOk result (λ _. held.new.kind ≡ or_first held.old.kind (kinds_behind binder.now query.now)) }
-    ensures list { IfOk result (λ _. held.new.list ≡ or_first held.old.list (lists_behind binder.now query.now)) }
+    ensures names { IfOk result (λ _. names_after_from binder.now query.now ≡ []) }
+    ensures kind { IfOk result (λ _. held.new.kind ≡ or_first held.old.kind (kinds_after_from binder.now query.now)) }
+    ensures list { IfOk result (λ _. held.new.list ≡ or_first held.old.list (lists_after_from binder.now query.now)) }
     ensures members { IfOk result (λ _. length (from_of binder.now) ≤ 12 → held.new.list ≡ None
         → conjuncts.new ≡ conjuncts.old ++ conjuncts_by binder.now query.now) }
     ensures count { IfOk result (λ found. found.count ≡ capped (length (selected_by binder.now query.now.outs))) }
     ensures outs { IfOk result (λ found. length (from_of binder.now) ≤ 12 → found.count ≤ most_outputs
         → found.outs ≡ selected_by binder.now query.now.outs) }
-    ensures err { IfErr result (IsNameError (names_behind binder.now query.now)) }
+    ensures err { IfErr result (IsNameError (names_after_from binder.now query.now)) }
 {
     let found = select(binder, visible, &query.outs)?;
-    look_at_parts(binder, query.parts.as_slice(), held, conjuncts)?;
-    look_at_filter(binder, &query.filter, held, conjuncts)?;
+    bind_parts(binder, query.parts.as_slice(), held, conjuncts)?;
+    bind_filter(binder, &query.filter, held, conjuncts)?;
     Ok(found)
 }

@@ -38,7 +38,7 @@ impl Selected {
     }
 
     /// Counts `more` outputs, and says whether these are to be built. If a limit is passed, the query is refused later, so no memory is taken for them.
-    fn admits(&mut self, binder: &Binder<'_>, more: u64) -> bool
+    fn count_more(&mut self, binder: &Binder<'_>, more: u64) -> bool
         ensures count { self.new.count ≡ capped (self.old.count + more) }
         ensures outs { self.new.outs ≡ self.old.outs }
         ensures few { result ≡ true → length (from_of binder.now) ≤ 12 }
@@ -99,7 +99,7 @@ pub fn add_entry(binder: &Binder<'_>, entry: Entry, found: &mut Selected) -> Res
         → found.new.outs ≡ found.old.outs ++ outs_of_entry_by binder.now entry) }
 {
     let columns = columns_of(binder, entry);
-    if !found.admits(binder, columns.len() as u64) {
+    if !found.count_more(binder, columns.len() as u64) {
         return Ok(());
     }
     add_columns(binder.alloc, entry.number as u8, columns, &mut found.outs)
@@ -121,7 +121,7 @@ pub fn add_column(
           name = name_of binder.now.text.now token.now;
         } ∷ []) }
 {
-    if !found.admits(binder, 1) {
+    if !found.count_more(binder, 1) {
         return Ok(());
     }
     let name = name(binder.alloc, binder.text, token)?;

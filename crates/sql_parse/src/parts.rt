@@ -4,47 +4,47 @@ ghost use Rattle.std.specs.List.{flat_map};
 ghost use Rattle.sql_tokens.specs.Words.{IsLexemeOf};
 ghost use Rattle.query_grammar.specs.Lexemes.{IsCondOf, IsPartOf};
 ghost use Rattle.query_names.specs.Names.{sources_of};
-ghost use Rattle.query_names.specs.Scopes.{joined, on_conditions, where_scope};
+ghost use Rattle.query_names.specs.Scopes.{conditions_of_joins, on_conditions, where_condition};
 ghost use Rattle.query_names.specs.Answers.{IsNameError, or_first};
 ghost use Rattle.query_names.specs.Binding.{from_of, names_in, kinds_in, lists_in, members_in};
 
-use crate::joins::{look_at_condition, look_at_joins};
+use crate::joins::{bind_condition, bind_joins};
 use base_io::Seq;
-use query_grammar::{CondNode, PartNode};
+use query_grammar::{CondNode, FromItemNode};
 use query_names::{Binder, HeldOffences, QueryError};
 use query_types::Cond;
 
 /// Checks the conditions of a part whose first entry is entry `first`. Returns the number of the next part's first entry.
-fn look_at_part(
+fn bind_part(
     binder: &Binder<'_>,
     first: usize,
-    part: &PartNode,
+    part: &FromItemNode,
     held: &mut HeldOffences,
     conjuncts: &mut Seq<Cond>,
 ) -> Result<usize, QueryError>
     requires ends { first + 1 + length part.now.joins ≤ length (from_of binder.now) }
     requires tokens { IsPartOf (IsLexemeOf binder.now.text.now) part.now }
     ensures next { IfOk result (λ next. next ≡ first + 1 + length part.now.joins) }
-    ensures names { IfOk result (λ _. flat_map (names_in binder.now) (joined first (first + 1) part.now.joins) ≡ []) }
+    ensures names { IfOk result (λ _. flat_map (names_in binder.now) (conditions_of_joins first (first + 1) part.now.joins) ≡ []) }
     ensures kind { IfOk result (λ _.
-        held.new.kind ≡ or_first held.old.kind (flat_map (kinds_in binder.now) (joined first (first + 1) part.now.joins))) }
-    ensures list { IfOk result (λ _. held.new.list ≡ or_first held.old.list (flat_map lists_in (joined first (first + 1) part.now.joins))) }
+        held.new.kind ≡ or_first held.old.kind (flat_map (kinds_in binder.now) (conditions_of_joins first (first + 1) part.now.joins))) }
+    ensures list { IfOk result (λ _. held.new.list ≡ or_first held.old.list (flat_map lists_in (conditions_of_joins first (first + 1) part.now.joins))) }
     ensures lasts { IfOk result (λ _. held.new.list ≡ None → held.old.list ≡ None) }
     ensures members { IfOk result (λ _. length (from_of binder.now) ≤ 12 → held.new.list ≡ None
-        → conjuncts.new ≡ conjuncts.old ++ flat_map (members_in binder.now) (joined first (first + 1) part.now.joins)) }
-    ensures err { IfErr result (IsNameError (flat_map (names_in binder.now) (joined first (first + 1) part.now.joins))) }
+        → conjuncts.new ≡ conjuncts.old ++ flat_map (members_in binder.now) (conditions_of_joins first (first + 1) part.now.joins)) }
+    ensures err { IfErr result (IsNameError (flat_map (names_in binder.now) (conditions_of_joins first (first + 1) part.now.joins))) }
 {
     let mut visible = binder.none_visible(first);
     binder.admit(&mut visible)?;
-    look_at_joins(binder, part.joins.as_slice(), &mut visible, held, conjuncts)?;
+    bind_joins(binder, part.joins.as_slice(), &mut visible, held, conjuncts)?;
     Ok(visible.scope.end)
 }
 
 /// Checks the conditions of all parts.
 #[tactic(auto, using(crate::proofs::PartFacts::conditions_at, crate::proofs::PartFacts::sources_at, query_names::proofs::Walk::or_first_append))]
-pub fn look_at_parts(
+pub fn bind_parts(
     binder: &Binder<'_>,
-    parts: &[PartNode],
+    parts: &[FromItemNode],
     held: &mut HeldOffences,
     conjuncts: &mut Seq<Cond>,
 ) -> Result<(), QueryError>
@@ -59,33 +59,33 @@ pub fn look_at_parts(
 {
     let mut first = 0;
     'all: for part in parts {
-        first = look_at_part(binder, first, part, held, conjuncts)?;
+        first = bind_part(binder, first, part, held, conjuncts)?;
     }
     Ok(())
 }
 
 /// Checks the condition of WHERE.
-pub fn look_at_filter(
+pub fn bind_filter(
     binder: &Binder<'_>,
     filter: &Option<CondNode>,
     held: &mut HeldOffences,
     conjuncts: &mut Seq<Cond>,
 ) -> Result<(), QueryError>
     requires tokens { IfSome filter.now (IsCondOf (IsLexemeOf binder.now.text.now)) }
-    ensures names { IfOk result (λ _. flat_map (names_in binder.now) (where_scope (from_of binder.now) filter.now) ≡ []) }
+    ensures names { IfOk result (λ _. flat_map (names_in binder.now) (where_condition (from_of binder.now) filter.now) ≡ []) }
     ensures kind { IfOk result (λ _.
-        held.new.kind ≡ or_first held.old.kind (flat_map (kinds_in binder.now) (where_scope (from_of binder.now) filter.now))) }
+        held.new.kind ≡ or_first held.old.kind (flat_map (kinds_in binder.now) (where_condition (from_of binder.now) filter.now))) }
     ensures list { IfOk result (λ _.
-        held.new.list ≡ or_first held.old.list (flat_map lists_in (where_scope (from_of binder.now) filter.now))) }
+        held.new.list ≡ or_first held.old.list (flat_map lists_in (where_condition (from_of binder.now) filter.now))) }
     ensures lasts { IfOk result (λ _. held.new.list ≡ None → held.old.list ≡ None) }
     ensures members { IfOk result (λ _. length (from_of binder.now) ≤ 12 → held.new.list ≡ None
-        → conjuncts.new ≡ conjuncts.old ++ flat_map (members_in binder.now) (where_scope (from_of binder.now) filter.now)) }
-    ensures err { IfErr result (IsNameError (flat_map (names_in binder.now) (where_scope (from_of binder.now) filter.now))) }
+        → conjuncts.new ≡ conjuncts.old ++ flat_map (members_in binder.now) (where_condition (from_of binder.now) filter.now)) }
+    ensures err { IfErr result (IsNameError (flat_map (names_in binder.now) (where_condition (from_of binder.now) filter.now))) }
 {
     match filter {
         Some(condition) => {
             let visible = binder.all_visible()?;
-            look_at_condition(binder, &visible, condition, held, conjuncts)
+            bind_condition(binder, &visible, condition, held, conjuncts)
         }
         None => Ok(()),
     }

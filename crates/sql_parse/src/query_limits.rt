@@ -8,9 +8,9 @@ ghost use Rattle.query_names.specs.declared.errors.QueryError.TheVariants as err
 ghost use Rattle.query_names.specs.Names.{sources_of};
 ghost use Rattle.query_names.specs.Answers.{first};
 ghost use Rattle.query_names.specs.Binding.{schema_of, from_of};
-ghost use Rattle.sql_parse.specs.Behind.{conjuncts_by};
+ghost use Rattle.sql_parse.specs.AfterFrom.{conjuncts_by};
 ghost use Rattle.sql_parse.specs.Outputs.{selected_by};
-ghost use Rattle.sql_parse.specs.Refusing.{limits_passed, refusals_behind, IsFirstOf};
+ghost use Rattle.sql_parse.specs.Refusing.{limits_passed, refusals_after_from, IsFirstOf};
 
 use crate::clauses::check_clauses;
 use base_io::Seq;
@@ -50,17 +50,17 @@ fn first_limit(
 
 /// The conjuncts and the outputs of a query whose FROM entries are known, or the first refusal: for a name, a kind or a limit.
 #[tactic(auto, using(crate::proofs::BindFacts::name_refused, crate::proofs::BindFacts::kind_refused))]
-pub fn behind_from(
+pub fn after_from(
     binder: &Binder<'_>,
     query: &QueryNode,
 ) -> Result<(Seq<Cond>, Seq<Out>), QueryError>
     requires valid { IsValid (schema_of binder.now) }
     requires ends { length (flat_map sources_of query.now.parts) ≤ length (from_of binder.now) }
     requires tokens { IsQueryOf (IsLexemeOf binder.now.text.now) query.now }
-    ensures none { IfOk result (λ _. first (refusals_behind binder.now query.now) ≡ None) }
+    ensures none { IfOk result (λ _. first (refusals_after_from binder.now query.now) ≡ None) }
     ensures conjuncts { IfOk result (λ found. found.0 ≡ conjuncts_by binder.now query.now) }
     ensures outputs { IfOk result (λ found. found.1 ≡ selected_by binder.now query.now.outs) }
-    ensures err { IfErr result (IsFirstOf (refusals_behind binder.now query.now)) }
+    ensures err { IfErr result (IsFirstOf (refusals_after_from binder.now query.now)) }
 {
     let visible = binder.all_visible()?;
     let mut held = HeldOffences {

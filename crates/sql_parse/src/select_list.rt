@@ -7,7 +7,7 @@ ghost use Rattle.sql_tokens.specs.Words.{IsLexemeOf};
 ghost use Rattle.query_grammar.specs.Lexemes.{IsOutOf, IsOutListOf};
 ghost use Rattle.query_names.specs.Answers.{IsNameError};
 ghost use Rattle.query_names.specs.Scopes.{whole_scope};
-ghost use Rattle.query_names.specs.Binding.{Shows, schema_of, from_of, out_offences_of, outs_offences_of};
+ghost use Rattle.query_names.specs.Binding.{FirstTwoAreEnough, schema_of, from_of, out_offences_of, outs_offences_of};
 ghost use Rattle.sql_parse.specs.Outputs.{all_outs_by, outs_by, selected_by, capped};
 
 use crate::outputs::{Selected, add_column, add_entry};
@@ -40,7 +40,7 @@ fn add_out(
     out: &OutNode,
     found: &mut Selected,
 ) -> Result<(), QueryError>
-    requires shows { Shows binder.now visible.now }
+    requires shows { FirstTwoAreEnough binder.now visible.now }
     requires all { visible.now.scope ≡ whole_scope (from_of binder.now) }
     requires valid { IsValid (schema_of binder.now) }
     requires tokens { IsOutOf (IsLexemeOf binder.now.text.now) out.now }
@@ -72,7 +72,7 @@ fn add_out(
 
 /// Resolves the names of all items of a list, in text order, and gathers the outputs that the items give.
 fn listed(binder: &Binder<'_>, visible: &Visible, list: &[OutNode]) -> Result<Selected, QueryError>
-    requires shows { Shows binder.now visible.now }
+    requires shows { FirstTwoAreEnough binder.now visible.now }
     requires all { visible.now.scope ≡ whole_scope (from_of binder.now) }
     requires valid { IsValid (schema_of binder.now) }
     requires tokens { All (IsOutOf (IsLexemeOf binder.now.text.now)) list.now }
@@ -96,7 +96,7 @@ pub fn select(
     visible: &Visible,
     outs: &OutsNode,
 ) -> Result<Selected, QueryError>
-    requires shows { Shows binder.now visible.now }
+    requires shows { FirstTwoAreEnough binder.now visible.now }
     requires all { visible.now.scope ≡ whole_scope (from_of binder.now) }
     requires valid { IsValid (schema_of binder.now) }
     requires tokens { IsOutListOf (IsLexemeOf binder.now.text.now) outs.now }

@@ -6,9 +6,9 @@ use Rattle.std.specs.List.{prefix_len, list_all}
 use Rattle.std.proofs.Math.Bool.{and-false}
 use Rattle.sql_tokens.specs.declared.token.TokenKind.{TokenKind}
 use Rattle.sql_tokens.specs.declared.token.TokenKind.TheVariants as kind
-use Rattle.sql_tokens.specs.declared.pieces.Piece.TheVariants as piece_
+use Rattle.sql_tokens.specs.declared.pieces.TextPiece.TheVariants as piece_
 use Rattle.sql_tokens.specs.Tokens.{is_blank, is_letter, is_digit, is_word_byte, is_in_line, is_plain, is_sign, is_pair, is_quote, begins_some, begins_with, IsEnclosed, IsIdentifier, IsLiteral, IsToken, goes_on, IsSeparator}
-use Rattle.sql_tokens.specs.Lexing.{Closes, IsOffence, HoldsControl}
+use Rattle.sql_tokens.specs.Lexing.{Closes, IsOffence, HasControlByte}
 use Rattle.sql_tokens.specs.Pieces.{closed, identifier_to, identifier, literal_to, literal, symbol, piece}
 use Rattle.sql_tokens.proofs.Characters.{letter_no_blank, digit_no_blank, digit_no_letter, sign_no_blank, sign_no_letter, sign_no_digit, sign_no_double, sign_no_single, pair_first, pair_no_minus, pair_zero, other_no_minus, other_no_pair}
 use Rattle.sql_tokens.proofs.RunFacts.{run_len, prefix_all}
@@ -16,19 +16,19 @@ use Rattle.sql_tokens.proofs.Quoting.{closes_complete, closes_at_once, closed_se
 
 -- ---- separators
 
-blank_piece : (b : ℕ) (rest : List ℕ) → is_blank b ≡ true → piece (b ∷ rest) ≡ piece_.Gap 1
+blank_piece : (b : ℕ) (rest : List ℕ) → is_blank b ≡ true → piece (b ∷ rest) ≡ piece_.Separator 1
 unfolding piece
 blank_piece b rest e = rw e refl
 
-comment_piece : (line rest : List ℕ) → list_all is_in_line line ≡ true → begins_with is_in_line rest ≡ false → piece (45 ∷ 45 ∷ line ++ rest) ≡ piece_.Gap (suc (suc (length line)))
+comment_piece : (line rest : List ℕ) → list_all is_in_line line ≡ true → begins_with is_in_line rest ≡ false → piece (45 ∷ 45 ∷ line ++ rest) ≡ piece_.Separator (suc (suc (length line)))
 unfolding piece
-comment_piece line rest inside ends = ap (λ (n : ℕ). piece_.Gap n) (let l : prefix_len is_in_line (line ++ rest) ≡ length line = run_len is_in_line line rest (line ++ rest) refl inside ends in omega arith)
+comment_piece line rest inside ends = ap (λ (n : ℕ). piece_.Separator n) (let l : prefix_len is_in_line (line ++ rest) ≡ length line = run_len is_in_line line rest (line ++ rest) refl inside ends in omega arith)
 
-pub gap_piece : (text bytes rest : List ℕ) → text ≡ bytes ++ rest → IsSeparator bytes rest → piece text ≡ piece_.Gap (length bytes)
+pub gap_piece : (text bytes rest : List ℕ) → text ≡ bytes ++ rest → IsSeparator bytes rest → piece text ≡ piece_.Separator (length bytes)
 gap_piece text bytes rest whole (inl s) =
-    ap piece (whole ∙ ap (λ (x : List ℕ). x ++ rest) s.whole) ∙ blank_piece s.blank rest s.is ∙ ap (λ (x : List ℕ). piece_.Gap (length x)) (sym s.whole)
+    ap piece (whole ∙ ap (λ (x : List ℕ). x ++ rest) s.whole) ∙ blank_piece s.blank rest s.is ∙ ap (λ (x : List ℕ). piece_.Separator (length x)) (sym s.whole)
 gap_piece text bytes rest whole (inr s) =
-    ap piece (whole ∙ ap (λ (x : List ℕ). x ++ rest) s.whole) ∙ comment_piece s.line rest s.inside s.ends ∙ ap (λ (x : List ℕ). piece_.Gap (length x)) (sym s.whole)
+    ap piece (whole ∙ ap (λ (x : List ℕ). x ++ rest) s.whole) ∙ comment_piece s.line rest s.inside s.ends ∙ ap (λ (x : List ℕ). piece_.Separator (length x)) (sym s.whole)
 
 -- ---- words and numbers
 
@@ -167,7 +167,7 @@ empty_piece : (more : List ℕ) → begins_with (λ b. eqb b 34) more ≡ false 
 unfolding piece identifier
 empty_piece more ends = ap (λ (o : Option ℕ). identifier_to o (34 ∷ more)) (closes_at_once 34 more ends)
 
-control_piece : (text : List ℕ) (offset : ℕ) (h : HoldsControl text offset) → piece text ≡ piece_.Wrong offset
+control_piece : (text : List ℕ) (offset : ℕ) (h : HasControlByte text offset) → piece text ≡ piece_.Wrong offset
 control_piece text offset h =
     let body : List ℕ = h.front ++ h.control ∷ h.others in
     let l : prefix_len is_plain h.rest ≡ length h.front =

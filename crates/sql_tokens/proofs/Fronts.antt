@@ -5,8 +5,8 @@ use Rattle.std.specs.Prelude.{slice_index}
 use Rattle.std.specs.List.{prefix_len, list_all}
 use Rattle.sql_tokens.specs.declared.token.TokenKind.{TokenKind}
 use Rattle.sql_tokens.specs.declared.token.TokenKind.TheVariants as kind
-use Rattle.sql_tokens.specs.declared.pieces.Piece.{Piece}
-use Rattle.sql_tokens.specs.declared.pieces.Piece.TheVariants as piece_
+use Rattle.sql_tokens.specs.declared.pieces.TextPiece.{TextPiece}
+use Rattle.sql_tokens.specs.declared.pieces.TextPiece.TheVariants as piece_
 use Rattle.sql_tokens.specs.Tokens.{is_blank, is_letter, is_digit, is_word_byte, is_in_line, is_plain, is_sign, is_pair, IsToken, goes_on, IsSeparator}
 use Rattle.sql_tokens.specs.Lexing.{Closes, IsOffence}
 use Rattle.sql_tokens.specs.Pieces.{closed, identifier_to, identifier, literal_to, literal, symbol, piece}
@@ -29,18 +29,18 @@ pub record SeesToken (text : List ℕ) (k : TokenKind) (n : ℕ) : Type 0 where
   pub ends : goes_on k bytes rest ≡ false
   pub len : n ≡ length bytes
 
-abbrev pub Sees : List ℕ → Piece → Type 0
-Sees text (piece_.Gap n) = SeesGap text n
+abbrev pub Sees : List ℕ → TextPiece → Type 0
+Sees text (piece_.Separator n) = SeesGap text n
 Sees text (piece_.Token k n) = SeesToken text k n
 Sees text (piece_.Wrong n) = IsOffence text n
 
-sees_cond : (text : List ℕ) (t : Bool) (x y : Piece) → (t ≡ true → Sees text x) → (t ≡ false → Sees text y) → Sees text (cond t x y)
+sees_cond : (text : List ℕ) (t : Bool) (x y : TextPiece) → (t ≡ true → Sees text x) → (t ≡ false → Sees text y) → Sees text (cond t x y)
 sees_cond text true x y l m = l refl
 sees_cond text false x y l m = m refl
 
 -- ---- words, numbers, blanks
 
-sees_blank : (b : ℕ) (rest : List ℕ) → is_blank b ≡ true → Sees (b ∷ rest) (piece_.Gap 1)
+sees_blank : (b : ℕ) (rest : List ℕ) → is_blank b ≡ true → Sees (b ∷ rest) (piece_.Separator 1)
 sees_blank b rest e = record { bytes = b ∷ []; rest = rest; whole = refl; separator = inl (record { blank = b; whole = refl; is = e }); len = refl }
 
 sees_word : (b : ℕ) (rest : List ℕ) → is_letter b ≡ true → Sees (b ∷ rest) (piece_.Token kind.Word (prefix_len is_word_byte rest + 1))
@@ -69,9 +69,9 @@ sees_number b rest e = at (run is_digit rest) where
 
 -- ---- comments
 
-sees_comment_at : (rest : List ℕ) → Sees (45 ∷ 45 ∷ rest) (piece_.Gap (prefix_len is_in_line (45 ∷ rest) + 1))
+sees_comment_at : (rest : List ℕ) → Sees (45 ∷ 45 ∷ rest) (piece_.Separator (prefix_len is_in_line (45 ∷ rest) + 1))
 sees_comment_at rest = at (run is_in_line rest) where
-  at : IsRun is_in_line rest → Sees (45 ∷ 45 ∷ rest) (piece_.Gap (prefix_len is_in_line (45 ∷ rest) + 1))
+  at : IsRun is_in_line rest → Sees (45 ∷ 45 ∷ rest) (piece_.Separator (prefix_len is_in_line (45 ∷ rest) + 1))
   at r = record {
     bytes = 45 ∷ 45 ∷ r.front;
     rest = r.more;
@@ -80,14 +80,14 @@ sees_comment_at rest = at (run is_in_line rest) where
     len = (let l : prefix_len is_in_line rest ≡ length r.front = run_len is_in_line r.front r.more rest r.whole r.all r.ends in omega arith);
   }
 
-sees_comment : (b : ℕ) (rest : List ℕ) → (eqb b 45 && eqb (slice_index rest 0) 45) ≡ true → Sees (b ∷ rest) (piece_.Gap (prefix_len is_in_line rest + 1))
+sees_comment : (b : ℕ) (rest : List ℕ) → (eqb b 45 && eqb (slice_index rest 0) 45) ≡ true → Sees (b ∷ rest) (piece_.Separator (prefix_len is_in_line rest + 1))
 sees_comment b [] e = absurd (let parts = and_parts (eqb b 45) (eqb 0 45) e in let h : 0 ≡ 45 = eqb-true 0 45 parts.1 in omega arith)
 sees_comment b (c ∷ rest) e =
     let parts = and_parts (eqb b 45) (eqb c 45) e in
     let first : 45 ≡ b = sym (eqb-true b 45 parts.0) in
     let second : 45 ≡ c = sym (eqb-true c 45 parts.1) in
-    let here = subst (λ (x : ℕ). Sees (x ∷ 45 ∷ rest) (piece_.Gap (prefix_len is_in_line (45 ∷ rest) + 1))) first (sees_comment_at rest) in
-    subst (λ (x : ℕ). Sees (b ∷ x ∷ rest) (piece_.Gap (prefix_len is_in_line (x ∷ rest) + 1))) second here
+    let here = subst (λ (x : ℕ). Sees (x ∷ 45 ∷ rest) (piece_.Separator (prefix_len is_in_line (45 ∷ rest) + 1))) first (sees_comment_at rest) in
+    subst (λ (x : ℕ). Sees (b ∷ x ∷ rest) (piece_.Separator (prefix_len is_in_line (x ∷ rest) + 1))) second here
 
 -- ---- quotes
 

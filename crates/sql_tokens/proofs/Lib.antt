@@ -10,6 +10,6 @@ pub mod Quoting
 pub mod Fronts
 pub mod Computed
 pub mod Readings
-pub mod Places
+pub mod SpanFacts
 pub mod WholeTexts
 pub mod LongestFront

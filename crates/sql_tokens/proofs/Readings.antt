@@ -5,20 +5,20 @@ use Rattle.std.proofs.lemmas.List.{drop_at, append-nil}
 use Rattle.sql_tokens.specs.declared.token.Token.{Token}
 use Rattle.sql_tokens.specs.declared.token.TokenKind.{TokenKind}
 use Rattle.sql_tokens.specs.declared.token.TokenKind.TheVariants as kind
-use Rattle.sql_tokens.specs.declared.pieces.Piece.{Piece}
-use Rattle.sql_tokens.specs.declared.pieces.Piece.TheVariants as piece_
+use Rattle.sql_tokens.specs.declared.pieces.TextPiece.{TextPiece}
+use Rattle.sql_tokens.specs.declared.pieces.TextPiece.TheVariants as piece_
 use Rattle.sql_tokens.specs.Tokens.{IsToken, goes_on, IsSeparator}
 use Rattle.sql_tokens.specs.Lexing.{Leads, stay, over_gap, over_token, IsOffence, IsOffenceAt}
 use Rattle.sql_tokens.specs.Pieces.{piece, Walked, before, step, tokens_at, with_front}
 use Rattle.sql_tokens.proofs.Fronts.{Sees, sees_piece}
 use Rattle.sql_tokens.proofs.Computed.{gap_piece, token_piece, offence_piece}
-use Rattle.sql_tokens.proofs.Walk.{tokens_step, piece_long, IsLong, walk_start}
+use Rattle.sql_tokens.proofs.Walk.{tokens_step, piece_long, HasBytes, walk_start}
 
 -- ---- the answer of the walk satisfies the relation
 
-abbrev pub IsTold : ℕ → List ℕ → Walked → Type 0
-IsTold at text (Ok tokens) = Leads at text tokens (at + length text) []
-IsTold at text (Err place) = IsOffenceAt at text place
+abbrev pub IsRightAnswer : ℕ → List ℕ → Walked → Type 0
+IsRightAnswer at text (Ok tokens) = Leads at text tokens (at + length text) []
+IsRightAnswer at text (Err place) = IsOffenceAt at text place
 
 to_same : (at : ℕ) (text : List ℕ) (tokens : List Token) (to other : ℕ) (last : List ℕ) → to ≡ other → Leads at text tokens to last → Leads at text tokens other last
 to_same at text tokens to other last e l = subst (λ (x : ℕ). Leads at text tokens x last) e l
@@ -26,7 +26,7 @@ to_same at text tokens to other last e l = subst (λ (x : ℕ). Leads at text to
 split_len : (text bytes rest : List ℕ) → text ≡ bytes ++ rest → length text ≡ length bytes + length rest
 split_len text bytes rest whole = ap length whole ∙ length-append bytes rest
 
-told_gap : (at : ℕ) (text bytes rest : List ℕ) (walked : Walked) → text ≡ bytes ++ rest → IsSeparator bytes rest → IsTold (at + length bytes) rest walked → IsTold at text walked
+told_gap : (at : ℕ) (text bytes rest : List ℕ) (walked : Walked) → text ≡ bytes ++ rest → IsSeparator bytes rest → IsRightAnswer (at + length bytes) rest walked → IsRightAnswer at text walked
 told_gap at text bytes rest (Ok tokens) whole s told =
     let l = split_len text bytes rest whole in
     to_same at text tokens ((at + length bytes) + length rest) (at + length text) [] (omega arith) (over_gap at text bytes rest tokens ((at + length bytes) + length rest) [] whole s told)
@@ -40,8 +40,8 @@ told_gap at text bytes rest (Err place) whole s told = record {
   here = told.here;
 }
 
-told_token : (at : ℕ) (text bytes rest : List ℕ) (k : TokenKind) (walked : Walked) → text ≡ bytes ++ rest → IsToken k bytes → goes_on k bytes rest ≡ false → IsTold (at + length bytes) rest walked
-    → IsTold at text (before (record { kind = k; start = at; end = at + length bytes }) walked)
+told_token : (at : ℕ) (text bytes rest : List ℕ) (k : TokenKind) (walked : Walked) → text ≡ bytes ++ rest → IsToken k bytes → goes_on k bytes rest ≡ false → IsRightAnswer (at + length bytes) rest walked
+    → IsRightAnswer at text (before (record { kind = k; start = at; end = at + length bytes }) walked)
 told_token at text bytes rest k (Ok tokens) whole form ends told =
     let l = split_len text bytes rest whole in
     let t : Token = record { kind = k; start = at; end = at + length bytes } in
@@ -57,34 +57,34 @@ told_token at text bytes rest k (Err place) whole form ends told = record {
 }
 
 -- the first n bytes of `text` are the piece `bytes`, and `walked` is the walk's answer for the bytes after it
-told_on : (at n : ℕ) (text bytes rest : List ℕ) (walked : Walked) → text ≡ bytes ++ rest → n ≡ length bytes → IsTold (at + n) (drop n text) walked → IsTold (at + length bytes) rest walked
-told_on at n text bytes rest walked whole len told =
+right_answer_on : (at n : ℕ) (text bytes rest : List ℕ) (walked : Walked) → text ≡ bytes ++ rest → n ≡ length bytes → IsRightAnswer (at + n) (drop n text) walked → IsRightAnswer (at + length bytes) rest walked
+right_answer_on at n text bytes rest walked whole len told =
     let left : drop n text ≡ rest = ap (drop n) whole ∙ drop_at bytes rest n (sym len) in
-    subst (λ (x : ℕ). IsTold (at + x) rest walked) len (subst (λ (x : List ℕ). IsTold (at + n) x walked) left told)
+    subst (λ (x : ℕ). IsRightAnswer (at + x) rest walked) len (subst (λ (x : List ℕ). IsRightAnswer (at + n) x walked) left told)
 
-told_step : (at : ℕ) (text : List ℕ) (p : Piece) → Sees text p → IsLong p → ((to : ℕ) (rest : List ℕ) → length rest < length text → IsTold to rest (tokens_at to rest)) → 0 < length text → IsTold at text (step tokens_at at p text)
-told_step at text (piece_.Gap n) s long told some =
+told_step : (at : ℕ) (text : List ℕ) (p : TextPiece) → Sees text p → HasBytes p → ((to : ℕ) (rest : List ℕ) → length rest < length text → IsRightAnswer to rest (tokens_at to rest)) → 0 < length text → IsRightAnswer at text (step tokens_at at p text)
+told_step at text (piece_.Separator n) s long told some =
     told_gap at text s.bytes s.rest (tokens_at (at + n) (drop n text)) s.whole s.separator
-    (told_on at n text s.bytes s.rest (tokens_at (at + n) (drop n text)) s.whole s.len (told (at + n) (drop n text) (omega (arith, length-drop n text))))
+    (right_answer_on at n text s.bytes s.rest (tokens_at (at + n) (drop n text)) s.whole s.len (told (at + n) (drop n text) (omega (arith, length-drop n text))))
 told_step at text (piece_.Token k n) s long told some =
     let walked : Walked = tokens_at (at + n) (drop n text) in
-    let here : IsTold at text (before (record { kind = k; start = at; end = at + length s.bytes }) walked) =
-    told_token at text s.bytes s.rest k walked s.whole s.form s.ends (told_on at n text s.bytes s.rest walked s.whole s.len (told (at + n) (drop n text) (omega (arith, length-drop n text)))) in
-    subst (λ (x : ℕ). IsTold at text (before (record { kind = k; start = at; end = at + x }) walked)) (sym s.len) here
+    let here : IsRightAnswer at text (before (record { kind = k; start = at; end = at + length s.bytes }) walked) =
+    told_token at text s.bytes s.rest k walked s.whole s.form s.ends (right_answer_on at n text s.bytes s.rest walked s.whole s.len (told (at + n) (drop n text) (omega (arith, length-drop n text)))) in
+    subst (λ (x : ℕ). IsRightAnswer at text (before (record { kind = k; start = at; end = at + x }) walked)) (sym s.len) here
 told_step at text (piece_.Wrong n) s long told some = record { tokens = []; to = at; rest = text; offset = n; leads = stay at text; offence = s; here = refl }
 
-told_empty : (at : ℕ) → IsTold at [] (tokens_at at [])
+told_empty : (at : ℕ) → IsRightAnswer at [] (tokens_at at [])
 unfolding tokens_at
 told_empty at = to_same at [] [] at (at + 0) [] (omega arith) (stay at [])
 
-told_up_to : (n at : ℕ) (text : List ℕ) → length text ≤ n → IsTold at text (tokens_at at text)
+told_up_to : (n at : ℕ) (text : List ℕ) → length text ≤ n → IsRightAnswer at text (tokens_at at text)
 told_up_to n at [] le = told_empty at
 told_up_to zero at (b ∷ rest) le = absurd (omega arith)
 told_up_to (suc n) at (b ∷ rest) le =
-    subst (λ (w : Walked). IsTold at (b ∷ rest) w) (sym (tokens_step at b rest))
+    subst (λ (w : Walked). IsRightAnswer at (b ∷ rest) w) (sym (tokens_step at b rest))
     (told_step at (b ∷ rest) (piece (b ∷ rest)) (sees_piece b rest) (piece_long b rest) (λ to left lt. told_up_to n to left (omega arith)) (omega arith))
 
-pub told : (at : ℕ) (text : List ℕ) → IsTold at text (tokens_at at text)
+pub told : (at : ℕ) (text : List ℕ) → IsRightAnswer at text (tokens_at at text)
 told at text = told_up_to (length text) at text (omega arith)
 
 -- ---- an answer that satisfies the relation is the answer of the walk
@@ -122,19 +122,19 @@ leads_walk at text tokens to last (stay a t) = sym (walk_start at text)
 leads_walk at text tokens to last (over_gap a t bytes rest ts o la whole s l) =
     let len : length text ≡ length bytes + length rest = split_len text bytes rest whole in
     let some : 0 < length bytes = separator_len bytes rest s in
-    walk_one at text (omega arith) ∙ ap (λ (p : Piece). step tokens_at at p text) (gap_piece text bytes rest whole s)
+    walk_one at text (omega arith) ∙ ap (λ (p : TextPiece). step tokens_at at p text) (gap_piece text bytes rest whole s)
     ∙ ap (tokens_at (at + length bytes)) (ap (drop (length bytes)) whole ∙ drop_at bytes rest (length bytes) refl)
     ∙ leads_walk (at + length bytes) rest tokens to last l
 leads_walk at text tokens to last (over_token a t bytes rest k ts o la whole form ends l) =
     let len : length text ≡ length bytes + length rest = split_len text bytes rest whole in
     let some : 0 < length bytes = token_len k bytes form in
     let this : Token = record { kind = k; start = at; end = at + length bytes } in
-    walk_one at text (omega arith) ∙ ap (λ (p : Piece). step tokens_at at p text) (token_piece k text bytes rest whole form ends)
+    walk_one at text (omega arith) ∙ ap (λ (p : TextPiece). step tokens_at at p text) (token_piece k text bytes rest whole form ends)
     ∙ ap (λ (x : List ℕ). before this (tokens_at (at + length bytes) x)) (ap (drop (length bytes)) whole ∙ drop_at bytes rest (length bytes) refl)
     ∙ ap (before this) (leads_walk (at + length bytes) rest ts to last l) ∙ before_front this ts (tokens_at to last)
 
 pub offence_walk : (at : ℕ) (text : List ℕ) (offset : ℕ) → IsOffence text offset → tokens_at at text ≡ Err (at + offset)
-offence_walk at text offset h = walk_one at text (offence_len text offset h) ∙ ap (λ (p : Piece). step tokens_at at p text) (offence_piece text offset h)
+offence_walk at text offset h = walk_one at text (offence_len text offset h) ∙ ap (λ (p : TextPiece). step tokens_at at p text) (offence_piece text offset h)
 
 walk_empty : (at : ℕ) → tokens_at at [] ≡ Ok []
 unfolding tokens_at

@@ -6,40 +6,40 @@ use Rattle.std.specs.Prelude.{slice_index}
 use Rattle.sql_tokens.specs.declared.token.Token.{Token}
 use Rattle.sql_tokens.specs.declared.token.TokenKind.{TokenKind}
 use Rattle.sql_tokens.specs.declared.token.TokenKind.TheVariants as kind
-use Rattle.sql_tokens.specs.declared.pieces.Piece.{Piece}
-use Rattle.sql_tokens.specs.declared.pieces.Piece.TheVariants as piece_
+use Rattle.sql_tokens.specs.declared.pieces.TextPiece.{TextPiece}
+use Rattle.sql_tokens.specs.declared.pieces.TextPiece.TheVariants as piece_
 use Rattle.sql_tokens.specs.Tokens.{is_blank, is_letter, is_digit, is_plain, is_sign, is_pair}
 use Rattle.sql_tokens.specs.Pieces.{closed, identifier_to, identifier, literal_to, literal, symbol, piece, Walked, before, step, pieces_up_to, tokens_at, with_front}
 
-abbrev pub IsLong : Piece → Type 0
-IsLong (piece_.Gap n) = 1 ≤ n
-IsLong (piece_.Token k n) = 1 ≤ n
-IsLong (piece_.Wrong n) = 0 ≤ n
+abbrev pub HasBytes : TextPiece → Type 0
+HasBytes (piece_.Separator n) = 1 ≤ n
+HasBytes (piece_.Token k n) = 1 ≤ n
+HasBytes (piece_.Wrong n) = 0 ≤ n
 
-long_cond : (b : Bool) (x y : Piece) → IsLong x → IsLong y → IsLong (cond b x y)
+long_cond : (b : Bool) (x y : TextPiece) → HasBytes x → HasBytes y → HasBytes (cond b x y)
 long_cond true x y l m = l
 long_cond false x y l m = m
 
-identifier_long : (rest : List ℕ) → IsLong (identifier rest)
+identifier_long : (rest : List ℕ) → HasBytes (identifier rest)
 unfolding identifier
 identifier_long rest = at (closed 34 rest) where
-  at : (o : Option ℕ) → IsLong (identifier_to o rest)
+  at : (o : Option ℕ) → HasBytes (identifier_to o rest)
   at None = omega arith
   at (Some n) = long_cond (eqb n 1) (piece_.Wrong 0) (cond (ltb (prefix_len is_plain rest) n) (piece_.Wrong (prefix_len is_plain rest + 1)) (piece_.Token kind.Quoted (n + 1))) (omega arith)
       (long_cond (ltb (prefix_len is_plain rest) n) (piece_.Wrong (prefix_len is_plain rest + 1)) (piece_.Token kind.Quoted (n + 1)) (omega arith) (omega arith))
 
-literal_long : (rest : List ℕ) → IsLong (literal rest)
+literal_long : (rest : List ℕ) → HasBytes (literal rest)
 unfolding literal
 literal_long rest = at (closed 39 rest) where
-  at : (o : Option ℕ) → IsLong (literal_to o)
+  at : (o : Option ℕ) → HasBytes (literal_to o)
   at None = omega arith
   at (Some n) = omega arith
 
-symbol_long : (b : ℕ) (rest : List ℕ) → IsLong (symbol b rest)
+symbol_long : (b : ℕ) (rest : List ℕ) → HasBytes (symbol b rest)
 unfolding symbol
 symbol_long b rest = long_cond (is_pair b (slice_index rest 0)) _ _ (omega arith) (long_cond (is_sign b) (piece_.Token kind.Symbol 1) (piece_.Wrong 0) (omega arith) (omega arith))
 
-pub piece_long : (b : ℕ) (rest : List ℕ) → IsLong (piece (b ∷ rest))
+pub piece_long : (b : ℕ) (rest : List ℕ) → HasBytes (piece (b ∷ rest))
 unfolding piece
 piece_long b rest =
     long_cond (is_blank b) _ _ (omega arith)
@@ -55,8 +55,8 @@ up_none (suc n) at [] h = refl
 up_none n at (b ∷ bytes) h = absurd (omega arith)
 
 step_same : (n m at : ℕ) (b : ℕ) (rest : List ℕ) → ((at : ℕ) (bytes : List ℕ) → length bytes ≤ n → length bytes ≤ m → pieces_up_to n at bytes ≡ pieces_up_to m at bytes)
-    → length rest ≤ n → length rest ≤ m → (p : Piece) → IsLong p → step (pieces_up_to n) at p (b ∷ rest) ≡ step (pieces_up_to m) at p (b ∷ rest)
-step_same n m at b rest ih le le' (piece_.Gap k) l = ih (at + k) (drop k (b ∷ rest)) (omega (arith, length-drop k (b ∷ rest))) (omega (arith, length-drop k (b ∷ rest)))
+    → length rest ≤ n → length rest ≤ m → (p : TextPiece) → HasBytes p → step (pieces_up_to n) at p (b ∷ rest) ≡ step (pieces_up_to m) at p (b ∷ rest)
+step_same n m at b rest ih le le' (piece_.Separator k) l = ih (at + k) (drop k (b ∷ rest)) (omega (arith, length-drop k (b ∷ rest))) (omega (arith, length-drop k (b ∷ rest)))
 step_same n m at b rest ih le le' (piece_.Token t k) l = ap (before (record { kind = t; start = at; end = at + k })) (ih (at + k) (drop k (b ∷ rest)) (omega (arith, length-drop k (b ∷ rest))) (omega (arith, length-drop k (b ∷ rest))))
 step_same n m at b rest ih le le' (piece_.Wrong k) l = refl
 
@@ -66,9 +66,9 @@ up_same (suc n) zero at bytes le le' = up_none (suc n) at bytes le'
 up_same (suc n) (suc m) at [] le le' = refl
 up_same (suc n) (suc m) at (b ∷ rest) le le' = step_same n m at b rest (up_same n m) (omega arith) (omega arith) (piece (b ∷ rest)) (piece_long b rest)
 
-step_on : (at b : ℕ) (rest : List ℕ) (p : Piece) → IsLong p → step (pieces_up_to (length rest)) at p (b ∷ rest) ≡ step tokens_at at p (b ∷ rest)
+step_on : (at b : ℕ) (rest : List ℕ) (p : TextPiece) → HasBytes p → step (pieces_up_to (length rest)) at p (b ∷ rest) ≡ step tokens_at at p (b ∷ rest)
 unfolding tokens_at
-step_on at b rest (piece_.Gap k) l = up_same (length rest) (length (drop k (b ∷ rest))) (at + k) (drop k (b ∷ rest)) (omega (arith, length-drop k (b ∷ rest))) (omega arith)
+step_on at b rest (piece_.Separator k) l = up_same (length rest) (length (drop k (b ∷ rest))) (at + k) (drop k (b ∷ rest)) (omega (arith, length-drop k (b ∷ rest))) (omega arith)
 step_on at b rest (piece_.Token t k) l = ap (before (record { kind = t; start = at; end = at + k })) (up_same (length rest) (length (drop k (b ∷ rest))) (at + k) (drop k (b ∷ rest)) (omega (arith, length-drop k (b ∷ rest))) (omega arith))
 step_on at b rest (piece_.Wrong k) l = refl
 
@@ -88,7 +88,7 @@ walk_start start text = at (tokens_at start text) where
   at (Ok ts) = refl
   at (Err k) = refl
 
-pub walk_gap : (ts : List Token) (at b : ℕ) (rest : List ℕ) (n : ℕ) (total : Walked) → with_front ts (tokens_at at (b ∷ rest)) ≡ total → piece (b ∷ rest) ≡ piece_.Gap n
+pub walk_gap : (ts : List Token) (at b : ℕ) (rest : List ℕ) (n : ℕ) (total : Walked) → with_front ts (tokens_at at (b ∷ rest)) ≡ total → piece (b ∷ rest) ≡ piece_.Separator n
     → with_front ts (tokens_at (at + n) (drop n (b ∷ rest))) ≡ total
 walk_gap ts at b rest n total so_far e =
     let one : tokens_at at (b ∷ rest) ≡ tokens_at (at + n) (drop n (b ∷ rest)) = tokens_step at b rest ∙ ap (λ p. step tokens_at at p (b ∷ rest)) e in

@@ -13,8 +13,8 @@ use Rattle.sql_tokens.specs.declared.token.LexError.TheVariants as error
 use Rattle.sql_tokens.specs.Words.{IsTokenOf}
 use Rattle.sql_tokens.specs.Lexing.{Leads, mark_len, IsLexed, IsBadToken, IsBad, IsRefusal, TokensAreInOrder, HasItsForm}
 use Rattle.sql_tokens.specs.Pieces.{Walked, tokens_at, Gave}
-use Rattle.sql_tokens.proofs.Readings.{IsTold, told, leads_all, offence_all}
-use Rattle.sql_tokens.proofs.Places.{in_order, within, have_forms}
+use Rattle.sql_tokens.proofs.Readings.{IsRightAnswer, told, leads_all, offence_all}
+use Rattle.sql_tokens.proofs.SpanFacts.{in_order, within, have_forms}
 
 -- ---- the mark
 
@@ -48,8 +48,8 @@ unmarked_utf8 (b ∷ c ∷ d ∷ rest) utf8 = marked b c d rest (eqb b 239 && (e
 unmarked_len : (text : List ℕ) → mark_len text + length (drop (mark_len text) text) ≡ length text
 unmarked_len text = omega (arith, length-drop (mark_len text) text, mark_within text)
 
-told_whole : (text : List ℕ) (walked : Walked) → tokens_at (mark_len text) (drop (mark_len text) text) ≡ walked → IsTold (mark_len text) (drop (mark_len text) text) walked
-told_whole text walked e = subst (λ (w : Walked). IsTold (mark_len text) (drop (mark_len text) text) w) e (told (mark_len text) (drop (mark_len text) text))
+told_whole : (text : List ℕ) (walked : Walked) → tokens_at (mark_len text) (drop (mark_len text) text) ≡ walked → IsRightAnswer (mark_len text) (drop (mark_len text) text) walked
+told_whole text walked e = subst (λ (w : Walked). IsRightAnswer (mark_len text) (drop (mark_len text) text) w) e (told (mark_len text) (drop (mark_len text) text))
 
 lexed : (text : List ℕ) (tokens : List Token) → IsUtf8 text → tokens_at (mark_len text) (drop (mark_len text) text) ≡ Ok tokens → IsLexed text tokens
 lexed text tokens utf8 e = record {

@@ -54,7 +54,7 @@ pub record IsEmptyName (text : List ℕ) (offset : ℕ) : Type 0 where
   pub here : offset ≡ 0
 
 -- the first character below U+0020 within a closed delimited identifier
-pub record HoldsControl (text : List ℕ) (offset : ℕ) : Type 0 where
+pub record HasControlByte (text : List ℕ) (offset : ℕ) : Type 0 where
   pub front : List ℕ
   pub control : ℕ
   pub others : List ℕ
@@ -68,7 +68,7 @@ pub record HoldsControl (text : List ℕ) (offset : ℕ) : Type 0 where
 
 -- the text goes wrong in its first piece, after `offset` bytes
 abbrev pub IsOffence : List ℕ → ℕ → Type 0
-IsOffence text offset = BeginsNone text offset ⊎ (IsUnclosed text offset ⊎ (IsEmptyName text offset ⊎ HoldsControl text offset))
+IsOffence text offset = BeginsNone text offset ⊎ (IsUnclosed text offset ⊎ (IsEmptyName text offset ⊎ HasControlByte text offset))
 
 -- separators and tokens lead to an offence
 pub record IsOffenceAt (start : ℕ) (text : List ℕ) (at : ℕ) : Type 0 where

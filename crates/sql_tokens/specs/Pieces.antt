@@ -6,13 +6,13 @@ use Rattle.sql_tokens.specs.declared.token.Token.{Token}
 use Rattle.sql_tokens.specs.declared.token.TokenKind.TheVariants as kind
 use Rattle.sql_tokens.specs.declared.token.LexError.{LexError}
 use Rattle.sql_tokens.specs.declared.token.LexError.TheVariants as error
-use Rattle.sql_tokens.specs.declared.pieces.Piece.{Piece}
-use Rattle.sql_tokens.specs.declared.pieces.Piece.TheVariants as piece_
-use Rattle.sql_tokens.specs.declared.runs.Run.{Run}
-use Rattle.sql_tokens.specs.declared.runs.Run.TheVariants as run
+use Rattle.sql_tokens.specs.declared.pieces.TextPiece.{TextPiece}
+use Rattle.sql_tokens.specs.declared.pieces.TextPiece.TheVariants as piece_
+use Rattle.sql_tokens.specs.declared.runs.ByteClass.{ByteClass}
+use Rattle.sql_tokens.specs.declared.runs.ByteClass.TheVariants as run
 use Rattle.sql_tokens.specs.Tokens.{is_blank, is_letter, is_digit, is_word_byte, is_in_line, is_plain, is_sign, is_pair}
 
-abbrev pub is_in : Run → ℕ → Bool
+abbrev pub is_in : ByteClass → ℕ → Bool
 is_in run.Word b = is_word_byte b
 is_in run.Digits b = is_digit b
 is_in run.Line b = is_in_line b
@@ -30,41 +30,41 @@ closed quote (b ∷ c ∷ rest) = if b == quote then (if c == quote then further
     else further 1 (closed quote (c ∷ rest))
 
 -- the piece of a delimited identifier, from the number of bytes up to its closing quote and the bytes after its opening quote
-abbrev pub identifier_to : Option ℕ → List ℕ → Piece
+abbrev pub identifier_to : Option ℕ → List ℕ → TextPiece
 identifier_to None rest = piece_.Wrong 0
 identifier_to (Some n) rest =
     if n == 1 then piece_.Wrong 0
     else (if nat_lt (prefix_len is_plain rest) n then piece_.Wrong (prefix_len is_plain rest + 1) else piece_.Token kind.Quoted (n + 1))
 
-unfoldable pub identifier : List ℕ → Piece
+unfoldable pub identifier : List ℕ → TextPiece
 identifier rest = identifier_to (closed 34 rest) rest
 
-abbrev pub literal_to : Option ℕ → Piece
+abbrev pub literal_to : Option ℕ → TextPiece
 literal_to None = piece_.Wrong 0
 literal_to (Some n) = piece_.Token kind.Text (n + 1)
 
-unfoldable pub literal : List ℕ → Piece
+unfoldable pub literal : List ℕ → TextPiece
 literal rest = literal_to (closed 39 rest)
 
-unfoldable pub symbol : ℕ → List ℕ → Piece
+unfoldable pub symbol : ℕ → List ℕ → TextPiece
 symbol b rest = if is_pair b (slice_index rest 0) then piece_.Token kind.Symbol 2
     else (if is_sign b then piece_.Token kind.Symbol 1 else piece_.Wrong 0)
 
 -- what a text begins with
-unfoldable pub piece : List ℕ → Piece
-piece [] = piece_.Gap 0
+unfoldable pub piece : List ℕ → TextPiece
+piece [] = piece_.Separator 0
 piece (b ∷ rest) =
-    if is_blank b then piece_.Gap 1
+    if is_blank b then piece_.Separator 1
     else (if is_letter b then piece_.Token kind.Word (prefix_len is_word_byte rest + 1)
     else (if is_digit b then piece_.Token kind.Number (prefix_len is_digit rest + 1)
     else (if b == 34 then identifier rest
     else (if b == 39 then literal rest
-    else (if (b == 45) && (slice_index rest 0 == 45) then piece_.Gap (prefix_len is_in_line rest + 1)
+    else (if (b == 45) && (slice_index rest 0 == 45) then piece_.Separator (prefix_len is_in_line rest + 1)
     else symbol b rest)))))
 
 -- a separator or a token has at least one byte, and at most all bytes that there are; an offence is at one of these bytes
-abbrev pub Fits : Piece → ℕ → Type 0
-Fits (piece_.Gap n) len = (1 ≤ n) × (n ≤ len)
+abbrev pub Fits : TextPiece → ℕ → Type 0
+Fits (piece_.Separator n) len = (1 ≤ n) × (n ≤ len)
 Fits (piece_.Token k n) len = (1 ≤ n) × (n ≤ len)
 Fits (piece_.Wrong n) len = n < len
 
@@ -75,8 +75,8 @@ abbrev pub before : Token → Walked → Walked
 before t (Ok ts) = Ok (t ∷ ts)
 before t (Err at) = Err at
 
-abbrev pub step : (ℕ → List ℕ → Walked) → ℕ → Piece → List ℕ → Walked
-step others at (piece_.Gap n) bytes = others (at + n) (drop n bytes)
+abbrev pub step : (ℕ → List ℕ → Walked) → ℕ → TextPiece → List ℕ → Walked
+step others at (piece_.Separator n) bytes = others (at + n) (drop n bytes)
 step others at (piece_.Token k n) bytes = before (record { kind = k; start = at; end = at + n }) (others (at + n) (drop n bytes))
 step others at (piece_.Wrong n) bytes = Err (at + n)
 

@@ -5,7 +5,7 @@ ghost use Rattle.sql_tokens.specs.Words.{IsTokenOf};
 ghost use Rattle.sql_tokens.specs.Pieces.{tokens_at, Gave};
 ghost use Rattle.sql_tokens.specs.Lexing.{mark_len, IsLexed, IsRefusal, TokensAreInOrder};
 
-use crate::pieces::{Piece, piece_at};
+use crate::pieces::{TextPiece, piece_at};
 use crate::{LexError, Token};
 use base_io::Seq;
 use std::alloc::Global;
@@ -21,11 +21,11 @@ fn tokens_from(alloc: Global, start: u32, text: &[u8]) -> Result<Seq<Token>, Lex
     let mut at = start;
     'pieces: while let Some((first, tail)) = rest.split_first() {
         match piece_at(*first, tail) {
-            Piece::Gap(n) => {
+            TextPiece::Separator(n) => {
                 rest = rest.split_at(n).1;
                 at += n as u32;
             }
-            Piece::Token(kind, n) => {
+            TextPiece::Token(kind, n) => {
                 tokens.push(Token {
                     kind,
                     start: at,
@@ -34,7 +34,7 @@ fn tokens_from(alloc: Global, start: u32, text: &[u8]) -> Result<Seq<Token>, Lex
                 rest = rest.split_at(n).1;
                 at += n as u32;
             }
-            Piece::Wrong(n) => {
+            TextPiece::Wrong(n) => {
                 return Err(LexError::Bad { at: at + n as u32 });
             }
         }

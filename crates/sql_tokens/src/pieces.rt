@@ -5,12 +5,12 @@ ghost use Rattle.sql_tokens.specs.Tokens.{is_blank, is_sign, is_pair};
 ghost use Rattle.sql_tokens.specs.Pieces.{closed, identifier, literal, symbol, piece, Fits};
 
 use crate::TokenKind;
-use crate::runs::Run;
+use crate::runs::ByteClass;
 
 /// What a text begins with: a separator or a token, with its number of bytes, or an offence, with the number of bytes before it.
 #[derive(Clone, Copy, Debug)]
-pub enum Piece {
-    Gap(usize),
+pub enum TextPiece {
+    Separator(usize),
     Token(TokenKind, usize),
     Wrong(usize),
 }
@@ -37,36 +37,36 @@ fn closed_len(quote: u8, bytes: &[u8]) -> Option<usize>
 }
 
 #[tactic(auto, unfolding(crate::specs::Pieces::identifier))]
-fn identifier_piece(rest: &[u8]) -> Piece
+fn identifier_piece(rest: &[u8]) -> TextPiece
     requires { length rest.now < most_text }
     ensures value { result ≡ identifier rest.now }
     ensures fits { Fits result (length rest.now + 1) }
 {
     match closed_len(b'"', rest) {
-        None => Piece::Wrong(0),
+        None => TextPiece::Wrong(0),
         Some(n) => {
             if n == 1 {
-                return Piece::Wrong(0);
+                return TextPiece::Wrong(0);
             }
-            let plain = Run::Plain.len(rest);
+            let plain = ByteClass::Plain.len(rest);
             if plain < n {
-                Piece::Wrong(plain + 1)
+                TextPiece::Wrong(plain + 1)
             } else {
-                Piece::Token(TokenKind::Quoted, n + 1)
+                TextPiece::Token(TokenKind::Quoted, n + 1)
             }
         }
     }
 }
 
 #[tactic(auto, unfolding(crate::specs::Pieces::literal))]
-fn literal_piece(rest: &[u8]) -> Piece
+fn literal_piece(rest: &[u8]) -> TextPiece
     requires { length rest.now < most_text }
     ensures value { result ≡ literal rest.now }
     ensures fits { Fits result (length rest.now + 1) }
 {
     match closed_len(b'\'', rest) {
-        None => Piece::Wrong(0),
-        Some(n) => Piece::Token(TokenKind::Text, n + 1),
+        None => TextPiece::Wrong(0),
+        Some(n) => TextPiece::Token(TokenKind::Text, n + 1),
     }
 }
 
@@ -108,39 +108,39 @@ fn first_or_zero(bytes: &[u8]) -> u8
 }
 
 #[tactic(auto, unfolding(crate::specs::Pieces::symbol))]
-fn symbol_piece(first: u8, rest: &[u8]) -> Piece
+fn symbol_piece(first: u8, rest: &[u8]) -> TextPiece
     ensures value { result ≡ symbol first rest.now }
     ensures fits { Fits result (length rest.now + 1) }
 {
     let second = first_or_zero(rest);
     if is_pair_of(first, second) {
-        Piece::Token(TokenKind::Symbol, 2)
+        TextPiece::Token(TokenKind::Symbol, 2)
     } else if is_sign_byte(first) {
-        Piece::Token(TokenKind::Symbol, 1)
+        TextPiece::Token(TokenKind::Symbol, 1)
     } else {
-        Piece::Wrong(0)
+        TextPiece::Wrong(0)
     }
 }
 
 /// What a text begins with, given its first byte and the other bytes.
 #[tactic(auto, unfolding(crate::specs::Pieces::piece))]
-pub fn piece_at(first: u8, rest: &[u8]) -> Piece
+pub fn piece_at(first: u8, rest: &[u8]) -> TextPiece
     requires { length rest.now < most_text }
     ensures value { result ≡ piece (first ∷ rest.now) }
     ensures fits { Fits result (length rest.now + 1) }
 {
     if is_blank_byte(first) {
-        Piece::Gap(1)
+        TextPiece::Separator(1)
     } else if first.is_ascii_alphabetic() {
-        Piece::Token(TokenKind::Word, Run::Word.len(rest) + 1)
+        TextPiece::Token(TokenKind::Word, ByteClass::Word.len(rest) + 1)
     } else if first.is_ascii_digit() {
-        Piece::Token(TokenKind::Number, Run::Digits.len(rest) + 1)
+        TextPiece::Token(TokenKind::Number, ByteClass::Digits.len(rest) + 1)
     } else if first == b'"' {
         identifier_piece(rest)
     } else if first == b'\'' {
         literal_piece(rest)
     } else if first == b'-' && first_or_zero(rest) == b'-' {
-        Piece::Gap(Run::Line.len(rest) + 1)
+        TextPiece::Separator(ByteClass::Line.len(rest) + 1)
     } else {
         symbol_piece(first, rest)
     }

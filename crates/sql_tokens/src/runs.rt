@@ -5,22 +5,22 @@ ghost use Rattle.sql_tokens.specs.Pieces.{is_in};
 
 /// A class of bytes: the bytes of words, digits, all bytes but LF, or all bytes but control characters.
 #[derive(Clone, Copy, Debug)]
-pub enum Run {
+pub enum ByteClass {
     Word,
     Digits,
     Line,
     Plain,
 }
 
-impl Run {
+impl ByteClass {
     fn has(self, byte: u8) -> bool
         ensures { result ≡ is_in self byte }
     {
         match self {
-            Run::Word => byte.is_ascii_alphanumeric() || byte == b'_',
-            Run::Digits => byte.is_ascii_digit(),
-            Run::Line => byte != b'\n',
-            Run::Plain => byte >= b' ',
+            ByteClass::Word => byte.is_ascii_alphanumeric() || byte == b'_',
+            ByteClass::Digits => byte.is_ascii_digit(),
+            ByteClass::Line => byte != b'\n',
+            ByteClass::Plain => byte >= b' ',
         }
     }
 

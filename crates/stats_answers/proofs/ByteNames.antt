@@ -17,7 +17,7 @@ use Rattle.schema_types.specs.declared.types.Table.{Table}
 use Rattle.schema_types.specs.Meaning.{schema_or_refusal, element_column, schema_of, table_of, unless_found, within_limits}
 use Rattle.schema_types.specs.Names.{first}
 use Rattle.schema_types.specs.Offences.{offences}
-use Rattle.schema_types.specs.Refusals.{above, column_counts, nullable_places, text_lengths}
+use Rattle.schema_types.specs.Refusals.{above, column_counts, nullable_offsets, text_lengths}
 use Rattle.schema_types.specs.Texts.{Declares}
 use Rattle.stats_file.specs.Bytes.{AreBytes}
 use Rattle.stats_words.proofs.TextFacts.{utf8_bytes}
@@ -95,7 +95,7 @@ pub declared_bytes : (text : List ℕ) (schema : Schema) → Declares text (Ok s
 unfolding schema_or_refusal within_limits
 declared_bytes text schema d =
     let named = passed (first (offences text d.tables)) _ _ schema d.answers in
-    let full = passed (first (nullable_places text d.tables)) _ _ schema named in
+    let full = passed (first (nullable_offsets text d.tables)) _ _ schema named in
     let few = passed (first (above 64 (length d.tables ∷ []))) _ _ schema full in
     let counts = passed (first (above 64 (column_counts d.tables))) _ _ schema few in
     let short = passed (first (above 1000000 (text_lengths text d.tables))) _ _ schema counts in

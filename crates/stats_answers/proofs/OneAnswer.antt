@@ -7,7 +7,7 @@ use Rattle.schema_types.specs.Validity.{IsValid}
 use Rattle.stats_file.specs.declared.types.StatsError.{StatsError}
 use Rattle.stats_file.specs.declared.types.StatsError.TheVariants as error
 use Rattle.stats_file.specs.declared.types.StatsFile.{StatsFile}
-use Rattle.stats_file.specs.Answers.{Answers, BeginsWithLine, EndsTooEarly, HasNoEnd, IsFrontOfFile, IsFrontOfText, IsReadUpTo, IsRuleLine, IsSyntaxLine, LeavesGrammar}
+use Rattle.stats_file.specs.Answers.{Answers, BeginsWithLine, EndsTooEarly, HasNoEnd, IsFrontOfFile, IsFrontOfText, IsReadUpTo, IsRuleLine, IsSyntaxLine, BreaksGrammar}
 use Rattle.stats_file.specs.Grammar.{IsText}
 use Rattle.stats_file.proofs.GrammarFacts.{file_is_text}
 use Rattle.stats_words.proofs.SplitFacts.{not_without, split_same}
@@ -51,20 +51,20 @@ read_ended schema bytes lines left read =
 
 -- ---- if a text begins with two lists of lines, one list is a prefix of the other
 
-record Behind (a b : Lines) (p q : List ℕ) : Type 0 where
+record IsFrontOf (a b : Lines) (p q : List ℕ) : Type 0 where
   more : Lines
   whole : b ≡ a ++ more
   left : p ≡ concat more ++ q
   are : AllEnded more
 
-grown : (x : List ℕ) (a b : Lines) (p q : List ℕ) → Behind a b p q → Behind (x ∷ a) (x ∷ b) p q
+grown : (x : List ℕ) (a b : Lines) (p q : List ℕ) → IsFrontOf a b p q → IsFrontOf (x ∷ a) (x ∷ b) p q
 grown x a b p q h = record { more = h.more; whole = ap (λ (m : Lines). x ∷ m) h.whole; left = h.left; are = h.are }
 
 text_first : (x : List ℕ) (a : Lines) (p : List ℕ) (is : IsEnded x) → concat (x ∷ a) ++ p ≡ is.text ++ (10 ∷ (concat a ++ p))
 text_first x a p is =
     append_assoc x (concat a) p ∙ ap (λ (l : List ℕ). l ++ (concat a ++ p)) is.whole ∙ append_assoc is.text (codes "\n") (concat a ++ p)
 
-meet : (a b : Lines) (p q : List ℕ) → AllEnded a → AllEnded b → concat a ++ p ≡ concat b ++ q → Behind a b p q ⊎ Behind b a q p
+meet : (a b : Lines) (p q : List ℕ) → AllEnded a → AllEnded b → concat a ++ p ≡ concat b ++ q → IsFrontOf a b p q ⊎ IsFrontOf b a q p
 meet [] b p q are_a are_b e = inl (record { more = b; whole = refl; left = e; are = are_b })
 meet (x ∷ a) [] p q are_a are_b e = inr (record { more = x ∷ a; whole = refl; left = sym e; are = are_a })
 meet (x ∷ a) (y ∷ b) p q (is_x, are_a) (is_y, are_b) e = by (meet a b p q are_a are_b same.1)
@@ -75,12 +75,12 @@ meet (x ∷ a) (y ∷ b) p q (is_x, are_a) (is_y, are_b) e = by (meet a b p q ar
     first : x ≡ y
     first = is_x.whole ∙ ap (λ (t : List ℕ). t ++ codes "\n") same.0 ∙ sym is_y.whole
 
-    by : Behind a b p q ⊎ Behind b a q p → Behind (x ∷ a) (y ∷ b) p q ⊎ Behind (y ∷ b) (x ∷ a) q p
-    by (inl h) = inl (subst (λ (z : List ℕ). Behind (x ∷ a) (z ∷ b) p q) first (grown x a b p q h))
-    by (inr h) = inr (subst (λ (z : List ℕ). Behind (z ∷ b) (x ∷ a) q p) first (grown x b a q p h))
+    by : IsFrontOf a b p q ⊎ IsFrontOf b a q p → IsFrontOf (x ∷ a) (y ∷ b) p q ⊎ IsFrontOf (y ∷ b) (x ∷ a) q p
+    by (inl h) = inl (subst (λ (z : List ℕ). IsFrontOf (x ∷ a) (z ∷ b) p q) first (grown x a b p q h))
+    by (inr h) = inr (subst (λ (z : List ℕ). IsFrontOf (z ∷ b) (x ∷ a) q p) first (grown x b a q p h))
 
-none_behind : (schema : Schema) (bytes : List ℕ) (a b : Lines) (p q : List ℕ) → Stops schema bytes a p → Stops schema bytes b q → Behind a b p q → (b ≡ a) × (p ≡ q)
-none_behind schema bytes a b p q stop other h = by h.more h.whole h.left h.are
+same_stop : (schema : Schema) (bytes : List ℕ) (a b : Lines) (p q : List ℕ) → Stops schema bytes a p → Stops schema bytes b q → IsFrontOf a b p q → (b ≡ a) × (p ≡ q)
+same_stop schema bytes a b p q stop other h = by h.more h.whole h.left h.are
   where
     by : (more : Lines) → b ≡ a ++ more → p ≡ concat more ++ q → AllEnded more → (b ≡ a) × (p ≡ q)
     by [] whole left are = (whole ∙ append-nil a, left)
@@ -99,9 +99,9 @@ one_stop : (schema : Schema) (bytes : List ℕ) (a b : Lines) (p q : List ℕ) �
 one_stop schema bytes a b p q stop other =
     by (meet a b p q (read_ended schema bytes a p stop.read) (read_ended schema bytes b q other.read) (sym stop.read.whole ∙ other.read.whole))
   where
-    by : Behind a b p q ⊎ Behind b a q p → (a ≡ b) × (p ≡ q)
-    by (inl h) = let same = none_behind schema bytes a b p q stop other h in (sym same.0, same.1)
-    by (inr h) = let same = none_behind schema bytes b a q p other stop h in (same.0, sym same.1)
+    by : IsFrontOf a b p q ⊎ IsFrontOf b a q p → (a ≡ b) × (p ≡ q)
+    by (inl h) = let same = same_stop schema bytes a b p q stop other h in (sym same.0, same.1)
+    by (inr h) = let same = same_stop schema bytes b a q p other stop h in (same.0, sym same.1)
 
 -- ---- refusals
 
@@ -115,7 +115,7 @@ module _ (schema : Schema) (bytes : List ℕ) (good : IsValid schema) (columns :
   syntax_stops : (line : ℕ) (h : IsSyntaxLine schema bytes line) → Stops schema bytes h.lines h.left
   syntax_stops line h = record { read = h.read; halts = λ l rest next front. by h.wrong l rest next front }
     where
-      by : LeavesGrammar h.lines h.left ⊎ EndsTooEarly schema h.lines h.left → (l rest : List ℕ) → BeginsWithLine h.left l rest → IsFrontOfFile schema (h.lines ++ (l ∷ [])) → ⊥
+      by : BreaksGrammar h.lines h.left ⊎ EndsTooEarly schema h.lines h.left → (l rest : List ℕ) → BeginsWithLine h.left l rest → IsFrontOfFile schema (h.lines ++ (l ∷ [])) → ⊥
       by (inl wrong) l rest next front =
           let same = one_line h.left l wrong.line rest wrong.rest next wrong.next in
           wrong.fails (front_text (h.lines ++ (wrong.line ∷ [])) (subst (λ (x : List ℕ). IsFrontOfFile schema (h.lines ++ (x ∷ []))) same front))
@@ -140,7 +140,7 @@ module _ (schema : Schema) (bytes : List ℕ) (good : IsValid schema) (columns :
       next : BeginsWithLine h.left k.broken k.rest
       next = subst (λ (x : List ℕ). BeginsWithLine x k.broken k.rest) (sym same.1) k.next
 
-      by : LeavesGrammar h.lines h.left ⊎ EndsTooEarly schema h.lines h.left → ⊥
+      by : BreaksGrammar h.lines h.left ⊎ EndsTooEarly schema h.lines h.left → ⊥
       by (inl wrong) =
           wrong.fails (subst (λ (x : List ℕ). IsFrontOfText (h.lines ++ (x ∷ []))) (one_line h.left k.broken wrong.line k.rest wrong.rest next wrong.next)
           (subst (λ (x : Lines). IsFrontOfText (x ++ (k.broken ∷ []))) (sym same.0) k.in_grammar))

@@ -13,7 +13,7 @@ use Rattle.stats_file.specs.declared.types.StatsError.TheVariants as error
 use Rattle.stats_file.specs.declared.types.StatsFile.{StatsFile}
 use Rattle.stats_file.specs.Answers.{Answers}
 use Rattle.stats_file.specs.Bytes.{AreBytes}
-use Rattle.stats_file.specs.Cases.{empty_file, numbers_of, schema_of_e}
+use Rattle.stats_file.specs.Cases.{stats_without_rows, number_table, schema_of_e}
 use Rattle.stats_file.specs.FileText.{file_lines, file_text, pair_lines, section_lines, table_lines}
 use Rattle.stats_file.specs.Lines.{end_line, first_line}
 use Rattle.stats_file.specs.Runs.{runs_of}
@@ -38,7 +38,7 @@ is_valid : IsValid schema_of_e
 is_valid = record {
   some = omega arith;
   few = omega arith;
-  tables = only_one IsValidTable (numbers_of (codes "E")) (record {
+  tables = only_one IsValidTable (number_table (codes "E")) (record {
     some = omega arith;
     few = omega arith;
     plain = refl;
@@ -46,24 +46,24 @@ is_valid = record {
     keys = λ k d lt. absurd (omega arith);
   });
   names = λ i j d less lt. absurd (omega arith);
-  references = only_one (λ (table : Table). All (IsReference schema_of_e.tables table) table.references) (numbers_of (codes "E")) (λ k d lt. absurd (omega arith));
+  references = only_one (λ (table : Table). All (IsReference schema_of_e.tables table) table.references) (number_table (codes "E")) (λ k d lt. absurd (omega arith));
 }
 
 byte_columns : HasByteColumns schema_of_e
 byte_columns =
-    only_one (λ (table : Table). All (λ (column : Column). AreBytes column.name) table.columns) (numbers_of (codes "E"))
+    only_one (λ (table : Table). All (λ (column : Column). AreBytes column.name) table.columns) (number_table (codes "E"))
     (only_one (λ (column : Column). AreBytes column.name) (record { name = codes "X"; kind = kind.Int }) (omega arith, tt))
 
-lines_are : file_lines schema_of_e empty_file ≡ lines ++ (codes "end\n" ∷ [])
+lines_are : file_lines schema_of_e stats_without_rows ≡ lines ++ (codes "end\n" ∷ [])
 unfolding file_lines table_lines pair_lines runs_of digits
 lines_are = refl
 
-text_is : file_text schema_of_e empty_file ≡ codes "safebound-stats 1 1\ntable x45 0\npair x58 x58\nwhole -\nrest -\nend\n"
+text_is : file_text schema_of_e stats_without_rows ≡ codes "safebound-stats 1 1\ntable x45 0\npair x58 x58\nwhole -\nrest -\nend\n"
 unfolding file_lines table_lines pair_lines runs_of digits
 text_is = refl
 
-pub whole : stats_answer schema_of_e (codes "safebound-stats 1 1\ntable x45 0\npair x58 x58\nwhole -\nrest -\nend\n") ≡ Ok empty_file
-whole = rw (sym text_is) (written schema_of_e empty_file is_valid byte_columns empty_keeps)
+pub whole : stats_answer schema_of_e (codes "safebound-stats 1 1\ntable x45 0\npair x58 x58\nwhole -\nrest -\nend\n") ≡ Ok stats_without_rows
+whole = rw (sym text_is) (written schema_of_e stats_without_rows is_valid byte_columns empty_keeps)
 
 last_same : {X : Type 0} (xs ys : List X) (x y : X) → xs ++ (x ∷ []) ≡ ys ++ (y ∷ []) → x ≡ y
 last_same [] [] x y e = cc
@@ -85,7 +85,7 @@ is_cut : Answers schema_of_e cut_text (Err (error.Syntax 6))
 is_cut = record {
   lines = lines;
   left = [];
-  read = record { whole = refl; begins = record { file = empty_file; keeps = empty_keeps; more = codes "end\n" ∷ []; whole = sym lines_are } };
+  read = record { whole = refl; begins = record { file = stats_without_rows; keeps = empty_keeps; more = codes "end\n" ∷ []; whole = sym lines_are } };
   here = refl;
   wrong = inr (record { no_line = λ k d lt. absurd (omega arith); fails = λ file keeps e none. not_whole file e });
 }

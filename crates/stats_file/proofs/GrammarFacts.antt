@@ -11,7 +11,7 @@ use Rattle.schema_types.specs.declared.types.Table.{Table}
 use Rattle.stats_file.specs.Bytes.{AreBytes, ConsistOfBytes, HasByteNames, HasBytes, HasByteValues}
 use Rattle.stats_file.specs.declared.types.Datum.{Datum}
 use Rattle.stats_file.specs.declared.types.Datum.TheVariants as datum
-use Rattle.stats_file.specs.declared.types.Pair.{Pair}
+use Rattle.stats_file.specs.declared.types.PairStats.{PairStats}
 use Rattle.stats_file.specs.declared.types.TableStats.{TableStats}
 use Rattle.stats_file.specs.declared.types.StatsFile.{StatsFile}
 use Rattle.stats_file.specs.FileText.{column_name, file_lines, name_at, histogram_node_line, pair_lines, section_lines, table_lines, value_line}
@@ -47,7 +47,7 @@ name_bytes : (table : Table) (i : ℕ) (d : Column) → i < length table.columns
 name_bytes table i d lt names =
     subst (λ o. AreBytes (column_name o)) (sym (slice_get-get_or table.columns i d lt)) (names.columns i d lt)
 
-pub pair_is : (table : Table) (rows : ℕ) (pair : Pair) → rows ≤ 4000000 → HasByteNames table → IsPair table rows pair → HasByteValues pair → ArePairLines (pair_lines table pair)
+pub pair_is : (table : Table) (rows : ℕ) (pair : PairStats) → rows ≤ 4000000 → HasByteNames table → IsPair table rows pair → HasByteValues pair → ArePairLines (pair_lines table pair)
 unfolding pair_lines
 pair_is table rows pair few names is bytes =
     let filter = name_bytes table pair.filter is.filter (slice_get_within table.columns pair.filter is.filter is.filter_is) names in

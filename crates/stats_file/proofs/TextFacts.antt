@@ -4,7 +4,7 @@ use Rattle.std.specs.Prelude.{codes, slice_get}
 use Rattle.std.specs.List.{concat, flat_map}
 use Rattle.schema_types.specs.declared.types.Table.{Table}
 use Rattle.schema_types.specs.declared.types.Schema.{Schema}
-use Rattle.stats_file.specs.declared.types.Pair.{Pair}
+use Rattle.stats_file.specs.declared.types.PairStats.{PairStats}
 use Rattle.stats_file.specs.declared.types.TableStats.{TableStats}
 use Rattle.stats_file.specs.declared.types.StatsFile.{StatsFile}
 use Rattle.stats_file.specs.FileText.{file_lines, file_text, name_at, histogram_node_line, pair_lines, section_lines, table_lines, value_line}
@@ -24,17 +24,17 @@ concat-each f [] = refl
 concat-each f (x ∷ xs) = concat-append (f x) (flat_map f xs) ∙ ap (λ rest. concat (f x) ++ rest) (concat-each f xs)
 
 -- the cuts and nodes of a pair, with which the pair's text ends
-abbrev pub tree_part : Pair → List ℕ
-tree_part pair = flat_map cut_line pair.cuts ++ flat_map histogram_node_line pair.nodes
+abbrev pub histogram_part : PairStats → List ℕ
+histogram_part pair = flat_map cut_line pair.cuts ++ flat_map histogram_node_line pair.nodes
 
-tree_is : (pair : Pair) → concat (map cut_line pair.cuts ++ map histogram_node_line pair.nodes) ≡ tree_part pair
-tree_is pair = concat-append (map cut_line pair.cuts) (map histogram_node_line pair.nodes)
+histogram_is : (pair : PairStats) → concat (map cut_line pair.cuts ++ map histogram_node_line pair.nodes) ≡ histogram_part pair
+histogram_is pair = concat-append (map cut_line pair.cuts) (map histogram_node_line pair.nodes)
     ∙ ap (λ rest. rest ++ concat (map histogram_node_line pair.nodes)) (concat-map cut_line pair.cuts)
     ∙ ap (λ rest. flat_map cut_line pair.cuts ++ rest) (concat-map histogram_node_line pair.nodes)
 
-pub pair_text_is : (table : Table) (pair : Pair) → concat (pair_lines table pair)
+pub pair_text_is : (table : Table) (pair : PairStats) → concat (pair_lines table pair)
     ≡ pair_line (name_at table pair.filter) (name_at table pair.joined) ++ (list_line (codes "whole") (runs_of pair.whole)
-    ++ (flat_map value_line pair.frequent ++ (list_line (codes "rest") (runs_of pair.rest) ++ tree_part pair)))
+    ++ (flat_map value_line pair.frequent ++ (list_line (codes "rest") (runs_of pair.rest) ++ histogram_part pair)))
 unfolding pair_lines
 pair_text_is table pair =
     let tree = map cut_line pair.cuts ++ map histogram_node_line pair.nodes in
@@ -42,9 +42,9 @@ pair_text_is table pair =
     ap (λ x. pair_line (name_at table pair.filter) (name_at table pair.joined) ++ (list_line (codes "whole") (runs_of pair.whole) ++ x))
     (concat-append (map value_line pair.frequent) (rest ∷ tree)
     ∙ ap (λ x. x ++ (rest ++ concat tree)) (concat-map value_line pair.frequent)
-    ∙ ap (λ x. flat_map value_line pair.frequent ++ (rest ++ x)) (tree_is pair))
+    ∙ ap (λ x. flat_map value_line pair.frequent ++ (rest ++ x)) (histogram_is pair))
 
-abbrev pub pair_part : Table → Pair → List ℕ
+abbrev pub pair_part : Table → PairStats → List ℕ
 pair_part table pair = concat (pair_lines table pair)
 
 pub section_text_is : (schema : Schema) (section : TableStats) (table : Table) → slice_get schema.tables section.table ≡ Some table

@@ -37,7 +37,7 @@ pub record IsReadUpTo (schema : Schema) (bytes : List ℕ) (lines : List (List �
   pub begins : IsFrontOfFile schema lines
 
 -- no text of the grammar begins with these lines and the next line
-pub record LeavesGrammar (lines : List (List ℕ)) (left : List ℕ) : Type 0 where
+pub record BreaksGrammar (lines : List (List ℕ)) (left : List ℕ) : Type 0 where
   pub line : List ℕ
   pub rest : List ℕ
   pub next : BeginsWithLine left line rest
@@ -54,7 +54,7 @@ pub record IsSyntaxLine (schema : Schema) (bytes : List ℕ) (line : ℕ) : Type
   pub left : List ℕ
   pub read : IsReadUpTo schema bytes lines left
   pub here : line ≡ length lines + 1
-  pub wrong : LeavesGrammar lines left ⊎ EndsTooEarly schema lines left
+  pub wrong : BreaksGrammar lines left ⊎ EndsTooEarly schema lines left
 
 -- the number, from 1, of the first line that no file's text has after the lines before it, although a text of the grammar has it there
 pub record IsRuleLine (schema : Schema) (bytes : List ℕ) (line : ℕ) : Type 0 where

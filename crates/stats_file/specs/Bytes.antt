@@ -6,7 +6,7 @@ use Rattle.schema_types.specs.declared.types.Schema.{Schema}
 use Rattle.schema_types.specs.declared.types.Table.{Table}
 use Rattle.stats_file.specs.declared.types.Datum.{Datum}
 use Rattle.stats_file.specs.declared.types.Datum.TheVariants as datum
-use Rattle.stats_file.specs.declared.types.Pair.{Pair}
+use Rattle.stats_file.specs.declared.types.PairStats.{PairStats}
 use Rattle.stats_file.specs.declared.types.TableStats.{TableStats}
 use Rattle.stats_file.specs.declared.types.StatsFile.{StatsFile}
 
@@ -23,7 +23,7 @@ pub record HasByteNames (table : Table) : Type 0 where
   pub columns : All (λ (column : Column). AreBytes column.name) table.columns
 
 -- a pair's values consist of bytes
-pub record HasByteValues (pair : Pair) : Type 0 where
+pub record HasByteValues (pair : PairStats) : Type 0 where
   pub frequent : All (λ (f : Datum × List ℕ). HasBytes f.0) pair.frequent
   pub cuts : All HasBytes pair.cuts
 

@@ -4,25 +4,25 @@ use Rattle.schema_types.specs.declared.types.Kind.TheVariants as kind
 use Rattle.schema_types.specs.declared.types.Schema.{Schema}
 use Rattle.schema_types.specs.declared.types.Table.{Table}
 use Rattle.stats_file.specs.declared.types.Datum.TheVariants as datum
-use Rattle.stats_file.specs.declared.types.Pair.{Pair}
+use Rattle.stats_file.specs.declared.types.PairStats.{PairStats}
 use Rattle.stats_file.specs.declared.types.StatsFile.{StatsFile}
 
 -- a table of this name with the one column X of numbers
-abbrev pub numbers_of : List ℕ → Table
-numbers_of name = record { name = name; columns = record { name = codes "X"; kind = kind.Int } ∷ []; keys = []; references = [] }
+abbrev pub number_table : List ℕ → Table
+number_table name = record { name = name; columns = record { name = codes "X"; kind = kind.Int } ∷ []; keys = []; references = [] }
 
 abbrev pub schema_of_e : Schema
-schema_of_e = record { tables = numbers_of (codes "E") ∷ [] }
+schema_of_e = record { tables = number_table (codes "E") ∷ [] }
 
-abbrev pub empty_pair : Pair
-empty_pair = record { filter = 0; joined = 0; whole = []; frequent = []; rest = []; cuts = []; nodes = [] }
+abbrev pub pair_without_rows : PairStats
+pair_without_rows = record { filter = 0; joined = 0; whole = []; frequent = []; rest = []; cuts = []; nodes = [] }
 
 -- statistics of the table E without rows
-abbrev pub empty_file : StatsFile
-empty_file = record { accuracy = 1; tables = record { table = 0; rows = 0; pairs = empty_pair ∷ [] } ∷ [] }
+abbrev pub stats_without_rows : StatsFile
+stats_without_rows = record { accuracy = 1; tables = record { table = 0; rows = 0; pairs = pair_without_rows ∷ [] } ∷ [] }
 
 -- the lists of the values 1, 1, 1, 2, 2, 3, without lists of ranges
-abbrev pub six_rows : Pair
+abbrev pub six_rows : PairStats
 six_rows = record {
   filter = 0;
   joined = 0;

@@ -5,7 +5,7 @@ use Rattle.schema_types.specs.declared.types.Column.{Column}
 use Rattle.schema_types.specs.declared.types.Schema.{Schema}
 use Rattle.schema_types.specs.declared.types.Table.{Table}
 use Rattle.stats_file.specs.declared.types.Datum.{Datum}
-use Rattle.stats_file.specs.declared.types.Pair.{Pair}
+use Rattle.stats_file.specs.declared.types.PairStats.{PairStats}
 use Rattle.stats_file.specs.declared.types.TableStats.{TableStats}
 use Rattle.stats_file.specs.declared.types.StatsFile.{StatsFile}
 use Rattle.stats_file.specs.Lines.{cut_line, end_line, first_line, frequent_line, list_line, pair_line, table_line}
@@ -26,7 +26,7 @@ value_line frequent = frequent_line frequent.0 (runs_of frequent.1)
 abbrev pub histogram_node_line : List ℕ → List ℕ
 histogram_node_line node = list_line (codes "node") (runs_of node)
 
-unfoldable pub pair_lines : Table → Pair → List (List ℕ)
+unfoldable pub pair_lines : Table → PairStats → List (List ℕ)
 pair_lines table pair = pair_line (name_at table pair.filter) (name_at table pair.joined)
     ∷ (list_line (codes "whole") (runs_of pair.whole) ∷ (map value_line pair.frequent
     ++ (list_line (codes "rest") (runs_of pair.rest) ∷ (map cut_line pair.cuts ++ map histogram_node_line pair.nodes))))

@@ -1,7 +1,7 @@
 -- The parts of a line.
 use Rattle.std.specs.Prelude.{ℕ, ◌<◌, List, length, decimal}
 use Rattle.schema_types.specs.declared.types.Table.{Table}
-use Rattle.stats_file.specs.declared.types.Pair.{Pair}
+use Rattle.stats_file.specs.declared.types.PairStats.{PairStats}
 use Rattle.stats_file.specs.declared.parts.Part.{Part}
 use Rattle.stats_file.specs.declared.parts.Part.TheVariants as part
 use Rattle.stats_file.specs.Lines.{datum_text, hex_text, runs_text}
@@ -14,5 +14,5 @@ part_text (part.Value value) = datum_text value.now
 part_text (part.Runs runs) = runs_text runs.now
 
 -- the pair's columns are columns of the table
-abbrev pub HasColumns : Table → Pair → Type 0
+abbrev pub HasColumns : Table → PairStats → Type 0
 HasColumns table pair = (pair.filter < length table.columns) × (pair.joined < length table.columns)

@@ -7,7 +7,7 @@ use Rattle.std.specs.declared.cmp.Ordering.{Ordering}
 use Rattle.std.specs.declared.cmp.Ordering.TheVariants.{Less, Greater}
 use Rattle.std.specs.Str.{IsUtf8}
 use Rattle.limits.specs.Profile.{most_rows}
-use Rattle.degree_sequences.specs.Falling.{IsFalling}
+use Rattle.degree_sequences.specs.Descending.{IsDescending}
 use Rattle.schema_types.specs.declared.types.Column.{Column}
 use Rattle.schema_types.specs.declared.types.Kind.{Kind}
 use Rattle.schema_types.specs.declared.types.Kind.TheVariants as kind
@@ -15,7 +15,7 @@ use Rattle.schema_types.specs.declared.types.Schema.{Schema}
 use Rattle.schema_types.specs.declared.types.Table.{Table}
 use Rattle.stats_file.specs.declared.types.Datum.{Datum}
 use Rattle.stats_file.specs.declared.types.Datum.TheVariants as datum
-use Rattle.stats_file.specs.declared.types.Pair.{Pair}
+use Rattle.stats_file.specs.declared.types.PairStats.{PairStats}
 use Rattle.stats_file.specs.declared.types.TableStats.{TableStats}
 use Rattle.stats_file.specs.declared.types.StatsFile.{StatsFile}
 
@@ -35,7 +35,7 @@ IsOfKind (kind.Text most) (datum.Text bytes) = IsUtf8 bytes
 
 -- a list of degrees: positive numbers in descending order (equal neighbours are allowed), with a sum of at most `rows`
 pub record IsList (rows : ℕ) (list : List ℕ) : Type 0 where
-  pub falls : IsFalling list
+  pub falls : IsDescending list
   pub positive : All (λ x. 0 < x) list
   pub within : sum list ≤ rows
 
@@ -60,7 +60,7 @@ IsHistogramOf kind zero cuts nodes = (cuts ≡ []) × (nodes ≡ [])
 IsHistogramOf kind (suc n) cuts nodes = IsHistogram kind (suc n) cuts nodes
 
 -- a pair of a table with this number of rows: statistics of a joined column by the values of a filter column
-pub record IsPair (table : Table) (rows : ℕ) (pair : Pair) : Type 0 where
+pub record IsPair (table : Table) (rows : ℕ) (pair : PairStats) : Type 0 where
   pub filter : Column
   pub filter_is : slice_get table.columns pair.filter ≡ Some filter
   pub joined : pair.joined < length table.columns
@@ -72,11 +72,11 @@ pub record IsPair (table : Table) (rows : ℕ) (pair : Pair) : Type 0 where
 
 -- pair `a` goes before pair `b`: the filter column of `a` is earlier in the table, or both filter columns are the same and the joined column of `a` is
 -- earlier
-abbrev pub StandsBefore : Pair → Pair → Type 0
-StandsBefore a b = (a.filter < b.filter) ⊎ ((a.filter ≡ b.filter) × (a.joined < b.joined))
+abbrev pub ComesBefore : PairStats → PairStats → Type 0
+ComesBefore a b = (a.filter < b.filter) ⊎ ((a.filter ≡ b.filter) × (a.joined < b.joined))
 
 -- two pairs count the same rows of their filter column: frequent values and cuts are the same, and lists at the same index have the same sum
-pub record HaveSameFilterCounts (a b : Pair) : Type 0 where
+pub record HaveSameFilterCounts (a b : PairStats) : Type 0 where
   pub values : map (λ (f : Datum × List ℕ). f.0) a.frequent ≡ map (λ (f : Datum × List ℕ). f.0) b.frequent
   pub totals : map (λ (f : Datum × List ℕ). sum f.1) a.frequent ≡ map (λ (f : Datum × List ℕ). sum f.1) b.frequent
   pub rest : sum a.rest ≡ sum b.rest
@@ -84,17 +84,17 @@ pub record HaveSameFilterCounts (a b : Pair) : Type 0 where
   pub nodes : map sum a.nodes ≡ map sum b.nodes
 
 -- two pairs agree: with the same joined column they have the same list of all rows, and with the same filter column they count the same rows
-pub record Agree (a b : Pair) : Type 0 where
+pub record Agree (a b : PairStats) : Type 0 where
   pub joined : a.joined ≡ b.joined → a.whole ≡ b.whole
   pub filter : a.filter ≡ b.filter → HaveSameFilterCounts a b
 
--- the section of a table of the schema: its number of rows, and pairs ascending by their columns (`StandsBefore`), any two of which agree
+-- the section of a table of the schema: its number of rows, and pairs ascending by their columns (`ComesBefore`), any two of which agree
 pub record IsSection (schema : Schema) (section : TableStats) : Type 0 where
   pub table : Table
   pub table_is : slice_get schema.tables section.table ≡ Some table
   pub rows : section.rows ≤ most_rows
   pub pairs : All (IsPair table section.rows) section.pairs
-  pub order : AllPairs StandsBefore section.pairs
+  pub order : AllPairs ComesBefore section.pairs
   pub agree : AllPairs Agree section.pairs
 
 -- all rules: an accuracy from 1 to 64, and tables in the schema's order, each at most once

@@ -2,7 +2,7 @@
 ghost use Rattle.std.specs.Prelude.{◌≡◌, ◌-◌, ◌^◌, ◌∷◌, [], codes, negsuc};
 ghost use Rattle.std.specs.List.{concat};
 ghost use Rattle.stats_file.specs.declared.types.Datum.TheVariants as datum;
-ghost use Rattle.stats_file.specs.Cases.{empty_file, numbers_of, schema_of_e, six_rows};
+ghost use Rattle.stats_file.specs.Cases.{stats_without_rows, number_table, schema_of_e, six_rows};
 ghost use Rattle.stats_file.specs.FileText.{file_text, pair_lines};
 ghost use Rattle.stats_file.specs.Lines.{cut_line, hex_text, run_text, runs_text};
 ghost use Rattle.stats_file.specs.Rules.{KeepsRules};
@@ -10,9 +10,9 @@ ghost use Rattle.stats_file.specs.Runs.{run_of, runs_of};
 
 /// Theorems by computation. This function does nothing.
 pub fn examples()
-    ensures no_rows { file_text schema_of_e empty_file ≡ codes "safebound-stats 1 1\ntable x45 0\npair x58 x58\nwhole -\nrest -\nend\n" }
-    ensures keeps { KeepsRules schema_of_e empty_file }
-    ensures six { concat (pair_lines (numbers_of (codes "R")) six_rows)
+    ensures no_rows { file_text schema_of_e stats_without_rows ≡ codes "safebound-stats 1 1\ntable x45 0\npair x58 x58\nwhole -\nrest -\nend\n" }
+    ensures keeps { KeepsRules schema_of_e stats_without_rows }
+    ensures six { concat (pair_lines (number_table (codes "R")) six_rows)
         ≡ codes "pair x58 x58\nwhole 3*2\nfrequent 1 3*1\nfrequent 2 2*1\nfrequent 3 1*1\nrest -\n" }
     ensures bytes { hex_text (255 ∷ 10 ∷ 122 ∷ []) ≡ codes "xff0a7a" }
     ensures no_bytes { cut_line (datum.Text []) ≡ codes "cut x\n" }

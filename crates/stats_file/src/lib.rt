@@ -19,5 +19,5 @@ mod write;
 
 pub use cases::examples;
 pub use laws::{texts_are_grammatical, words_are_grammatical};
-pub use types::{Datum, Pair, StatsError, StatsFile, TableStats};
+pub use types::{Datum, PairStats, StatsError, StatsFile, TableStats};
 pub use write::write_stats;

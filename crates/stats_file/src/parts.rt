@@ -5,7 +5,7 @@ ghost use Rattle.std.specs.List.{flat_map};
 ghost use Rattle.stats_file.specs.Lines.{datum_text, hex_byte, hex_digit as digit_of, hex_text, run_text, runs_text};
 ghost use Rattle.stats_file.specs.Parts.{part_text};
 ghost use Rattle.base_io.specs.Devices.{growth};
-ghost use Rattle.base_io.specs.Writes.{Put};
+ghost use Rattle.base_io.specs.Writes.{WroteBuffered};
 
 use crate::Datum;
 use base_io::{Buffer, Failed, Sink};
@@ -37,13 +37,13 @@ fn hex_digit(n: u8) -> u8
 }
 
 fn put_hex_byte<N: Sink>(byte: u8, buffer: &mut Buffer, sink: &mut N) -> Result<(), Failed>
-    ensures { Put (growth N.taken N.faults sink.old sink.new) buffer.old buffer.new (hex_byte byte) result }
+    ensures { WroteBuffered (growth N.taken N.faults sink.old sink.new) buffer.old buffer.new (hex_byte byte) result }
 {
     buffer.put(sink, &[hex_digit(byte / 16), hex_digit(byte % 16)])
 }
 
 fn put_hex_bytes<N: Sink>(bytes: &[u8], buffer: &mut Buffer, sink: &mut N) -> Result<(), Failed>
-    ensures { Put (growth N.taken N.faults sink.old sink.new) buffer.old buffer.new (flat_map hex_byte bytes.now) result }
+    ensures { WroteBuffered (growth N.taken N.faults sink.old sink.new) buffer.old buffer.new (flat_map hex_byte bytes.now) result }
 {
     'bytes: for byte in bytes {
         put_hex_byte(*byte, buffer, sink)?;
@@ -52,28 +52,28 @@ fn put_hex_bytes<N: Sink>(bytes: &[u8], buffer: &mut Buffer, sink: &mut N) -> Re
 }
 
 fn put_hex<N: Sink>(bytes: &[u8], buffer: &mut Buffer, sink: &mut N) -> Result<(), Failed>
-    ensures { Put (growth N.taken N.faults sink.old sink.new) buffer.old buffer.new (hex_text bytes.now) result }
+    ensures { WroteBuffered (growth N.taken N.faults sink.old sink.new) buffer.old buffer.new (hex_text bytes.now) result }
 {
     buffer.put(sink, X)?;
     put_hex_bytes(bytes, buffer, sink)
 }
 
 fn put_number<N: Sink>(number: u32, buffer: &mut Buffer, sink: &mut N) -> Result<(), Failed>
-    ensures { Put (growth N.taken N.faults sink.old sink.new) buffer.old buffer.new (decimal number) result }
+    ensures { WroteBuffered (growth N.taken N.faults sink.old sink.new) buffer.old buffer.new (decimal number) result }
 {
     let mut digits = itoa::Buffer::new();
     buffer.put(sink, digits.format(number).as_bytes())
 }
 
 fn put_signed<N: Sink>(number: i64, buffer: &mut Buffer, sink: &mut N) -> Result<(), Failed>
-    ensures { Put (growth N.taken N.faults sink.old sink.new) buffer.old buffer.new (signed_decimal number) result }
+    ensures { WroteBuffered (growth N.taken N.faults sink.old sink.new) buffer.old buffer.new (signed_decimal number) result }
 {
     let mut digits = itoa::Buffer::new();
     buffer.put(sink, digits.format(number).as_bytes())
 }
 
 fn put_datum<N: Sink>(datum: &Datum, buffer: &mut Buffer, sink: &mut N) -> Result<(), Failed>
-    ensures { Put (growth N.taken N.faults sink.old sink.new) buffer.old buffer.new (datum_text datum.now) result }
+    ensures { WroteBuffered (growth N.taken N.faults sink.old sink.new) buffer.old buffer.new (datum_text datum.now) result }
 {
     match datum {
         Datum::Int(number) => put_signed(*number, buffer, sink),
@@ -82,7 +82,7 @@ fn put_datum<N: Sink>(datum: &Datum, buffer: &mut Buffer, sink: &mut N) -> Resul
 }
 
 fn put_run<N: Sink>(run: Piece, buffer: &mut Buffer, sink: &mut N) -> Result<(), Failed>
-    ensures { Put (growth N.taken N.faults sink.old sink.new) buffer.old buffer.new (run_text run) result }
+    ensures { WroteBuffered (growth N.taken N.faults sink.old sink.new) buffer.old buffer.new (run_text run) result }
 {
     let (mut value, mut count) = (itoa::Buffer::new(), itoa::Buffer::new());
     let value = value.format(run.value).as_bytes();
@@ -92,7 +92,7 @@ fn put_run<N: Sink>(run: Piece, buffer: &mut Buffer, sink: &mut N) -> Result<(),
 
 // Writes a run that isn't the first run of its list, with a blank before it.
 fn put_next_run<N: Sink>(run: Piece, buffer: &mut Buffer, sink: &mut N) -> Result<(), Failed>
-    ensures { Put (growth N.taken N.faults sink.old sink.new) buffer.old buffer.new (codes " " ++ run_text run) result }
+    ensures { WroteBuffered (growth N.taken N.faults sink.old sink.new) buffer.old buffer.new (codes " " ++ run_text run) result }
 {
     let (mut value, mut count) = (itoa::Buffer::new(), itoa::Buffer::new());
     let value = value.format(run.value).as_bytes();
@@ -101,7 +101,7 @@ fn put_next_run<N: Sink>(run: Piece, buffer: &mut Buffer, sink: &mut N) -> Resul
 }
 
 fn put_next_runs<N: Sink>(runs: &[Piece], buffer: &mut Buffer, sink: &mut N) -> Result<(), Failed>
-    ensures { Put (growth N.taken N.faults sink.old sink.new) buffer.old buffer.new
+    ensures { WroteBuffered (growth N.taken N.faults sink.old sink.new) buffer.old buffer.new
         (flat_map (λ next. codes " " ++ run_text next) runs.now) result }
 {
     'runs: for run in runs {
@@ -111,7 +111,7 @@ fn put_next_runs<N: Sink>(runs: &[Piece], buffer: &mut Buffer, sink: &mut N) -> 
 }
 
 fn put_runs<N: Sink>(runs: &[Piece], buffer: &mut Buffer, sink: &mut N) -> Result<(), Failed>
-    ensures { Put (growth N.taken N.faults sink.old sink.new) buffer.old buffer.new (runs_text runs.now) result }
+    ensures { WroteBuffered (growth N.taken N.faults sink.old sink.new) buffer.old buffer.new (runs_text runs.now) result }
 {
     if runs.is_empty() {
         return buffer.put(sink, DASH);
@@ -121,7 +121,7 @@ fn put_runs<N: Sink>(runs: &[Piece], buffer: &mut Buffer, sink: &mut N) -> Resul
 }
 
 fn put_part<N: Sink>(part: &Part, buffer: &mut Buffer, sink: &mut N) -> Result<(), Failed>
-    ensures { Put (growth N.taken N.faults sink.old sink.new) buffer.old buffer.new (part_text part.now) result }
+    ensures { WroteBuffered (growth N.taken N.faults sink.old sink.new) buffer.old buffer.new (part_text part.now) result }
 {
     match part {
         Part::Plain(bytes) => buffer.put(sink, bytes),
@@ -134,7 +134,7 @@ fn put_part<N: Sink>(part: &Part, buffer: &mut Buffer, sink: &mut N) -> Result<(
 
 /// Writes the parts of a line, one after another, through the buffer into the sink. The call fails if the sink fails.
 pub fn put_line<N: Sink>(parts: &[Part], buffer: &mut Buffer, sink: &mut N) -> Result<(), Failed>
-    ensures { Put (growth N.taken N.faults sink.old sink.new) buffer.old buffer.new (flat_map part_text parts.now) result }
+    ensures { WroteBuffered (growth N.taken N.faults sink.old sink.new) buffer.old buffer.new (flat_map part_text parts.now) result }
 {
     'parts: for part in parts {
         put_part(part, buffer, sink)?;

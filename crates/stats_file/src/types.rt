@@ -13,7 +13,7 @@ pub enum Datum {
 /// list of each frequent value, one list for all other values, and the lists of a binary tree over ranges of values (a histogram). The cuts are the
 /// values at which the tree's leaves begin. Columns are given by their positions in the table, from 0.
 #[derive(Debug, Drop)]
-pub struct Pair {
+pub struct PairStats {
     pub filter: u32,
     pub joined: u32,
     pub whole: Pieces,
@@ -28,7 +28,7 @@ pub struct Pair {
 pub struct TableStats {
     pub table: u32,
     pub rows: u32,
-    pub pairs: Seq<Pair>,
+    pub pairs: Seq<PairStats>,
 }
 
 /// The statistics of tables, compressed with this accuracy.

@@ -7,10 +7,10 @@ ghost use Rattle.stats_file.specs.Parts.{HasColumns};
 ghost use Rattle.stats_file.specs.Rules.{IsSection, KeepsRules};
 ghost use Rattle.stats_file.specs.Runs.{runs_of};
 ghost use Rattle.base_io.specs.Devices.{growth};
-ghost use Rattle.base_io.specs.Writes.{Put, Wrote};
+ghost use Rattle.base_io.specs.Writes.{WroteBuffered, Wrote};
 
 use crate::parts::{Part, put_line};
-use crate::{Datum, Pair, StatsFile, TableStats};
+use crate::{Datum, PairStats, StatsFile, TableStats};
 use base_io::{Buffer, Failed, Sink};
 use piece_math::Pieces;
 use schema_types::{Schema, Table};
@@ -38,7 +38,7 @@ const SPACE: &[u8] = b" ";
 const LINE_END: &[u8] = b"\n";
 
 fn put_first_line<N: Sink>(accuracy: u8, buffer: &mut Buffer, sink: &mut N) -> Result<(), Failed>
-    ensures { Put (growth N.taken N.faults sink.old sink.new) buffer.old buffer.new (first_line accuracy) result }
+    ensures { WroteBuffered (growth N.taken N.faults sink.old sink.new) buffer.old buffer.new (first_line accuracy) result }
 {
     let accuracy = Part::Number(u32::from(accuracy));
     put_line(
@@ -54,7 +54,7 @@ fn put_table_line<N: Sink>(
     buffer: &mut Buffer,
     sink: &mut N,
 ) -> Result<(), Failed>
-    ensures { Put (growth N.taken N.faults sink.old sink.new) buffer.old buffer.new (table_line name.now rows) result }
+    ensures { WroteBuffered (growth N.taken N.faults sink.old sink.new) buffer.old buffer.new (table_line name.now rows) result }
 {
     let line = [
         Part::Plain(TABLE),
@@ -72,7 +72,7 @@ fn put_pair_line<'a, N: Sink>(
     buffer: &mut Buffer,
     sink: &mut N,
 ) -> Result<(), Failed>
-    ensures { Put (growth N.taken N.faults sink.old sink.new) buffer.old buffer.new (pair_line filter.now joined.now) result }
+    ensures { WroteBuffered (growth N.taken N.faults sink.old sink.new) buffer.old buffer.new (pair_line filter.now joined.now) result }
 {
     let line = [
         Part::Plain(PAIR),
@@ -91,7 +91,7 @@ fn put_list_line<'a, N: Sink>(
     buffer: &mut Buffer,
     sink: &mut N,
 ) -> Result<(), Failed>
-    ensures { Put (growth N.taken N.faults sink.old sink.new) buffer.old buffer.new (list_line word.now (runs_of list.now)) result }
+    ensures { WroteBuffered (growth N.taken N.faults sink.old sink.new) buffer.old buffer.new (list_line word.now (runs_of list.now)) result }
 {
     let line = [
         Part::Plain(word),
@@ -109,7 +109,7 @@ fn put_frequent_line<'a, N: Sink>(
     buffer: &mut Buffer,
     sink: &mut N,
 ) -> Result<(), Failed>
-    ensures { Put (growth N.taken N.faults sink.old sink.new) buffer.old buffer.new (frequent_line value.now (runs_of list.now)) result }
+    ensures { WroteBuffered (growth N.taken N.faults sink.old sink.new) buffer.old buffer.new (frequent_line value.now (runs_of list.now)) result }
 {
     let line = [
         Part::Plain(FREQUENT),
@@ -122,7 +122,7 @@ fn put_frequent_line<'a, N: Sink>(
 }
 
 fn put_cut_line<N: Sink>(value: &Datum, buffer: &mut Buffer, sink: &mut N) -> Result<(), Failed>
-    ensures { Put (growth N.taken N.faults sink.old sink.new) buffer.old buffer.new (cut_line value.now) result }
+    ensures { WroteBuffered (growth N.taken N.faults sink.old sink.new) buffer.old buffer.new (cut_line value.now) result }
 {
     let line = [Part::Plain(CUT), Part::Value(value), Part::Plain(LINE_END)];
     put_line(&line, buffer, sink)
@@ -133,7 +133,7 @@ fn put_frequent<N: Sink>(
     buffer: &mut Buffer,
     sink: &mut N,
 ) -> Result<(), Failed>
-    ensures { Put (growth N.taken N.faults sink.old sink.new) buffer.old buffer.new
+    ensures { WroteBuffered (growth N.taken N.faults sink.old sink.new) buffer.old buffer.new
         (flat_map (λ (f : Datum × List ℕ). frequent_line f.0 (runs_of f.1)) frequent.now) result }
 {
     'frequent: for value in frequent {
@@ -143,7 +143,7 @@ fn put_frequent<N: Sink>(
 }
 
 fn put_cuts<N: Sink>(cuts: &[Datum], buffer: &mut Buffer, sink: &mut N) -> Result<(), Failed>
-    ensures { Put (growth N.taken N.faults sink.old sink.new) buffer.old buffer.new (flat_map cut_line cuts.now) result }
+    ensures { WroteBuffered (growth N.taken N.faults sink.old sink.new) buffer.old buffer.new (flat_map cut_line cuts.now) result }
 {
     'cuts: for cut in cuts {
         put_cut_line(cut, buffer, sink)?;
@@ -152,7 +152,7 @@ fn put_cuts<N: Sink>(cuts: &[Datum], buffer: &mut Buffer, sink: &mut N) -> Resul
 }
 
 fn put_nodes<N: Sink>(nodes: &[Pieces], buffer: &mut Buffer, sink: &mut N) -> Result<(), Failed>
-    ensures { Put (growth N.taken N.faults sink.old sink.new) buffer.old buffer.new
+    ensures { WroteBuffered (growth N.taken N.faults sink.old sink.new) buffer.old buffer.new
         (flat_map (λ node. list_line (codes "node") (runs_of node)) nodes.now) result }
 {
     'nodes: for node in nodes {
@@ -163,13 +163,13 @@ fn put_nodes<N: Sink>(nodes: &[Pieces], buffer: &mut Buffer, sink: &mut N) -> Re
 
 // Writes the line that names a pair's columns.
 fn put_names<N: Sink>(
-    pair: &Pair,
+    pair: &PairStats,
     table: &Table,
     buffer: &mut Buffer,
     sink: &mut N,
 ) -> Result<(), Failed>
     requires { HasColumns table.now pair.now }
-    ensures { Put (growth N.taken N.faults sink.old sink.new) buffer.old buffer.new
+    ensures { WroteBuffered (growth N.taken N.faults sink.old sink.new) buffer.old buffer.new
         (pair_line (name_at table.now pair.now.filter) (name_at table.now pair.now.joined)) result }
 {
     let filter = table.columns.get(pair.filter as usize);
@@ -178,8 +178,8 @@ fn put_names<N: Sink>(
 }
 
 // Writes the lines of a histogram: its cuts and nodes.
-fn put_tree<N: Sink>(pair: &Pair, buffer: &mut Buffer, sink: &mut N) -> Result<(), Failed>
-    ensures { Put (growth N.taken N.faults sink.old sink.new) buffer.old buffer.new
+fn put_histogram<N: Sink>(pair: &PairStats, buffer: &mut Buffer, sink: &mut N) -> Result<(), Failed>
+    ensures { WroteBuffered (growth N.taken N.faults sink.old sink.new) buffer.old buffer.new
         (flat_map cut_line pair.now.cuts ++ flat_map (λ node. list_line (codes "node") (runs_of node)) pair.now.nodes) result }
 {
     put_cuts(pair.cuts.as_slice(), buffer, sink)?;
@@ -187,30 +187,30 @@ fn put_tree<N: Sink>(pair: &Pair, buffer: &mut Buffer, sink: &mut N) -> Result<(
 }
 
 fn put_pair<N: Sink>(
-    pair: &Pair,
+    pair: &PairStats,
     table: &Table,
     buffer: &mut Buffer,
     sink: &mut N,
 ) -> Result<(), Failed>
     requires { HasColumns table.now pair.now }
-    ensures { Put (growth N.taken N.faults sink.old sink.new) buffer.old buffer.new
+    ensures { WroteBuffered (growth N.taken N.faults sink.old sink.new) buffer.old buffer.new
         (concat (pair_lines table.now pair.now)) result }
 {
     put_names(pair, table, buffer, sink)?;
     put_list_line(WHOLE, &pair.whole, buffer, sink)?;
     put_frequent(pair.frequent.as_slice(), buffer, sink)?;
     put_list_line(REST, &pair.rest, buffer, sink)?;
-    put_tree(pair, buffer, sink)
+    put_histogram(pair, buffer, sink)
 }
 
 fn put_pairs<N: Sink>(
-    pairs: &[Pair],
+    pairs: &[PairStats],
     table: &Table,
     buffer: &mut Buffer,
     sink: &mut N,
 ) -> Result<(), Failed>
     requires { All (HasColumns table.now) pairs.now }
-    ensures { Put (growth N.taken N.faults sink.old sink.new) buffer.old buffer.new
+    ensures { WroteBuffered (growth N.taken N.faults sink.old sink.new) buffer.old buffer.new
         (flat_map (λ pair. concat (pair_lines table.now pair)) pairs.now) result }
 {
     'pairs: for pair in pairs {
@@ -226,7 +226,7 @@ fn put_section<N: Sink>(
     sink: &mut N,
 ) -> Result<(), Failed>
     requires { IsSection schema.now section.now }
-    ensures { Put (growth N.taken N.faults sink.old sink.new) buffer.old buffer.new
+    ensures { WroteBuffered (growth N.taken N.faults sink.old sink.new) buffer.old buffer.new
         (concat (section_lines schema.now section.now)) result }
 {
     let table = schema.tables.get(section.table as usize);
@@ -241,7 +241,7 @@ fn put_sections<N: Sink>(
     sink: &mut N,
 ) -> Result<(), Failed>
     requires { All (IsSection schema.now) sections.now }
-    ensures { Put (growth N.taken N.faults sink.old sink.new) buffer.old buffer.new
+    ensures { WroteBuffered (growth N.taken N.faults sink.old sink.new) buffer.old buffer.new
         (flat_map (λ section. concat (section_lines schema.now section)) sections.now) result }
 {
     'sections: for section in sections {

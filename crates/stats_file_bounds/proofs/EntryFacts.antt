@@ -24,13 +24,13 @@ use Rattle.stats_file_of_query.specs.Standing.{section_of}
 use Rattle.stats_file_of_query.proofs.Finding.{first_found}
 use Rattle.stats_file_bounds.specs.declared.errors.NeedError.{NeedError}
 use Rattle.stats_file_bounds.specs.declared.errors.NeedError.TheVariants as error
-use Rattle.stats_file_bounds.specs.Entries.{AreStepsFromStatsFile, AsksAmong, IsEntryCause, IsNeedCause, EntryIsTold}
+use Rattle.stats_file_bounds.specs.Entries.{AreStepsFromStatsFile, AsksForFilterColumn, IsEntryCause, IsNeedCause, HasStatsFromFile}
 use Rattle.stats_file_bounds.specs.FileStatistics.{is_filter}
 use Rattle.stats_file_bounds.specs.Found.{is_missing, no_section, section_for}
 
 -- ---- filter columns
 
-pub asks_among : (needs : Needs) (steps : List Step) → needs.filters ≡ different (filter_map column_asked steps) → All (AsksAmong needs) steps
+pub asks_among : (needs : Needs) (steps : List Step) → needs.filters ≡ different (filter_map column_asked steps) → All (AsksForFilterColumn needs) steps
 asks_among needs steps is k d low = by (column_asked (get_or steps k d)) refl
   where
     by : (o : Option ℕ) → column_asked (get_or steps k d) ≡ o → IfSome o (λ column. IsTrue (is_filter needs column))
@@ -57,7 +57,7 @@ module _ (query : Query) (file : StatsFile) (entry : ℕ) where
 
   pub entry_told : (section : TableStats) (needs : Needs) (steps : List Step) (stats : EntryStats) → section ≡ section_for query file entry → needs ≡ needs_of query entry
       → steps ≡ steps_of entry query.conjuncts → map (λ (g : ColumnSteps). g.column) stats.columns ≡ asked_columns entry (equalities_of query)
-      → All (AreStepsFromStatsFile section needs steps) stats.columns → EntryIsTold query file entry stats
+      → All (AreStepsFromStatsFile section needs steps) stats.columns → HasStatsFromFile query file entry stats
   entry_told section needs steps stats of_section of_needs of_steps columns are = record {
     columns = columns;
     steps = subst (λ (s : TableStats). All (AreStepsFromStatsFile s (needs_of query entry) (steps_of entry query.conjuncts)) stats.columns) of_section

@@ -4,7 +4,7 @@ use Rattle.std.specs.Prelude.{find, unwrap_or}
 use Rattle.std.specs.List.{All, AllByRecursion, range_with_len}
 use Rattle.std.proofs.lemmas.Bool.{cases_Bool, cases_eq}
 use Rattle.std.proofs.lemmas.List.Elements.{recursion_from_All}
-use Rattle.stats_file.specs.declared.types.Pair.{Pair}
+use Rattle.stats_file.specs.declared.types.PairStats.{PairStats}
 use Rattle.stats_file.specs.declared.types.TableStats.{TableStats}
 use Rattle.stats_file_bounds.specs.Found.{no_pair, pair_for, are_columns}
 
@@ -22,7 +22,7 @@ found_one P p (y ∷ xs) x all e = elim (cases_Bool (p y)) [
   | inr n ↦ (let rest : find p xs ≡ Some x = rw n at e in found_one P p xs x all.1 rest)
 ]
 
-pub each_pair : (P : Pair → Type 0) (section : TableStats) → All P section.pairs → P no_pair → (filter joined : ℕ) → P (pair_for section filter joined)
+pub each_pair : (P : PairStats → Type 0) (section : TableStats) → All P section.pairs → P no_pair → (filter joined : ℕ) → P (pair_for section filter joined)
 each_pair P section all none filter joined = found_or P (are_columns filter joined) section.pairs no_pair (recursion_from_All P section.pairs all) none
 
 -- ---- along a range

@@ -4,16 +4,16 @@ use Rattle.std.proofs.lemmas.List.FromFn.{length-map-range_with_len}
 use Rattle.std.specs.List.{Contains}
 use Rattle.berge_tree.specs.declared.edges.Place.{Place}
 use Rattle.berge_tree.specs.Equalities.{places_of}
-use Rattle.stats_file_bounds.specs.Entries.{IsFile, IsFromStatsFile}
+use Rattle.stats_file_bounds.specs.Entries.{KeepsRulesOfSome, IsSectionOfSome}
 use Rattle.stats_file_bounds.specs.FileStatistics.{stats_file_counts, stats_file_lists, stats_file_statistics}
 use Rattle.stats_file_bounds.specs.Found.{first_missing, is_missing, section_for}
 use Rattle.stats_file_bounds.proofs.Finding.{none_passes}
 use Rattle.stats_file_bounds.proofs.Small.{whole_within}
 use Rattle.stats_file_bounds.proofs.Sums.{contained, sums_are}
-use Rattle.stats_file_bounds.proofs.Telling.{IsThere, is_there, its_filed, its_pairs, place_low, section_is}
-use Rattle.stats_file_bounds.proofs.Under.{joined_has, known_stands}
+use Rattle.stats_file_bounds.proofs.Telling.{IsThere, is_there, section_from_file, its_pairs, place_low, section_is}
+use Rattle.stats_file_bounds.proofs.NeverUnder.{joined_has, known_stands}
 use Rattle.stats_file_bounds.specs.Bounds.{scan_bounds_of_file, set_bounds_of_file}
-use Rattle.stats_file_bounds.proofs.Falling.{filed_fall}
+use Rattle.stats_file_bounds.proofs.Descending.{file_lists_fall}
 use Rattle.stats_file_of_query.specs.Standing.{StandsFor}
 use Rattle.filtered_lists.specs.Standing.{ListsFall, SumTo}
 use Rattle.join_graph.specs.Conjuncts.{equalities_of}
@@ -30,28 +30,28 @@ use Rattle.query_bounds.specs.Bounds.{entry_bounds, scan_rows}
 use Rattle.query_bounds.specs.Statistics.{StandFor, Statistics}
 use Rattle.query_types.specs.Named.{NamesItsEntries}
 use Rattle.query_types.specs.declared.types.Query.{Query}
-use Rattle.set_bounds.specs.AllSets.{bound_told, in_every_set}
+use Rattle.set_bounds.specs.AllSets.{bound_in_128_bits, in_every_set}
 use Rattle.sql_meaning.specs.Tables.{Tables, row_counts}
 use Rattle.stats_file.specs.declared.types.StatsFile.{StatsFile}
 use Rattle.stats_file.specs.declared.types.TableStats.{TableStats}
 use Rattle.table_stats.proofs.ValueNumbers.{have_keys}
 
-module _ (query : Query) (file : StatsFile) (own : NamesItsEntries query) (is : IsFile file) (none : first_missing query file ≡ None) where
+module _ (query : Query) (file : StatsFile) (own : NamesItsEntries query) (is : KeepsRulesOfSome file) (none : first_missing query file ≡ None) where
   abbrev known : Statistics
   known = stats_file_statistics query file
 
   there : (entry : ℕ) → entry < length query.from → IsThere query file entry
   there entry low = is_there query file entry (none_passes (is_missing query file) 0 (length query.from) none entry (omega arith) (omega (arith, low)))
 
-  from_stats_file : (entry : ℕ) → entry < length query.from → IsFromStatsFile (section_for query file entry)
-  from_stats_file entry low = its_filed query file is entry (there entry low)
+  from_stats_file : (entry : ℕ) → entry < length query.from → IsSectionOfSome (section_for query file entry)
+  from_stats_file entry low = section_from_file query file is entry (there entry low)
 
   fall_and_sum : (p : Place) → Contains (places_of (equalities_of query)) p
       → ListsFall (stats_file_lists (section_for query file p.entry) (needs_of query p.entry) p.column)
       × SumTo (stats_file_lists (section_for query file p.entry) (needs_of query p.entry) p.column) (stats_file_counts (section_for query file p.entry) (needs_of query p.entry))
   fall_and_sum p has =
       let low : p.entry < length query.from = place_low query own p has in (
-        filed_fall (section_for query file p.entry) (from_stats_file p.entry low) (needs_of query p.entry) p.column,
+        file_lists_fall (section_for query file p.entry) (from_stats_file p.entry low) (needs_of query p.entry) p.column,
         sums_are (section_for query file p.entry) (from_stats_file p.entry low) (needs_of query p.entry) (its_pairs query file is p.entry (there p.entry low)) p.column
             (contained (needs_of query p.entry) p.column (joined_has (equalities_of query) p has)),
       )
@@ -102,4 +102,4 @@ one_scan query file = length-map-range_with_len (scan_rows query (stats_file_sta
 
 pub all_sets : (query : Query) (file : StatsFile) → length (set_bounds_of_file query file) ≡ 2 ^ length query.from
 all_sets query file =
-    length-map-range_with_len (λ subset. bound_told (entry_bounds query (stats_file_statistics query file)) (equalities_of query) subset) 0 (2 ^ length query.from)
+    length-map-range_with_len (λ subset. bound_in_128_bits (entry_bounds query (stats_file_statistics query file)) (equalities_of query) subset) 0 (2 ^ length query.from)

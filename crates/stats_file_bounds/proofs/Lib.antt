@@ -5,8 +5,8 @@ pub mod Finding
 pub mod Small
 pub mod Sums
 pub mod Telling
-pub mod Under
+pub mod NeverUnder
 pub mod EntryFacts
-pub mod Falling
+pub mod Descending
 pub mod FromFiles
 mod SmallPlans

@@ -13,22 +13,22 @@ use Rattle.column_stats.specs.Nodes.{node_place}
 use Rattle.filtered_lists.specs.Ranges as ranges
 use Rattle.predicate_bounds.specs.declared.steps.Step.{Step}
 use Rattle.predicate_bounds.specs.declared.steps.Step.TheVariants as step
-use Rattle.predicate_bounds.specs.ListRuns.{is_small, listed}
+use Rattle.predicate_bounds.specs.ListRuns.{is_small, with_list}
 use Rattle.predicate_bounds.specs.Steps.{range_of, value_of}
 use Rattle.schema_types.specs.declared.types.Kind.{Kind}
 use Rattle.stats_file.specs.declared.types.Datum.{Datum}
-use Rattle.stats_file.specs.declared.types.Pair.{Pair}
+use Rattle.stats_file.specs.declared.types.PairStats.{PairStats}
 use Rattle.stats_file.specs.declared.types.StatsFile.{StatsFile}
 use Rattle.stats_file.specs.declared.types.TableStats.{TableStats}
 use Rattle.stats_file.specs.Rules.{IsList, IsPair, IsHistogramOf}
 use Rattle.stats_file_of_query.specs.declared.needs.Needs.{Needs}
 use Rattle.stats_file_of_query.specs.Standing.{is_value, leaf_of_value, list_between, list_of_node, list_of_value}
-use Rattle.stats_file_bounds.specs.Entries.{IsFile, IsFromStatsFile}
-use Rattle.stats_file_bounds.specs.FileStatistics.{stats_file_lists, of_one_key, joined_column_for, whole_by, whole_list}
+use Rattle.stats_file_bounds.specs.Entries.{KeepsRulesOfSome, IsSectionOfSome}
+use Rattle.stats_file_bounds.specs.FileStatistics.{stats_file_lists, list_of_one_key, paired_with, whole_by, whole_list}
 use Rattle.stats_file_bounds.specs.Found.{no_pair, pair_for}
 use Rattle.stats_file_bounds.proofs.Finding.{each_pair}
 
-pub record IsWithin (rows : ℕ) (pair : Pair) : Type 0 where
+pub record IsWithin (rows : ℕ) (pair : PairStats) : Type 0 where
   pub whole : sum pair.whole ≤ rows
   pub value : (value : Value) → sum (list_of_value pair value) ≤ rows
   pub node : (size leaf : ℕ) → sum (list_of_node pair size leaf) ≤ rows
@@ -58,10 +58,10 @@ cuts_few : (kind : Kind) (rows : ℕ) (cuts : List Datum) (nodes : List (List �
 cuts_few kind zero cuts nodes is = omega (arith, ap (λ (s : List Datum). length s) is.0)
 cuts_few kind (suc n) cuts nodes is = omega (arith, is.leaves)
 
-pub pair_within : (section : TableStats) → IsFromStatsFile section → All (IsWithin section.rows) section.pairs
+pub pair_within : (section : TableStats) → IsSectionOfSome section → All (IsWithin section.rows) section.pairs
 pair_within section from_stats_file i d low =
     let p : IsPair from_stats_file.is.table section.rows (get_or section.pairs i d) = from_stats_file.is.pairs i d low in
-    let pair : Pair = get_or section.pairs i d in
+    let pair : PairStats = get_or section.pairs i d in
     record {
       whole = p.whole.within;
       value = λ value. value_within section.rows value pair.frequent pair.rest (recursion_from_All (λ (f : Datum × List ℕ). IsList section.rows f.1) pair.frequent p.frequent.lists) p.rest;
@@ -72,42 +72,42 @@ pair_within section from_stats_file i d low =
 none_within : (rows : ℕ) → IsWithin rows no_pair
 none_within rows = record { whole = omega arith; value = λ value. omega arith; node = λ size leaf. omega arith; cuts = omega arith }
 
-pub its_within : (section : TableStats) → IsFromStatsFile section → (filter joined : ℕ) → IsWithin section.rows (pair_for section filter joined)
+pub its_within : (section : TableStats) → IsSectionOfSome section → (filter joined : ℕ) → IsWithin section.rows (pair_for section filter joined)
 its_within section from_stats_file filter joined = each_pair (IsWithin section.rows) section (pair_within section from_stats_file) (none_within section.rows) filter joined
 
 -- ---- the lists of an entry
 
-one_key_within : (rows : ℕ) → sum (of_one_key rows) ≤ rows
+one_key_within : (rows : ℕ) → sum (list_of_one_key rows) ≤ rows
 one_key_within rows = cond_both (eqb rows 0) [] (rows ∷ []) (λ s. sum s ≤ rows) (λ e. omega arith) (λ e. omega arith)
 
-pub whole_within : (section : TableStats) → IsFromStatsFile section → (needs : Needs) (joined : ℕ) → sum (whole_list section needs joined) ≤ section.rows
+pub whole_within : (section : TableStats) → IsSectionOfSome section → (needs : Needs) (joined : ℕ) → sum (whole_list section needs joined) ≤ section.rows
 whole_within section from_stats_file needs joined = by needs.filters
   where
     by : (filters : List ℕ) → sum (whole_by section needs filters joined) ≤ section.rows
-    by [] = cond_both (eqb (length needs.joined) 0) (of_one_key section.rows) (pair_for section joined joined).whole (λ s. sum s ≤ section.rows)
+    by [] = cond_both (eqb (length needs.joined) 0) (list_of_one_key section.rows) (pair_for section joined joined).whole (λ s. sum s ≤ section.rows)
         (λ e. one_key_within section.rows) (λ e. (its_within section from_stats_file joined joined).whole)
-    by (column ∷ columns) = (its_within section from_stats_file column (joined_column_for needs joined column)).whole
+    by (column ∷ columns) = (its_within section from_stats_file column (paired_with needs joined column)).whole
 
-few : (section : TableStats) → IsFromStatsFile section → (s : List ℕ) → sum s ≤ section.rows → IsTrue (leb (sum s) (2 ^ 32))
+few : (section : TableStats) → IsSectionOfSome section → (s : List ℕ) → sum s ≤ section.rows → IsTrue (leb (sum s) (2 ^ 32))
 few section from_stats_file s within = le-leb (sum s) (2 ^ 32) (omega (arith, within, from_stats_file.is.rows))
 
-pub step_small : (section : TableStats) → IsFromStatsFile section → (needs : Needs) (joined : ℕ) (s : Step) → IsTrue (is_small (listed (stats_file_lists section needs joined) s))
+pub step_small : (section : TableStats) → IsSectionOfSome section → (needs : Needs) (joined : ℕ) (s : Step) → IsTrue (is_small (with_list (stats_file_lists section needs joined) s))
 step_small section from_stats_file needs joined step.Whole = few section from_stats_file (whole_list section needs joined) (whole_within section from_stats_file needs joined)
 step_small section from_stats_file needs joined (step.Equal column literal) =
     few section from_stats_file ((stats_file_lists section needs joined).equal column (value_of literal))
-    (cond_both (list_any (λ other. eqb column other) needs.filters) (list_of_value (pair_for section column (joined_column_for needs joined column)) (value_of literal)) (whole_list section needs joined)
-    (λ s. sum s ≤ section.rows) (λ e. (its_within section from_stats_file column (joined_column_for needs joined column)).value (value_of literal)) (λ e. whole_within section from_stats_file needs joined))
+    (cond_both (list_any (λ other. eqb column other) needs.filters) (list_of_value (pair_for section column (paired_with needs joined column)) (value_of literal)) (whole_list section needs joined)
+    (λ s. sum s ≤ section.rows) (λ e. (its_within section from_stats_file column (paired_with needs joined column)).value (value_of literal)) (λ e. whole_within section from_stats_file needs joined))
 step_small section from_stats_file needs joined (step.Within range) =
     let r : ranges.Range = range_of range in
-    let pair : Pair = pair_for section r.column (joined_column_for needs joined r.column) in
+    let pair : PairStats = pair_for section r.column (paired_with needs joined r.column) in
     let first : ℕ = unwrap_or (option_map (leaf_of_value pair) r.low) 0 in
     let last : ℕ = unwrap_or (option_map (leaf_of_value pair) r.high) 31 in
     few section from_stats_file ((stats_file_lists section needs joined).range r)
     (cond_both (list_any (λ other. eqb r.column other) needs.filters) (list_between pair r.low r.high) (whole_list section needs joined) (λ s. sum s ≤ section.rows)
-    (λ e. (its_within section from_stats_file r.column (joined_column_for needs joined r.column)).node (node_size first last) first) (λ e. whole_within section from_stats_file needs joined))
+    (λ e. (its_within section from_stats_file r.column (paired_with needs joined r.column)).node (node_size first last) first) (λ e. whole_within section from_stats_file needs joined))
 step_small section from_stats_file needs joined step.And = refl
 step_small section from_stats_file needs joined step.Nothing = refl
 step_small section from_stats_file needs joined step.Or = refl
 
-pub section_filed : (file : StatsFile) → IsFile file → All IsFromStatsFile file.tables
+pub section_filed : (file : StatsFile) → KeepsRulesOfSome file → All IsSectionOfSome file.tables
 section_filed file is i d low = record { schema = is.schema; is = is.keeps.tables i d low }

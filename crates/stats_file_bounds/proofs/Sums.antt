@@ -12,7 +12,7 @@ use Rattle.entry_sets.proofs.Listing.{in_front, one_in}
 use Rattle.filtered_lists.specs.Standing.{SumTo}
 use Rattle.level_bounds.proofs.Lists.{all_true, in_map, true_in}
 use Rattle.stats_file.specs.declared.types.Datum.{Datum}
-use Rattle.stats_file.specs.declared.types.Pair.{Pair}
+use Rattle.stats_file.specs.declared.types.PairStats.{PairStats}
 use Rattle.stats_file.specs.declared.types.TableStats.{TableStats}
 use Rattle.stats_file.specs.Rules.{Agree, HaveSameFilterCounts}
 use Rattle.stats_file_of_query.specs.declared.needs.Needs.{Needs}
@@ -20,8 +20,8 @@ use Rattle.stats_file_of_query.specs.declared.column_pairs.ColumnPair.{ColumnPai
 use Rattle.stats_file_of_query.specs.Needs.{pairs_of}
 use Rattle.stats_file_of_query.specs.ColumnPairs.{column_pair, of_itself, pairs_between, with_each}
 use Rattle.stats_file_of_query.specs.Standing.{is_value, leaf_of_value, list_between, list_of_node, list_of_value}
-use Rattle.stats_file_bounds.specs.Entries.{IsFromStatsFile}
-use Rattle.stats_file_bounds.specs.FileStatistics.{stats_file_counts, stats_file_lists, of_one_key, joined_column_for, whole_by, whole_list}
+use Rattle.stats_file_bounds.specs.Entries.{IsSectionOfSome}
+use Rattle.stats_file_bounds.specs.FileStatistics.{stats_file_counts, stats_file_lists, list_of_one_key, paired_with, whole_by, whole_list}
 use Rattle.stats_file_bounds.specs.Found.{are_columns, has_pair, no_pair, pair_for, pair_in}
 
 -- ---- the position of the element that `find` finds
@@ -36,7 +36,7 @@ found_at p (y ∷ xs) x e = elim (cases_Bool (p y)) [
 
 -- ---- pairs whose lists have equal sums
 
-pub record HaveSums (a b : Pair) : Type 0 where
+pub record HaveSums (a b : PairStats) : Type 0 where
   pub value : (value : Value) → sum (list_of_value a value) ≡ sum (list_of_value b value)
   pub between : (low high : Option Value) → sum (list_between a low high) ≡ sum (list_between b low high)
 
@@ -67,15 +67,15 @@ same_at (s ∷ a) (t ∷ b) same (suc i) = let rest : map sum a ≡ map sum b = 
 leaf_by : List Datum → Value → ℕ
 leaf_by cuts value = leaf_of_value (record no_pair { cuts = cuts }) value
 
-same_leaf : (a b : Pair) → a.cuts ≡ b.cuts → (value : Value) → leaf_of_value a value ≡ leaf_of_value b value
+same_leaf : (a b : PairStats) → a.cuts ≡ b.cuts → (value : Value) → leaf_of_value a value ≡ leaf_of_value b value
 unfolding leaf_by
 same_leaf a b same value = ap (λ (cuts : List Datum). leaf_by cuts value) same
 
-same_end : (a b : Pair) → a.cuts ≡ b.cuts → (end : Option Value) → option_map (leaf_of_value a) end ≡ option_map (leaf_of_value b) end
+same_end : (a b : PairStats) → a.cuts ≡ b.cuts → (end : Option Value) → option_map (leaf_of_value a) end ≡ option_map (leaf_of_value b) end
 same_end a b same None = refl
 same_end a b same (Some value) = ap Some (same_leaf a b same value)
 
-pub count_sums : (a b : Pair) → HaveSameFilterCounts a b → HaveSums a b
+pub count_sums : (a b : PairStats) → HaveSameFilterCounts a b → HaveSums a b
 count_sums a b same = record {
   value = λ value. same_value value a.frequent b.frequent a.rest b.rest same.values same.totals same.rest;
   between = λ low high.
@@ -86,36 +86,36 @@ count_sums a b same = record {
       ∙ ap (λ (o : Option ℕ). sum (list_of_node b (node_size (unwrap_or (option_map (leaf_of_value b) low) 0) (unwrap_or o 31)) (unwrap_or (option_map (leaf_of_value b) low) 0))) (same_end a b same.cuts high);
 }
 
-turned : (a b : Pair) → HaveSums a b → HaveSums b a
-turned a b same = record { value = λ value. sym (same.value value); between = λ low high. sym (same.between low high) }
+same_sums_back : (a b : PairStats) → HaveSums a b → HaveSums b a
+same_sums_back a b same = record { value = λ value. sym (same.value value); between = λ low high. sym (same.between low high) }
 
-itself : (a b : Pair) → a ≡ b → HaveSums a b
-itself a b same = subst (λ (p : Pair). HaveSums a p) same (record { value = λ value. refl; between = λ low high. refl })
+same_pair : (a b : PairStats) → a ≡ b → HaveSums a b
+same_pair a b same = subst (λ (p : PairStats). HaveSums a p) same (record { value = λ value. refl; between = λ low high. refl })
 
-module _ (section : TableStats) (from_stats_file : IsFromStatsFile section) where
-  pub found_sums : (filter one other : ℕ) (a b : Pair) → pair_in section filter one ≡ Some a → pair_in section filter other ≡ Some b → HaveSums a b
+module _ (section : TableStats) (from_stats_file : IsSectionOfSome section) where
+  pub found_sums : (filter one other : ℕ) (a b : PairStats) → pair_in section filter one ≡ Some a → pair_in section filter other ≡ Some b → HaveSums a b
   found_sums filter one other a b here there =
       let at = found_at (are_columns filter one) section.pairs a here in
       let to = found_at (are_columns filter other) section.pairs b there in
       let a_filter : a.filter ≡ filter = filter_is filter one a at.3 in
       let b_filter : b.filter ≡ filter = filter_is filter other b to.3 in
       elim (cases_lt at.0 to.0) [
-        | inl before ↦ (let agree : Agree a b = subst (λ (p : Pair). Agree a p) (to.2 no_pair) (subst (λ (p : Pair). Agree p (get_or section.pairs to.0 no_pair)) (at.2 no_pair) (from_stats_file.is.agree at.0 to.0 no_pair before to.1)) in
+        | inl before ↦ (let agree : Agree a b = subst (λ (p : PairStats). Agree a p) (to.2 no_pair) (subst (λ (p : PairStats). Agree p (get_or section.pairs to.0 no_pair)) (at.2 no_pair) (from_stats_file.is.agree at.0 to.0 no_pair before to.1)) in
             count_sums a b (agree.filter (a_filter ∙ sym b_filter)))
         | inr not_before ↦ elim (cases_eq at.0 to.0) [
-          | inl same ↦ itself a b (sym (at.2 no_pair) ∙ ap (λ (i : ℕ). get_or section.pairs i no_pair) same ∙ to.2 no_pair)
-          | inr apart ↦ (let agree : Agree b a = subst (λ (p : Pair). Agree b p) (at.2 no_pair) (subst (λ (p : Pair). Agree p (get_or section.pairs at.0 no_pair)) (to.2 no_pair) (from_stats_file.is.agree to.0 at.0 no_pair (omega (arith, not_before, apart)) at.1)) in
-              turned b a (count_sums b a (agree.filter (b_filter ∙ sym a_filter))))
+          | inl same ↦ same_pair a b (sym (at.2 no_pair) ∙ ap (λ (i : ℕ). get_or section.pairs i no_pair) same ∙ to.2 no_pair)
+          | inr apart ↦ (let agree : Agree b a = subst (λ (p : PairStats). Agree b p) (at.2 no_pair) (subst (λ (p : PairStats). Agree p (get_or section.pairs at.0 no_pair)) (to.2 no_pair) (from_stats_file.is.agree to.0 at.0 no_pair (omega (arith, not_before, apart)) at.1)) in
+              same_sums_back b a (count_sums b a (agree.filter (b_filter ∙ sym a_filter))))
         ]
       ]
     where
-      filter_is : (filter joined : ℕ) (p : Pair) → are_columns filter joined p ≡ true → p.filter ≡ filter
+      filter_is : (filter joined : ℕ) (p : PairStats) → are_columns filter joined p ≡ true → p.filter ≡ filter
       filter_is filter joined p h = eqb-true p.filter filter (and_parts (eqb p.filter filter) (eqb p.joined joined) h).0
 
-  pub found_whole : (filter joined : ℕ) (p : Pair) → pair_in section filter joined ≡ Some p → sum p.whole ≡ section.rows
+  pub found_whole : (filter joined : ℕ) (p : PairStats) → pair_in section filter joined ≡ Some p → sum p.whole ≡ section.rows
   found_whole filter joined p here =
       let at = found_at (are_columns filter joined) section.pairs p here in
-      subst (λ (q : Pair). sum q.whole ≡ section.rows) (at.2 no_pair) (from_stats_file.is.pairs at.0 no_pair at.1).all_rows
+      subst (λ (q : PairStats). sum q.whole ≡ section.rows) (at.2 no_pair) (from_stats_file.is.pairs at.0 no_pair at.1).all_rows
 
 -- ---- needed pairs
 
@@ -154,24 +154,24 @@ filter_needed (f ∷ filters) (j ∷ joins) filter joined has (inr also) =
 pub joined_needed : (joins : List ℕ) (joined : ℕ) → Contains joins joined → Contains (pairs_between [] joins) (column_pair joined joined)
 joined_needed joins joined has = in_map of_itself joins joined has
 
-there : (o : Option Pair) → is_some o ≡ true → (p : Pair) × (o ≡ Some p)
+there : (o : Option PairStats) → is_some o ≡ true → (p : PairStats) × (o ≡ Some p)
 there None h = absurd (cc)
 there (Some p) h = (p, refl)
 
-module _ (section : TableStats) (from_stats_file : IsFromStatsFile section) (needs : Needs) (all : list_all (has_pair section) (pairs_of needs) ≡ true) where
-  pub pair_found : (filter joined : ℕ) → Contains (pairs_of needs) (column_pair filter joined) → (p : Pair) × (pair_in section filter joined ≡ Some p)
+module _ (section : TableStats) (from_stats_file : IsSectionOfSome section) (needs : Needs) (all : list_all (has_pair section) (pairs_of needs) ≡ true) where
+  pub pair_found : (filter joined : ℕ) → Contains (pairs_of needs) (column_pair filter joined) → (p : PairStats) × (pair_in section filter joined ≡ Some p)
   pair_found filter joined has = there (pair_in section filter joined) (all_true (has_pair section) (pairs_of needs) all (column_pair filter joined) has)
 
-  pub partner_found : (filter joined : ℕ) → Contains needs.filters filter → IsJoined needs joined → (p : Pair) × (pair_in section filter (joined_column_for needs joined filter) ≡ Some p)
+  pub partner_found : (filter joined : ℕ) → Contains needs.filters filter → IsJoined needs joined → (p : PairStats) × (pair_in section filter (paired_with needs joined filter) ≡ Some p)
   unfolding IsJoined
-  partner_found filter joined has joins = pair_found filter (joined_column_for needs joined filter) (filter_needed needs.filters needs.joined filter joined has joins)
+  partner_found filter joined has joins = pair_found filter (paired_with needs joined filter) (filter_needed needs.filters needs.joined filter joined has joins)
 
-  pub its : (filter joined : ℕ) (p : Pair) → pair_in section filter joined ≡ Some p → pair_for section filter joined ≡ p
-  its filter joined p is = ap (λ (o : Option Pair). unwrap_or o no_pair) is
+  pub its : (filter joined : ℕ) (p : PairStats) → pair_in section filter joined ≡ Some p → pair_for section filter joined ≡ p
+  its filter joined p is = ap (λ (o : Option PairStats). unwrap_or o no_pair) is
 
   -- ---- the sums
 
-  one_key : (rows : ℕ) → sum (of_one_key rows) ≡ rows
+  one_key : (rows : ℕ) → sum (list_of_one_key rows) ≡ rows
   one_key rows = elim (cases_Bool (eqb rows 0)) [
     | inl t ↦ rw t (sym (eqb-true rows 0 t))
     | inr n ↦ rw n (omega arith)
@@ -191,20 +191,20 @@ module _ (section : TableStats) (from_stats_file : IsFromStatsFile section) (nee
         | inl t ↦ rw t (one_key section.rows)
         | inr n ↦ (let has : Contains needs.joined joined = none_joined needs.joined n joins in
             let found = pair_found joined joined (subst (λ (f : List ℕ). Contains (pairs_between f needs.joined) (column_pair joined joined)) (sym is) (joined_needed needs.joined joined has)) in
-            rw n (ap (λ (p : Pair). sum p.whole) (its joined joined found.0 found.1) ∙ found_whole section from_stats_file joined joined found.0 found.1))
+            rw n (ap (λ (p : PairStats). sum p.whole) (its joined joined found.0 found.1) ∙ found_whole section from_stats_file joined joined found.0 found.1))
       ]
       by (column ∷ columns) is =
           let found = partner_found column joined (subst (λ (f : List ℕ). Contains f column) (sym is) (in_front column columns column refl)) joins in
-          ap (λ (p : Pair). sum p.whole) (its column (joined_column_for needs joined column) found.0 found.1) ∙ found_whole section from_stats_file column (joined_column_for needs joined column) found.0 found.1
+          ap (λ (p : PairStats). sum p.whole) (its column (paired_with needs joined column) found.0 found.1) ∙ found_whole section from_stats_file column (paired_with needs joined column) found.0 found.1
 
   partners_sum : (filter one other : ℕ) → Contains needs.filters filter → IsJoined needs one → IsJoined needs other
-      → HaveSums (pair_for section filter (joined_column_for needs one filter)) (pair_for section filter (joined_column_for needs other filter))
+      → HaveSums (pair_for section filter (paired_with needs one filter)) (pair_for section filter (paired_with needs other filter))
   partners_sum filter one other has joins also =
       let here = partner_found filter one has joins in
       let there = partner_found filter other has also in
-      subst (λ (p : Pair). HaveSums p (pair_for section filter (joined_column_for needs other filter))) (sym (its filter (joined_column_for needs one filter) here.0 here.1))
-      (subst (HaveSums here.0) (sym (its filter (joined_column_for needs other filter) there.0 there.1))
-      (found_sums section from_stats_file filter (joined_column_for needs one filter) (joined_column_for needs other filter) here.0 there.0 here.1 there.1))
+      subst (λ (p : PairStats). HaveSums p (pair_for section filter (paired_with needs other filter))) (sym (its filter (paired_with needs one filter) here.0 here.1))
+      (subst (HaveSums here.0) (sym (its filter (paired_with needs other filter) there.0 there.1))
+      (found_sums section from_stats_file filter (paired_with needs one filter) (paired_with needs other filter) here.0 there.0 here.1 there.1))
 
   pub sums_are : (joined : ℕ) → IsJoined needs joined → SumTo (stats_file_lists section needs joined) (stats_file_counts section needs)
   sums_are joined joins =

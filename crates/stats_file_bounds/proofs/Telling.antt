@@ -19,8 +19,8 @@ use Rattle.predicate_bounds.specs.declared.columns.ColumnSteps.{ColumnSteps}
 use Rattle.predicate_bounds.specs.declared.columns.EntryStats.{EntryStats}
 use Rattle.predicate_bounds.specs.declared.columns.QueryStats.{QueryStats}
 use Rattle.predicate_bounds.specs.Steps.{steps_of}
-use Rattle.predicate_bounds.specs.Told.{asked_lists, columns_of, no_columns}
-use Rattle.query_bounds.specs.Statistics.{Tells, TellsColumn, TellsEntry}
+use Rattle.predicate_bounds.specs.StatsLists.{steps_with_lists, columns_of, no_columns}
+use Rattle.query_bounds.specs.Statistics.{Tells, TellsColumn, TellsRowBound}
 use Rattle.query_types.specs.declared.types.Cond.{Cond}
 use Rattle.query_types.specs.declared.types.Query.{Query}
 use Rattle.query_types.specs.Named.{NamesItsEntries, entries_named}
@@ -28,7 +28,7 @@ use Rattle.stats_file.specs.declared.types.StatsFile.{StatsFile}
 use Rattle.stats_file.specs.declared.types.TableStats.{TableStats}
 use Rattle.stats_file_of_query.specs.Needs.{needed, needs_of, pairs_of, table_of}
 use Rattle.stats_file_of_query.specs.Standing.{section_of}
-use Rattle.stats_file_bounds.specs.Entries.{AreStepsFromStatsFile, IsFile, IsFromStatsFile, EntryIsTold}
+use Rattle.stats_file_bounds.specs.Entries.{AreStepsFromStatsFile, KeepsRulesOfSome, IsSectionOfSome, HasStatsFromFile}
 use Rattle.stats_file_bounds.specs.FileStatistics.{stats_file_lists, stats_file_statistics}
 use Rattle.stats_file_bounds.specs.Found.{has_all, has_pair, is_missing, no_section, section_for}
 use Rattle.stats_file_bounds.proofs.Finding.{found_one as found_holds}
@@ -96,11 +96,11 @@ module _ (query : Query) (file : StatsFile) where
   pub section_is : (entry : ℕ) (t : IsThere entry) → section_for query file entry ≡ t.section
   section_is entry t = ap (λ (o : Option TableStats). unwrap_or o no_section) t.is
 
-  module _ (is : IsFile file) where
-    pub its_filed : (entry : ℕ) → IsThere entry → IsFromStatsFile (section_for query file entry)
-    its_filed entry t =
-        subst IsFromStatsFile (sym (section_is entry t))
-        (found_holds IsFromStatsFile (λ (s : TableStats). s.table == table_of query entry) file.tables t.section (recursion_from_All IsFromStatsFile file.tables (section_filed file is)) t.is)
+  module _ (is : KeepsRulesOfSome file) where
+    pub section_from_file : (entry : ℕ) → IsThere entry → IsSectionOfSome (section_for query file entry)
+    section_from_file entry t =
+        subst IsSectionOfSome (sym (section_is entry t))
+        (found_holds IsSectionOfSome (λ (s : TableStats). s.table == table_of query entry) file.tables t.section (recursion_from_All IsSectionOfSome file.tables (section_filed file is)) t.is)
 
     pub its_pairs : (entry : ℕ) (t : IsThere entry) → list_all (has_pair (section_for query file entry)) (pairs_of (needs_of query entry)) ≡ true
     its_pairs entry t = ap (λ (s : TableStats). list_all (has_pair s) (needed query entry)) (section_is entry t) ∙ t.all
@@ -114,16 +114,16 @@ module _ (query : Query) (file : StatsFile) where
         by [] is has = inl is
         by (c ∷ joined) is has = inr (subst (λ (s : List ℕ). Contains s column) (sym is) has)
 
-    module _ (own : NamesItsEntries query) (stats : QueryStats) (told : (entry : ℕ) → entry < length query.from → EntryIsTold query file entry (get_or stats.entries entry no_columns))
+    module _ (own : NamesItsEntries query) (stats : QueryStats) (told : (entry : ℕ) → entry < length query.from → HasStatsFromFile query file entry (get_or stats.entries entry no_columns))
         (none_missing : (entry : ℕ) → entry < length query.from → is_missing query file entry ≡ false) where
       abbrev section : ℕ → TableStats
       section entry = section_for query file entry
 
-      tells_entry : (entry : ℕ) → entry < length query.from → TellsEntry query stats (stats_file_statistics query file) entry
+      tells_entry : (entry : ℕ) → entry < length query.from → TellsRowBound query stats (stats_file_statistics query file) entry
       tells_entry entry low =
-          let here : EntryIsTold query file entry (get_or stats.entries entry no_columns) = told entry low in
+          let here : HasStatsFromFile query file entry (get_or stats.entries entry no_columns) = told entry low in
           let t : IsThere entry = is_there entry (none_missing entry low) in
-          let from_stats_file : IsFromStatsFile (section entry) = its_filed entry t in
+          let from_stats_file : IsSectionOfSome (section entry) = section_from_file entry t in
           let columns : List ColumnSteps = columns_of stats entry in
           let some : 0 < length columns = omega (arith, some_asked entry (equalities_of query), ap (λ (s : List ℕ). length s) here.columns, length-map columns (λ (g : ColumnSteps). g.column)) in
           let first = first_one (AreStepsFromStatsFile (section entry) (needs_of query entry) (steps_of entry query.conjuncts)) columns some here.steps in
@@ -138,15 +138,15 @@ module _ (query : Query) (file : StatsFile) where
       tells_column : (p : Place) → Contains (places_of (equalities_of query)) p → TellsColumn query stats (stats_file_statistics query file) p.entry p.column
       tells_column p has =
           let low : p.entry < length query.from = place_low query own p has in
-          let here : EntryIsTold query file p.entry (get_or stats.entries p.entry no_columns) = told p.entry low in
+          let here : HasStatsFromFile query file p.entry (get_or stats.entries p.entry no_columns) = told p.entry low in
           let t : IsThere p.entry = is_there p.entry (none_missing p.entry low) in
           let asked : Contains (asked_columns p.entry (equalities_of query)) p.column = place_asked (equalities_of query) p has in
           let one = found_one (AreStepsFromStatsFile (section p.entry) (needs_of query p.entry) (steps_of p.entry query.conjuncts)) (columns_of stats p.entry) p.column
           (subst (λ (s : List ℕ). Contains s p.column) (sym here.columns) asked) here.steps in
           record {
             lists = ap (option_map (λ (g : ColumnSteps). g.steps)) one.1
-                ∙ ap Some (one.3 ∙ ap (λ (c : ℕ). asked_lists query p.entry (stats_file_lists (section p.entry) (needs_of query p.entry) c)) one.2);
-            sums = sums_are (section p.entry) (its_filed p.entry t) (needs_of query p.entry) (its_pairs p.entry t) p.column (asked_joined p.entry p.column asked);
+                ∙ ap Some (one.3 ∙ ap (λ (c : ℕ). steps_with_lists query p.entry (stats_file_lists (section p.entry) (needs_of query p.entry) c)) one.2);
+            sums = sums_are (section p.entry) (section_from_file p.entry t) (needs_of query p.entry) (its_pairs p.entry t) p.column (asked_joined p.entry p.column asked);
           }
 
       pub all_told : length stats.entries ≡ length query.from → Tells query stats (stats_file_statistics query file)

@@ -5,7 +5,7 @@ use Rattle.join_graph.specs.Conjuncts.{equalities_of}
 use Rattle.predicate_bounds.specs.declared.columns.ColumnSteps.{ColumnSteps}
 use Rattle.predicate_bounds.specs.declared.columns.EntryStats.{EntryStats}
 use Rattle.predicate_bounds.specs.declared.steps.Step.{Step}
-use Rattle.predicate_bounds.specs.ListRuns.{listed}
+use Rattle.predicate_bounds.specs.ListRuns.{with_list}
 use Rattle.predicate_bounds.specs.Steps.{steps_of}
 use Rattle.query_types.specs.declared.types.Query.{Query}
 use Rattle.schema_types.specs.declared.types.Schema.{Schema}
@@ -21,25 +21,25 @@ use Rattle.stats_file_bounds.specs.FileStatistics.{stats_file_lists, is_filter}
 use Rattle.stats_file_bounds.specs.Found.{first_missing, is_missing, section_for}
 
 -- the file keeps the rules of files, for some schema
-pub record IsFile (file : StatsFile) : Type 0 where
+pub record KeepsRulesOfSome (file : StatsFile) : Type 0 where
   pub schema : Schema
   pub keeps : KeepsRules schema file
 
 -- the section keeps the rules of sections, for some schema
-pub record IsFromStatsFile (section : TableStats) : Type 0 where
+pub record IsSectionOfSome (section : TableStats) : Type 0 where
   pub schema : Schema
   pub is : IsSection schema section
 
 -- the column that a step compares with literals, if it does, is a filter column. A step is an operation over a stack of answers (predicate_bounds)
-abbrev pub AsksAmong : Needs → Step → Type 0
-AsksAmong needs step = IfSome (column_asked step) (λ column. IsTrue (is_filter needs column))
+abbrev pub AsksForFilterColumn : Needs → Step → Type 0
+AsksForFilterColumn needs step = IfSome (column_asked step) (λ column. IsTrue (is_filter needs column))
 
 -- the steps of a joined column, each with its list from the file
 abbrev pub AreStepsFromStatsFile : TableStats → Needs → List Step → ColumnSteps → Type 0
-AreStepsFromStatsFile section needs steps gathered = gathered.steps ≡ map (listed (stats_file_lists section needs gathered.column)) steps
+AreStepsFromStatsFile section needs steps gathered = gathered.steps ≡ map (with_list (stats_file_lists section needs gathered.column)) steps
 
 -- an entry has the steps of its own conjuncts for each of its `asked_columns`
-pub record EntryIsTold (query : Query) (file : StatsFile) (entry : ℕ) (stats : EntryStats) : Type 0 where
+pub record HasStatsFromFile (query : Query) (file : StatsFile) (entry : ℕ) (stats : EntryStats) : Type 0 where
   pub columns : map (λ gathered. gathered.column) stats.columns ≡ asked_columns entry (equalities_of query)
   pub steps : All (AreStepsFromStatsFile (section_for query file entry) (needs_of query entry) (steps_of entry query.conjuncts)) stats.columns
 

@@ -1,16 +1,16 @@
 -- Files of worked examples.
 use Rattle.std.specs.Prelude.{ℕ, List, [], ◌∷◌, pos}
 use Rattle.stats_file.specs.declared.types.Datum.TheVariants as datum
-use Rattle.stats_file.specs.declared.types.Pair.{Pair}
+use Rattle.stats_file.specs.declared.types.PairStats.{PairStats}
 use Rattle.stats_file.specs.declared.types.StatsFile.{StatsFile}
 use Rattle.stats_file.specs.declared.types.TableStats.{TableStats}
 
 -- the pair of column 0 with itself. The list of all rows is `whole`, and there are no ranges
-abbrev pub itself : List ℕ → Pair
+abbrev pub itself : List ℕ → PairStats
 itself whole = record { filter = 0; joined = 0; whole = whole; frequent = []; rest = []; cuts = []; nodes = [] }
 
 -- four rows of the values 1, 2, 3 and 99, of which 99 isn't frequent
-abbrev pub grown : Pair
+abbrev pub grown : PairStats
 grown = record {
   filter = 0;
   joined = 0;
@@ -21,7 +21,7 @@ grown = record {
   nodes = [];
 }
 
-abbrev pub section : ℕ → ℕ → Pair → TableStats
+abbrev pub section : ℕ → ℕ → PairStats → TableStats
 section table rows pair = record { table = table; rows = rows; pairs = pair ∷ [] }
 
 -- a file of one table, and a file of two tables

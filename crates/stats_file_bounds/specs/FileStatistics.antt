@@ -14,18 +14,18 @@ use Rattle.stats_file_bounds.specs.Found.{pair_for, section_for}
 -- ---- lists
 
 -- the column that a filter column is paired with: the joined column, or the filter column itself if the entry joins no column
-abbrev pub joined_column_for : Needs → ℕ → ℕ → ℕ
-joined_column_for needs joined column = if length needs.joined == 0 then column else joined
+abbrev pub paired_with : Needs → ℕ → ℕ → ℕ
+paired_with needs joined column = if length needs.joined == 0 then column else joined
 
 -- the list of rows that all have the same key
-abbrev pub of_one_key : ℕ → List ℕ
-of_one_key rows = if rows == 0 then [] else (rows ∷ [])
+abbrev pub list_of_one_key : ℕ → List ℕ
+list_of_one_key rows = if rows == 0 then [] else (rows ∷ [])
 
 -- the list of all rows. It is taken from the pair of the first filter column. Without filter columns it is taken from the pair of the joined column with
 -- itself. If an entry needs no pair, all rows have one key
 abbrev pub whole_by : TableStats → Needs → List ℕ → ℕ → List ℕ
-whole_by section needs [] joined = if length needs.joined == 0 then of_one_key section.rows else (pair_for section joined joined).whole
-whole_by section needs (column ∷ columns) joined = (pair_for section column (joined_column_for needs joined column)).whole
+whole_by section needs [] joined = if length needs.joined == 0 then list_of_one_key section.rows else (pair_for section joined joined).whole
+whole_by section needs (column ∷ columns) joined = (pair_for section column (paired_with needs joined column)).whole
 
 abbrev pub whole_list : TableStats → Needs → ℕ → List ℕ
 whole_list section needs joined = whole_by section needs needs.filters joined
@@ -37,9 +37,9 @@ is_filter needs column = list_any (λ other. column == other) needs.filters
 abbrev pub stats_file_lists : TableStats → Needs → ℕ → ColumnLists
 stats_file_lists section needs joined = record {
   whole = whole_list section needs joined;
-  equal = λ column value. if is_filter needs column then list_of_value (pair_for section column (joined_column_for needs joined column)) value
+  equal = λ column value. if is_filter needs column then list_of_value (pair_for section column (paired_with needs joined column)) value
       else whole_list section needs joined;
-  range = λ range. if is_filter needs range.column then list_between (pair_for section range.column (joined_column_for needs joined range.column)) range.low range.high
+  range = λ range. if is_filter needs range.column then list_between (pair_for section range.column (paired_with needs joined range.column)) range.low range.high
       else whole_list section needs joined;
 }
 

@@ -2,7 +2,7 @@
 use Rattle.std.specs.Prelude.{ℕ, ◌==◌, ◌&&◌, not, Bool, false, List, [], Option, None, Some, find, is_some, length, unwrap_or}
 use Rattle.std.specs.List.{list_all, range_with_len}
 use Rattle.query_types.specs.declared.types.Query.{Query}
-use Rattle.stats_file.specs.declared.types.Pair.{Pair}
+use Rattle.stats_file.specs.declared.types.PairStats.{PairStats}
 use Rattle.stats_file.specs.declared.types.StatsFile.{StatsFile}
 use Rattle.stats_file.specs.declared.types.TableStats.{TableStats}
 use Rattle.stats_file_of_query.specs.declared.column_pairs.ColumnPair.{ColumnPair}
@@ -10,10 +10,10 @@ use Rattle.stats_file_of_query.specs.Needs.{needed, table_of}
 use Rattle.stats_file_of_query.specs.Standing.{section_of}
 
 -- the pair of two columns in a section, if the section has one
-abbrev pub are_columns : ℕ → ℕ → Pair → Bool
+abbrev pub are_columns : ℕ → ℕ → PairStats → Bool
 are_columns filter joined pair = pair.filter == filter && pair.joined == joined
 
-abbrev pub pair_in : TableStats → ℕ → ℕ → Option Pair
+abbrev pub pair_in : TableStats → ℕ → ℕ → Option PairStats
 pair_in section filter joined = find (are_columns filter joined) section.pairs
 
 abbrev pub has_pair : TableStats → ColumnPair → Bool
@@ -34,13 +34,13 @@ first_missing query file = find (is_missing query file) (range_with_len 0 (lengt
 
 -- ---- what is taken in place of a pair or a section that is missing
 
-abbrev pub no_pair : Pair
+abbrev pub no_pair : PairStats
 no_pair = record { filter = 0; joined = 0; whole = []; frequent = []; rest = []; cuts = []; nodes = [] }
 
 abbrev pub no_section : TableStats
 no_section = record { table = 0; rows = 0; pairs = [] }
 
-abbrev pub pair_for : TableStats → ℕ → ℕ → Pair
+abbrev pub pair_for : TableStats → ℕ → ℕ → PairStats
 pair_for section filter joined = unwrap_or (pair_in section filter joined) no_pair
 
 abbrev pub section_for : Query → StatsFile → ℕ → TableStats

@@ -11,11 +11,11 @@ use base_io::NoMemory;
 use column_stats::place_of_node;
 use piece_math::Pieces;
 use predicate_bounds::{Literal, Range};
-use stats_file::Pair;
+use stats_file::PairStats;
 use std::alloc::Global;
 
 /// The list of a value: the value's own list if it is frequent, otherwise the rest list.
-pub(crate) fn list_of_literal<'a>(pair: &'a Pair, literal: &Literal) -> &'a Pieces
+pub(crate) fn list_of_literal<'a>(pair: &'a PairStats, literal: &Literal) -> &'a Pieces
     ensures { result.now ≡ list_of_value pair.now (value_of literal.now) }
 {
     for frequent in pair.frequent.as_slice() {
@@ -27,7 +27,7 @@ pub(crate) fn list_of_literal<'a>(pair: &'a Pair, literal: &Literal) -> &'a Piec
 }
 
 // The leaf to which a literal belongs: the last leaf whose cut is at most the literal, or leaf 0.
-fn leaf_of(pair: &Pair, literal: &Literal) -> u8
+fn leaf_of(pair: &PairStats, literal: &Literal) -> u8
     requires { length pair.now.cuts ≤ 32 }
     ensures leaf { result ≡ leaf_of_value pair.now (value_of literal.now) }
     ensures below { result < 32 }
@@ -42,7 +42,7 @@ fn leaf_of(pair: &Pair, literal: &Literal) -> u8
 }
 
 // The leaf of an end of a range, if the range has this end.
-fn end_leaf(pair: &Pair, end: &Option<Literal>) -> Option<u8>
+fn end_leaf(pair: &PairStats, end: &Option<Literal>) -> Option<u8>
     requires { length pair.now.cuts ≤ 32 }
     ensures leaf { result ≡ option_map (leaf_of_value pair.now) (option_map value_of end.now) }
     ensures below { IfSome result (λ leaf. leaf < 32) }
@@ -54,7 +54,7 @@ fn end_leaf(pair: &Pair, end: &Option<Literal>) -> Option<u8>
 }
 
 // The list of the smallest node that contains two leaves.
-fn list_of_leaves(alloc: Global, pair: &Pair, low: u8, high: u8) -> Result<Pieces, NoMemory>
+fn list_of_leaves(alloc: Global, pair: &PairStats, low: u8, high: u8) -> Result<Pieces, NoMemory>
     requires { low < 32 }
     ensures { IfOk result (λ list. list ≡ list_of_node pair.now (node_size low high) low) }
 {
@@ -66,7 +66,11 @@ fn list_of_leaves(alloc: Global, pair: &Pair, low: u8, high: u8) -> Result<Piece
 }
 
 /// The list of a range: the list of the smallest node that contains the leaves of the range's ends.
-pub(crate) fn list_within(alloc: Global, pair: &Pair, range: &Range) -> Result<Pieces, NoMemory>
+pub(crate) fn list_within(
+    alloc: Global,
+    pair: &PairStats,
+    range: &Range,
+) -> Result<Pieces, NoMemory>
     requires { length pair.now.cuts ≤ 32 }
     ensures { IfOk result (λ list. list ≡ list_between pair.now (range_of range.now).low (range_of range.now).high) }
 {

@@ -1,10 +1,10 @@
 //! The statistics that a section, the part of a file for one table, gives for an entry.
 ghost use Rattle.std.specs.Prelude.{◌≡◌, All, IfOk, map};
-ghost use Rattle.predicate_bounds.specs.ListRuns.{listed};
+ghost use Rattle.predicate_bounds.specs.ListRuns.{with_list};
 ghost use Rattle.predicate_bounds.specs.Steps.{range_of, value_of};
 ghost use Rattle.stats_file_of_query.specs.Standing.{list_between, list_of_value};
-ghost use Rattle.stats_file_bounds.specs.Entries.{AreStepsFromStatsFile, AsksAmong, IsFromStatsFile};
-ghost use Rattle.stats_file_bounds.specs.FileStatistics.{stats_file_lists, of_one_key, joined_column_for, whole_list};
+ghost use Rattle.stats_file_bounds.specs.Entries.{AreStepsFromStatsFile, AsksForFilterColumn, IsSectionOfSome};
+ghost use Rattle.stats_file_bounds.specs.FileStatistics.{stats_file_lists, list_of_one_key, paired_with, whole_list};
 ghost use Rattle.stats_file_bounds.specs.Found.{pair_for};
 
 use crate::answers::{list_of_literal, list_within};
@@ -17,8 +17,8 @@ use stats_file_of_query::Needs;
 use std::alloc::Global;
 
 // The column that a filter column is paired with: the joined column, or the filter column itself if the entry joins no column.
-fn partner(needs: &Needs, joined: u32, column: u32) -> u32
-    ensures { result ≡ joined_column_for needs.now joined column }
+fn paired_with(needs: &Needs, joined: u32, column: u32) -> u32
+    ensures { result ≡ paired_with needs.now joined column }
 {
     if needs.joined.len() == 0 {
         column
@@ -28,8 +28,8 @@ fn partner(needs: &Needs, joined: u32, column: u32) -> u32
 }
 
 // The list of `rows` rows that all have the same key.
-fn of_one_key(alloc: Global, rows: u32) -> Result<Pieces, NoMemory>
-    ensures { IfOk result (λ list. list ≡ of_one_key rows) }
+fn list_of_one_key(alloc: Global, rows: u32) -> Result<Pieces, NoMemory>
+    ensures { IfOk result (λ list. list ≡ list_of_one_key rows) }
 {
     let mut list = Pieces::empty(alloc);
     if rows > 0 {
@@ -63,10 +63,10 @@ fn whole_list(
     ensures { IfOk result (λ list. list ≡ whole_list section.now needs.now joined) }
 {
     match needs.filters.as_slice() {
-        [column, ..] => whole_of(alloc, section, *column, partner(needs, joined, *column)),
+        [column, ..] => whole_of(alloc, section, *column, paired_with(needs, joined, *column)),
         [] => {
             if needs.joined.len() == 0 {
-                return of_one_key(alloc, section.rows);
+                return list_of_one_key(alloc, section.rows);
             }
             whole_of(alloc, section, joined, joined)
         }
@@ -82,9 +82,9 @@ fn list_of_equal(
     column: u32,
     literal: &Literal,
 ) -> Result<Pieces, NoMemory>
-    ensures { IfOk result (λ list. list ≡ list_of_value (pair_for section.now column (joined_column_for needs.now joined column)) (value_of literal.now)) }
+    ensures { IfOk result (λ list. list ≡ list_of_value (pair_for section.now column (paired_with needs.now joined column)) (value_of literal.now)) }
 {
-    match pair_in(section, column, partner(needs, joined, column)) {
+    match pair_in(section, column, paired_with(needs, joined, column)) {
         Some(pair) => list_of_literal(pair, literal).copy(),
         None => Ok(Pieces::empty(alloc)),
     }
@@ -98,11 +98,15 @@ fn list_of_range(
     joined: u32,
     range: &Range,
 ) -> Result<Pieces, NoMemory>
-    requires { IsFromStatsFile section.now }
-    ensures { IfOk result (λ list. list ≡ list_between (pair_for section.now range.now.column (joined_column_for needs.now joined range.now.column))
+    requires { IsSectionOfSome section.now }
+    ensures { IfOk result (λ list. list ≡ list_between (pair_for section.now range.now.column (paired_with needs.now joined range.now.column))
         (range_of range.now).low (range_of range.now).high) }
 {
-    match pair_in(section, range.column, partner(needs, joined, range.column)) {
+    match pair_in(
+        section,
+        range.column,
+        paired_with(needs, joined, range.column),
+    ) {
         Some(pair) => list_within(alloc, pair, range),
         None => Ok(Pieces::empty(alloc)),
     }
@@ -117,10 +121,10 @@ fn list_step(
     whole: &Pieces,
     step: &Step,
 ) -> Result<ListStep, NoMemory>
-    requires section { IsFromStatsFile section.now }
+    requires section { IsSectionOfSome section.now }
     requires whole { whole.now ≡ whole_list section.now needs.now joined }
-    requires asks { AsksAmong needs.now step.now }
-    ensures { IfOk result (λ listed_step. listed_step ≡ listed (stats_file_lists section.now needs.now joined) step.now) }
+    requires asks { AsksForFilterColumn needs.now step.now }
+    ensures { IfOk result (λ listed_step. listed_step ≡ with_list (stats_file_lists section.now needs.now joined) step.now) }
 {
     match step {
         Step::Whole => Ok(ListStep::List(whole.copy()?)),
@@ -146,10 +150,10 @@ fn list_steps(
     joined: u32,
     steps: &[Step],
 ) -> Result<ColumnSteps, NoMemory>
-    requires section { IsFromStatsFile section.now }
-    requires asks { All (AsksAmong needs.now) steps.now }
+    requires section { IsSectionOfSome section.now }
+    requires asks { All (AsksForFilterColumn needs.now) steps.now }
     ensures column { IfOk result (λ gathered. gathered.column ≡ joined) }
-    ensures steps { IfOk result (λ gathered. gathered.steps ≡ map (listed (stats_file_lists section.now needs.now joined)) steps.now) }
+    ensures steps { IfOk result (λ gathered. gathered.steps ≡ map (with_list (stats_file_lists section.now needs.now joined)) steps.now) }
 {
     let whole = whole_list(alloc, section, needs, joined)?;
     let mut gathered = ColumnSteps::new(alloc, joined);
@@ -168,8 +172,8 @@ pub(crate) fn list_columns(
     steps: &[Step],
     columns: &[u32],
 ) -> Result<EntryStats, NoMemory>
-    requires section { IsFromStatsFile section.now }
-    requires asks { All (AsksAmong needs.now) steps.now }
+    requires section { IsSectionOfSome section.now }
+    requires asks { All (AsksForFilterColumn needs.now) steps.now }
     ensures columns { IfOk result (λ stats. map (λ gathered. gathered.column) stats.columns ≡ columns.now) }
     ensures steps { IfOk result (λ stats. All (AreStepsFromStatsFile section.now needs.now steps.now) stats.columns) }
 {

@@ -4,7 +4,7 @@ ghost use Rattle.std.specs.List.{list_all};
 ghost use Rattle.stats_file_of_query.specs.Standing.{section_of};
 ghost use Rattle.stats_file_bounds.specs.Found.{has_pair, pair_in};
 
-use stats_file::{Pair, StatsFile, TableStats};
+use stats_file::{PairStats, StatsFile, TableStats};
 use stats_file_of_query::ColumnPair;
 
 /// The section of a table, if the file has one.
@@ -20,7 +20,7 @@ pub(crate) fn section_of(file: &StatsFile, table: u32) -> Option<&TableStats>
 }
 
 /// The pair of two columns, if the section has one.
-pub(crate) fn pair_in(section: &TableStats, filter: u32, joined: u32) -> Option<&Pair>
+pub(crate) fn pair_in(section: &TableStats, filter: u32, joined: u32) -> Option<&PairStats>
     ensures { option_map (λ pair. pair.now) result ≡ pair_in section.now filter joined }
 {
     for pair in section.pairs.as_slice() {

@@ -2,7 +2,7 @@
 ghost use Rattle.std.specs.Prelude.{◌≡◌, ◌<◌, ◌≤◌, ◌^◌, IfErr, IfOk, None, length};
 ghost use Rattle.limits.specs.Profile.{most_entries};
 ghost use Rattle.stats_file_bounds.specs.Bounds.{scan_bounds_of_file, set_bounds_of_file};
-ghost use Rattle.stats_file_bounds.specs.Entries.{IsFile, IsNeedCause};
+ghost use Rattle.stats_file_bounds.specs.Entries.{KeepsRulesOfSome, IsNeedCause};
 ghost use Rattle.stats_file_bounds.specs.Found.{first_missing};
 ghost use Rattle.planning.specs.HasBounds.{HasBounds};
 ghost use Rattle.query_types.specs.Named.{NamesItsEntries};
@@ -10,7 +10,7 @@ ghost use Rattle.query_types.specs.Named.{NamesItsEntries};
 use crate::errors::NeedError;
 use crate::stats::query_stats;
 use join_graph::split;
-use planning::{Known, from_told};
+use planning::{QueryBounds, from_given_statistics};
 use query_types::Query;
 use stats_file::StatsFile;
 use std::alloc::Global;
@@ -18,8 +18,8 @@ use std::alloc::Global;
 /// The bounds of all sets of a query's entries and of its scans, from a file of statistics (SafeBound, SIGMOD 2023). No table is read.
 ///
 /// `Missing` names the first entry for which the file lacks something, before any bound is made. `NoMemory` comes if memory runs out.
-pub fn from_file(alloc: Global, query: &Query, file: &StatsFile) -> Result<Known, NeedError>
-    requires file { IsFile file.now }
+pub fn from_file(alloc: Global, query: &Query, file: &StatsFile) -> Result<QueryBounds, NeedError>
+    requires file { KeepsRulesOfSome file.now }
     requires few { length query.now.from ≤ most_entries }
     requires conjuncts { length query.now.conjuncts < 2 ^ 32 }
     requires own { NamesItsEntries query.now }
@@ -29,6 +29,6 @@ pub fn from_file(alloc: Global, query: &Query, file: &StatsFile) -> Result<Known
 {
     let parts = split(alloc, query)?;
     let stats = query_stats(alloc, query, &parts, file)?;
-    let known = from_told(alloc, query, &parts, &stats)?;
+    let known = from_given_statistics(alloc, query, &parts, &stats)?;
     Ok(known)
 }

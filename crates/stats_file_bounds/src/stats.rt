@@ -4,7 +4,7 @@ ghost use Rattle.join_graph.specs.Conjuncts.{equalities_of, local_of};
 ghost use Rattle.query_bounds.specs.Statistics.{Tells};
 ghost use Rattle.query_types.specs.Named.{NamesItsEntries};
 ghost use Rattle.stats_file_of_query.specs.Needs.{table_of};
-ghost use Rattle.stats_file_bounds.specs.Entries.{IsEntryCause, IsFile, IsNeedCause, EntryIsTold};
+ghost use Rattle.stats_file_bounds.specs.Entries.{IsEntryCause, KeepsRulesOfSome, IsNeedCause, HasStatsFromFile};
 ghost use Rattle.stats_file_bounds.specs.FileStatistics.{stats_file_statistics};
 ghost use Rattle.stats_file_bounds.specs.Found.{first_missing, is_missing};
 
@@ -36,11 +36,11 @@ fn entry_stats(
     file: &StatsFile,
     entry: u8,
 ) -> Result<EntryStats, NeedError>
-    requires file { IsFile file.now }
+    requires file { KeepsRulesOfSome file.now }
     requires entry { entry < length query.now.from }
     requires local { parts.now.local ≡ local_of query.now }
     requires equalities { parts.now.equalities ≡ equalities_of query.now }
-    ensures told { IfOk result (EntryIsTold query.now file.now entry) }
+    ensures told { IfOk result (HasStatsFromFile query.now file.now entry) }
     ensures there { IfOk result (λ stats. is_missing query.now file.now entry ≡ false) }
     ensures missing { IfErr result (IsEntryCause query.now file.now entry) }
 {
@@ -70,7 +70,7 @@ pub fn query_stats(
     parts: &Parts,
     file: &StatsFile,
 ) -> Result<QueryStats, NeedError>
-    requires file { IsFile file.now }
+    requires file { KeepsRulesOfSome file.now }
     requires few { length query.now.from ≤ 12 }
     requires own { NamesItsEntries query.now }
     requires local { parts.now.local ≡ local_of query.now }

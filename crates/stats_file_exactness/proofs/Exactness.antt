@@ -26,7 +26,7 @@ use Rattle.query_types.specs.declared.types.Query.{Query}
 use Rattle.schema_types.specs.declared.types.Schema.{Schema}
 use Rattle.set_bounds.specs.AllSets.{bounds_of_sets}
 use Rattle.sql_meaning.specs.Tables.{Tables, row_counts, tables_of}
-use Rattle.stats_file.specs.declared.types.Pair.{Pair}
+use Rattle.stats_file.specs.declared.types.PairStats.{PairStats}
 use Rattle.stats_file.specs.declared.types.StatsFile.{StatsFile}
 use Rattle.stats_file.specs.declared.types.TableStats.{TableStats}
 use Rattle.table_stats.specs.Statistics.{column_lists, entry_counts}
@@ -35,7 +35,7 @@ use Rattle.tree_bounds.specs.TreeBounds.{EntryBounds}
 use Rattle.stats_file_of_query.specs.declared.needs.Needs.{Needs}
 use Rattle.stats_file_of_query.specs.Needs.{needs_of, pairs_of}
 use Rattle.stats_file_of_query.specs.ColumnPairs.{column_pair, pairs_between}
-use Rattle.stats_file_of_query.specs.Databases.{IsOverSchema}
+use Rattle.stats_file_of_query.specs.Databases.{FitsQueryAndTexts}
 use Rattle.stats_file_of_query.specs.Files.{file_of_query}
 use Rattle.stats_file_of_query.specs.Pairs.{pair_in_table}
 use Rattle.stats_file_of_query.specs.Standing.{list_between, list_of_value}
@@ -43,15 +43,15 @@ use Rattle.stats_file_of_query.proofs.Exact.{range_same, value_same, whole_same}
 use Rattle.stats_file_of_query.proofs.Finding.{none_found}
 use Rattle.stats_file_of_query.proofs.Rules.{file_keeps}
 use Rattle.stats_file_of_query.proofs.Standing.{file_stands, share_rows}
-use Rattle.stats_file_bounds.specs.Entries.{AsksAmong, IsFile, IsFromStatsFile}
-use Rattle.stats_file_bounds.specs.FileStatistics.{stats_file_counts, stats_file_lists, stats_file_statistics, is_filter, joined_column_for, whole_by, whole_list}
+use Rattle.stats_file_bounds.specs.Entries.{AsksForFilterColumn, KeepsRulesOfSome, IsSectionOfSome}
+use Rattle.stats_file_bounds.specs.FileStatistics.{stats_file_counts, stats_file_lists, stats_file_statistics, is_filter, paired_with, whole_by, whole_list}
 use Rattle.stats_file_bounds.specs.Found.{first_missing, has_pair, is_missing, pair_for, pair_in, section_for}
 use Rattle.stats_file_bounds.proofs.EntryFacts.{asks_among}
 use Rattle.join_graph.proofs.FromEntries.{names_its_entries}
 use Rattle.stats_file_bounds.proofs.Sums.{IsJoined, contained, its, joined_needed, lead_joined, pair_found, partner_found, whole_sum}
-use Rattle.stats_file_bounds.proofs.Telling.{IsThere, is_there, its_filed, its_pairs, place_low, section_is}
-use Rattle.stats_file_bounds.proofs.Under.{joined_has, partner_joined}
-use Rattle.stats_file_exactness.proofs.Alike.{AgreeAt, filtered_alike}
+use Rattle.stats_file_bounds.proofs.Telling.{IsThere, is_there, section_from_file, its_pairs, place_low, section_is}
+use Rattle.stats_file_bounds.proofs.NeverUnder.{joined_has, partner_joined}
+use Rattle.stats_file_exactness.proofs.SameLists.{AgreeAt, filtered_alike}
 use Rattle.stats_file_exactness.proofs.Members.{any_passes}
 use Rattle.stats_file_exactness.proofs.Sections as sections
 use Rattle.stats_file_exactness.proofs.Sections.{IsSectionOf, all_there, found_is, section_there}
@@ -59,15 +59,15 @@ use Rattle.stats_file_exactness.proofs.Sections.{IsSectionOf, all_there, found_i
 -- ---- a file that has what the tables' statistics have
 
 -- a pair has the statistics of a filter column for a joined column. Each pair of the file is the pair that is made from the table's rows
-pub record KnowsTables (query : Query) (file : StatsFile) (tables : Tables) (accuracy : ℕ) : Type 0 where
-  pub is_file : IsFile file
+pub record HasPairsOfTables (query : Query) (file : StatsFile) (tables : Tables) (accuracy : ℕ) : Type 0 where
+  pub is_file : KeepsRulesOfSome file
   pub names : NamesItsEntries query
   pub there : (entry : ℕ) → entry < length query.from → is_missing query file entry ≡ false
   pub rows : (entry : ℕ) → entry < length query.from → (section_for query file entry).rows ≡ row_counts tables entry
-  pub pairs : (entry : ℕ) → entry < length query.from → (filter_column joined : ℕ) (p : Pair) → pair_in (section_for query file entry) filter_column joined ≡ Some p
+  pub pairs : (entry : ℕ) → entry < length query.from → (filter_column joined : ℕ) (p : PairStats) → pair_in (section_for query file entry) filter_column joined ≡ Some p
       → p ≡ pair_in_table tables accuracy entry filter_column joined
 
-module _ (query : Query) (file : StatsFile) (tables : Tables) (accuracy : ℕ) (knows : KnowsTables query file tables accuracy) where
+module _ (query : Query) (file : StatsFile) (tables : Tables) (accuracy : ℕ) (knows : HasPairsOfTables query file tables accuracy) where
   -- ---- an entry
 
   module _ (entry : ℕ) (low : entry < length query.from) where
@@ -80,19 +80,19 @@ module _ (query : Query) (file : StatsFile) (tables : Tables) (accuracy : ℕ) (
     abbrev needs : Needs
     needs = needs_of query entry
 
-    from_stats_file : IsFromStatsFile section
-    from_stats_file = its_filed query file knows.is_file entry there
+    from_stats_file : IsSectionOfSome section
+    from_stats_file = section_from_file query file knows.is_file entry there
 
     all : list_all (has_pair section) (pairs_of needs) ≡ true
     all = its_pairs query file knows.is_file entry there
 
-    found_pair : (filter_column joined : ℕ) → (p : Pair) × (pair_in section filter_column joined ≡ Some p) → pair_for section filter_column joined ≡ pair_in_table tables accuracy entry filter_column joined
+    found_pair : (filter_column joined : ℕ) → (p : PairStats) × (pair_in section filter_column joined ≡ Some p) → pair_for section filter_column joined ≡ pair_in_table tables accuracy entry filter_column joined
     found_pair filter_column joined found =
         its section from_stats_file needs all filter_column joined found.0 found.1 ∙ knows.pairs entry low filter_column joined found.0 found.1
 
     pair_is : (filter_column joined : ℕ) → Contains needs.filters filter_column → IsJoined needs joined
-        → pair_for section filter_column (joined_column_for needs joined filter_column) ≡ pair_in_table tables accuracy entry filter_column (joined_column_for needs joined filter_column)
-    pair_is filter_column joined has joins = found_pair filter_column (joined_column_for needs joined filter_column) (partner_found section from_stats_file needs all filter_column joined has joins)
+        → pair_for section filter_column (paired_with needs joined filter_column) ≡ pair_in_table tables accuracy entry filter_column (paired_with needs joined filter_column)
+    pair_is filter_column joined has joins = found_pair filter_column (paired_with needs joined filter_column) (partner_found section from_stats_file needs all filter_column joined has joins)
 
     -- ---- lists
 
@@ -100,22 +100,22 @@ module _ (query : Query) (file : StatsFile) (tables : Tables) (accuracy : ℕ) (
     abbrev made : ℕ → ColumnLists
     made joined = record {
       whole = whole_list section needs joined;
-      equal = λ column value. (column_lists tables accuracy entry (joined_column_for needs joined column)).equal column value;
-      range = λ range. (column_lists tables accuracy entry (joined_column_for needs joined range.column)).range range;
+      equal = λ column value. (column_lists tables accuracy entry (paired_with needs joined column)).equal column value;
+      range = λ range. (column_lists tables accuracy entry (paired_with needs joined range.column)).range range;
     }
 
     agree : (joined column : ℕ) → IsJoined needs joined → list_any (λ other. eqb column other) needs.filters ≡ true → AgreeAt (stats_file_lists section needs joined) (made joined) column
     agree joined column joins is = record {
-      equal = λ value. rw is (ap (λ (p : Pair). list_of_value p value) (pair_is column joined (true_in needs.filters column is) joins)
-          ∙ value_same tables accuracy entry column (joined_column_for needs joined column) value);
-      range = λ low high. rw is (ap (λ (p : Pair). list_between p low high) (pair_is column joined (true_in needs.filters column is) joins)
-          ∙ range_same tables accuracy entry column (joined_column_for needs joined column) low high);
+      equal = λ value. rw is (ap (λ (p : PairStats). list_of_value p value) (pair_is column joined (true_in needs.filters column is) joins)
+          ∙ value_same tables accuracy entry column (paired_with needs joined column) value);
+      range = λ low high. rw is (ap (λ (p : PairStats). list_between p low high) (pair_is column joined (true_in needs.filters column is) joins)
+          ∙ range_same tables accuracy entry column (paired_with needs joined column) low high);
     }
 
     asked_filter : (s : Step) → Contains (steps_of entry query.conjuncts) s → (column : ℕ) → column_asked s ≡ Some column → list_any (λ other. eqb column other) needs.filters ≡ true
     asked_filter s has column is =
         subst (λ (o : Option ℕ). IfSome o (λ column. IsTrue (is_filter needs column))) is
-        (All-contains (AsksAmong needs) (steps_of entry query.conjuncts) s (asks_among needs (steps_of entry query.conjuncts) refl) has)
+        (All-contains (AsksForFilterColumn needs) (steps_of entry query.conjuncts) s (asks_among needs (steps_of entry query.conjuncts) refl) has)
 
     filed_alike : (joined : ℕ) → IsJoined needs joined → filtered_list (stats_file_lists section needs joined) entry query.conjuncts ≡ filtered_list (made joined) entry query.conjuncts
     filed_alike joined joins =
@@ -132,8 +132,8 @@ module _ (query : Query) (file : StatsFile) (tables : Tables) (accuracy : ℕ) (
     made_sums : SumTo (made lead) (entry_counts tables entry)
     made_sums = record {
       whole = whole_sum section from_stats_file needs all lead (lead_joined needs) ∙ knows.rows entry low;
-      equal = λ column value. (lists_sum tables accuracy entry (joined_column_for needs lead column)).equal column value;
-      range = λ range. (lists_sum tables accuracy entry (joined_column_for needs lead range.column)).range range;
+      equal = λ column value. (lists_sum tables accuracy entry (paired_with needs lead column)).equal column value;
+      range = λ range. (lists_sum tables accuracy entry (paired_with needs lead range.column)).range range;
     }
 
     rows_same : scan_rows query (stats_file_statistics query file) entry ≡ scan_rows query (statistics_of tables accuracy) entry
@@ -155,11 +155,11 @@ module _ (query : Query) (file : StatsFile) (tables : Tables) (accuracy : ℕ) (
           by [] is =
               let needed : Contains (pairs_of needs) (column_pair joined joined) =
               subst (λ (f : List ℕ). Contains (pairs_between f needs.joined) (column_pair joined joined)) (sym is) (joined_needed needs.joined joined has) in
-              rw (some needs.joined has) (ap (λ (p : Pair). p.whole) (found_pair joined joined (pair_found section from_stats_file needs all joined joined needed))
+              rw (some needs.joined has) (ap (λ (p : PairStats). p.whole) (found_pair joined joined (pair_found section from_stats_file needs all joined joined needed))
               ∙ whole_same tables accuracy entry joined joined)
           by (column ∷ columns) is =
-              ap (λ (p : Pair). p.whole) (pair_is column joined (subst (λ (f : List ℕ). Contains f column) (sym is) (in_front column columns column refl)) (contained needs joined has))
-              ∙ whole_same tables accuracy entry column (joined_column_for needs joined column) ∙ ap (λ j. (column_lists tables accuracy entry j).whole) (partner_joined needs joined column has)
+              ap (λ (p : PairStats). p.whole) (pair_is column joined (subst (λ (f : List ℕ). Contains f column) (sym is) (in_front column columns column refl)) (contained needs joined has))
+              ∙ whole_same tables accuracy entry column (paired_with needs joined column) ∙ ap (λ j. (column_lists tables accuracy entry j).whole) (partner_joined needs joined column has)
 
       made_alike : (column : ℕ) → AgreeAt (made joined) (column_lists tables accuracy entry joined) column
       made_alike column = record {
@@ -220,7 +220,7 @@ module _ (query : Query) (file : StatsFile) (tables : Tables) (accuracy : ℕ) (
 
 -- ---- the file of the query
 
-module _ (schema : Schema) (query : Query) (db : Database) (over : IsOverSchema schema query db) (accuracy : ℕ) (least : 0 < accuracy) (most : accuracy ≤ 64) where
+module _ (schema : Schema) (query : Query) (db : Database) (over : FitsQueryAndTexts schema query db) (accuracy : ℕ) (least : 0 < accuracy) (most : accuracy ≤ 64) where
   abbrev own_file : StatsFile
   own_file = file_of_query schema query (tables_of db) accuracy
 
@@ -241,7 +241,7 @@ module _ (schema : Schema) (query : Query) (db : Database) (over : IsOverSchema 
       let there = its_there entry low in
       subst (IsSectionOf schema query db over accuracy entry) (sym (section_is query own_file entry there)) (sections.section_is schema query db over accuracy entry there.section there.is)
 
-  own_knows : KnowsTables query (file_of_query schema query (tables_of db) accuracy) (tables_of db) accuracy
+  own_knows : HasPairsOfTables query (file_of_query schema query (tables_of db) accuracy) (tables_of db) accuracy
   own_knows = record {
     is_file = record { schema = schema; keeps = file_keeps schema query db over accuracy least most };
     names = names_its_entries schema query over.of.query_is;

@@ -1,4 +1,4 @@
 pub mod Members
-pub mod Alike
+pub mod SameLists
 pub mod Sections
 pub mod Exactness

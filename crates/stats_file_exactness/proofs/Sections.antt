@@ -12,7 +12,7 @@ use Rattle.berge_tree.specs.declared.edges.Place.{Place}
 use Rattle.berge_tree.specs.Equalities.{places_of}
 use Rattle.gathered_stats.specs.Asked.{column_asked, joined_columns, AsksWithin}
 use Rattle.gathered_stats.proofs.Joined.{place_exists}
-use Rattle.gathered_stats.proofs.Known.{steps_within}
+use Rattle.gathered_stats.proofs.ColumnsExist.{steps_within}
 use Rattle.join_graph.specs.Conjuncts.{equalities_of}
 use Rattle.level_bounds.proofs.Lists.{from_filter, from_filter_map, from_map, in_filter, in_filter_map, in_map, in_range, true_for_all}
 use Rattle.predicate_bounds.specs.declared.steps.Step.{Step}
@@ -21,13 +21,13 @@ use Rattle.query_types.specs.declared.types.Query.{Query}
 use Rattle.query_types.specs.declared.types.Source.{Source}
 use Rattle.schema_types.specs.declared.types.Schema.{Schema}
 use Rattle.sql_meaning.specs.Tables.{cells_of, no_cells, tables_of}
-use Rattle.stats_file.specs.declared.types.Pair.{Pair}
+use Rattle.stats_file.specs.declared.types.PairStats.{PairStats}
 use Rattle.stats_file.specs.declared.types.StatsFile.{StatsFile}
 use Rattle.stats_file.specs.declared.types.TableStats.{TableStats}
 use Rattle.stats_file_of_query.specs.declared.column_pairs.ColumnPair.{ColumnPair}
 use Rattle.stats_file_of_query.specs.Needs.{filter_columns, needed, needed_of_table, needs_of, table_of}
 use Rattle.stats_file_of_query.specs.ColumnPairs.{column_pair, is_pair, of_itself, pairs_between, with_each}
-use Rattle.stats_file_of_query.specs.Databases.{IsOverSchema}
+use Rattle.stats_file_of_query.specs.Databases.{FitsQueryAndTexts}
 use Rattle.stats_file_of_query.specs.Files.{column_count, file_of_query, first_entry, for_each_pair, joined_with, section_of_table}
 use Rattle.stats_file_of_query.specs.Pairs.{pair_in_cells, pair_in_table}
 use Rattle.stats_file_of_query.specs.Standing.{section_of}
@@ -53,11 +53,11 @@ pair_columns P (f ∷ filters) (j ∷ joined) has_filter has_joined x has =
     let from = from_map (column_pair at.0) (j ∷ joined) x at.2 in
     (subst (λ (y : ColumnPair). P y.filter) (sym from.2) (has_filter at.0 at.1), subst (λ (y : ColumnPair). P y.joined) (sym from.2) (has_joined from.0 from.1))
 
-module _ (schema : Schema) (query : Query) (db : Database) (over : IsOverSchema schema query db) (accuracy : ℕ) where
+module _ (schema : Schema) (query : Query) (db : Database) (over : FitsQueryAndTexts schema query db) (accuracy : ℕ) where
   abbrev file : StatsFile
   file = file_of_query schema query (tables_of db) accuracy
 
-  abbrev its_pair : ℕ → ℕ → ℕ → Pair
+  abbrev its_pair : ℕ → ℕ → ℕ → PairStats
   its_pair entry filter_column joined = pair_in_table (tables_of db) accuracy entry filter_column joined
 
   -- ---- columns
@@ -139,17 +139,17 @@ module _ (schema : Schema) (query : Query) (db : Database) (over : IsOverSchema 
     abbrev count : ℕ
     count = column_count schema (table_of query entry)
 
-    abbrev made : ℕ → ℕ → Pair
+    abbrev made : ℕ → ℕ → PairStats
     made filter_column joined = its_pair is.first filter_column joined
 
-    abbrev pairs : List Pair
+    abbrev pairs : List PairStats
     pairs = for_each_pair made (needed_of_table query (table_of query entry)) count
 
     its_pairs : section.pairs ≡ pairs
     its_pairs = ap (λ (s : TableStats). s.pairs) is.made
 
     same_cells : cells_of db is.first ≡ cells_of db entry
-    same_cells = ap (λ slot. slice_index_or db.cells slot no_cells) (over.of.database.one_place is.first entry is.low low is.same)
+    same_cells = ap (λ slot. slice_index_or db.cells slot no_cells) (over.of.database.same_slot is.first entry is.low low is.same)
 
     same_pair : (filter_column joined : ℕ) → IsThere entry filter_column → IsThere entry joined → made filter_column joined ≡ its_pair entry filter_column joined
     same_pair filter_column joined has_filter has_joined =
@@ -157,7 +157,7 @@ module _ (schema : Schema) (query : Query) (db : Database) (over : IsOverSchema 
         (subst (λ (cells : Cells). joined < length cells.kinds) (sym same_cells) has_joined))
         ∙ ap (λ (cells : Cells). pair_in_cells db.pool cells accuracy filter_column joined) same_cells ∙ pair_same schema query db over accuracy entry low filter_column joined has_filter has_joined
 
-    abbrev IsMade : Pair → Type 0
+    abbrev IsMade : PairStats → Type 0
     IsMade p = (p ≡ made p.filter p.joined) × (p.filter < count) × (p.joined < count)
 
     all_are : All IsMade pairs
@@ -166,7 +166,7 @@ module _ (schema : Schema) (query : Query) (db : Database) (over : IsOverSchema 
     there_is : (column : ℕ) → column < count → IsThere entry column
     there_is column h = omega (arith, h, kinds_are schema query db over accuracy entry low)
 
-    pub found_is : (filter_column joined : ℕ) (p : Pair) → pair_in section filter_column joined ≡ Some p → p ≡ its_pair entry filter_column joined
+    pub found_is : (filter_column joined : ℕ) (p : PairStats) → pair_in section filter_column joined ≡ Some p → p ≡ its_pair entry filter_column joined
     found_is filter_column joined p found =
         let there = found_in (are_columns filter_column joined) pairs p (ap (find (are_columns filter_column joined)) (sym its_pairs) ∙ found) in
         let is_made : IsMade p = All-contains IsMade pairs p all_are there.0 in

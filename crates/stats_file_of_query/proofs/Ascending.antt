@@ -75,12 +75,12 @@ module _ (value : ℕ → Value) where
   each_at x (y ∷ xs) all zero low = all.0
   each_at x (y ∷ xs) all (suc j) low = each_at x xs all.1 j (omega (arith, low))
 
-  pub in_places : (xs : List ℕ) → Ascends xs → (i j : ℕ) → i ≤ j → j < length xs → at_most (get_or xs i 0) (get_or xs j 0) ≡ true
-  in_places [] sorted i j before low = absurd (omega (arith, low))
-  in_places (x ∷ xs) sorted zero zero before low = le_itself (value x)
-  in_places (x ∷ xs) sorted zero (suc j) before low = each_at x xs sorted.0 j (omega (arith, low))
-  in_places (x ∷ xs) sorted (suc i) zero before low = absurd (omega (arith, before))
-  in_places (x ∷ xs) sorted (suc i) (suc j) before low = in_places xs sorted.1 i j (omega (arith, before)) (omega (arith, low))
+  pub at_positions : (xs : List ℕ) → Ascends xs → (i j : ℕ) → i ≤ j → j < length xs → at_most (get_or xs i 0) (get_or xs j 0) ≡ true
+  at_positions [] sorted i j before low = absurd (omega (arith, low))
+  at_positions (x ∷ xs) sorted zero zero before low = le_itself (value x)
+  at_positions (x ∷ xs) sorted zero (suc j) before low = each_at x xs sorted.0 j (omega (arith, low))
+  at_positions (x ∷ xs) sorted (suc i) zero before low = absurd (omega (arith, before))
+  at_positions (x ∷ xs) sorted (suc i) (suc j) before low = at_positions xs sorted.1 i j (omega (arith, before)) (omega (arith, low))
 
   -- ---- cuts
 
@@ -94,7 +94,7 @@ module _ (value : ℕ → Value) where
       λ i low. ap (λ (s : List ℕ). get_or s i 0) are ∙ get_or-map-range_with_len made 0 32 i i 0 low (omega arith) in
       ap (λ (c : ℕ). at_most c (get_or (cuts at_most column) j 0)) (at i (omega (arith, before, low)))
       ∙ ap (λ (c : ℕ). at_most (made i) c) (at j low)
-      ∙ in_places ordered (ascends column) (cut_place n i) (cut_place n j) (cut_place-mono n i j (omega (arith, before)))
+      ∙ at_positions ordered (ascends column) (cut_place n i) (cut_place n j) (cut_place-mono n i j (omega (arith, before)))
       (omega (arith, length-in_order at_most column, cut_place-within n j some low))
 
 -- ---- the order of values in a file

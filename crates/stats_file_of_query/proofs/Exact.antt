@@ -13,9 +13,9 @@ use Rattle.column_stats.proofs.NodeLists.{node_is, node_size-is}
 use Rattle.filtered_lists.specs.Ranges.{Range}
 use Rattle.sql_meaning.specs.Tables.{Tables}
 use Rattle.stats_file.specs.declared.types.Datum.TheVariants as datum
-use Rattle.stats_file.specs.declared.types.Pair.{Pair}
+use Rattle.stats_file.specs.declared.types.PairStats.{PairStats}
 use Rattle.table_stats.specs.Columns as columns
-use Rattle.table_stats.specs.Columns.{column_values, numbered, paired, row_le, value_of_row}
+use Rattle.table_stats.specs.Columns.{column_values, as_first_rows, paired, row_le, value_of_row}
 use Rattle.table_stats.specs.Statistics.{column_lists, end_leaf}
 use Rattle.stats_file_of_query.specs.Data.{value_of}
 use Rattle.stats_file_of_query.specs.Pairs.{datum_of_row, pair_in_table}
@@ -29,7 +29,7 @@ module _ (tables : Tables) (accuracy entry filter_column joined : ℕ) where
   abbrev pairs : List (ℕ × ℕ)
   pairs = paired filters (column_values tables entry joined)
 
-  abbrev pair : Pair
+  abbrev pair : PairStats
   pair = pair_in_table tables accuracy entry filter_column joined
 
   pub whole_same : pair.whole ≡ (column_lists tables accuracy entry joined).whole
@@ -56,7 +56,7 @@ module _ (tables : Tables) (accuracy entry filter_column joined : ℕ) where
 
   first_small : (low : Option Value) → unwrap_or (end_leaf filters low) 0 < 32
   first_small None = omega arith
-  first_small (Some low) = omega (arith, leaf-below (row_le filters) (numbered filters) (λ cut. value_le (value_of_row filters cut) low))
+  first_small (Some low) = omega (arith, leaf-below (row_le filters) (as_first_rows filters) (λ cut. value_le (value_of_row filters cut) low))
 
   pub range_same : (low high : Option Value) → list_between pair low high ≡ (column_lists tables accuracy entry joined).range (record { column = filter_column; low = low; high = high })
   range_same low high =

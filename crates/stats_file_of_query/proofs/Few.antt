@@ -8,11 +8,11 @@ use Rattle.schema_types.specs.declared.types.Schema.{Schema}
 use Rattle.schema_types.specs.declared.types.Table.{Table}
 use Rattle.sql_meaning.specs.Tables.{cells_of}
 use Rattle.stats_file_of_query.specs.Needs.{table_of}
-use Rattle.stats_file_of_query.specs.Databases.{IsOverSchema}
+use Rattle.stats_file_of_query.specs.Databases.{FitsQueryAndTexts}
 use Rattle.stats_file_of_query.specs.Files.{no_table}
 use Rattle.stats_file_of_query.proofs.SameSections.{kinds_are}
 
-pub few_columns : (schema : Schema) (query : Query) (db : Database) → IsOverSchema schema query db → (entry : ℕ) → entry < length query.from → length (cells_of db entry).kinds < 2 ^ 32
+pub few_columns : (schema : Schema) (query : Query) (db : Database) → FitsQueryAndTexts schema query db → (entry : ℕ) → entry < length query.from → length (cells_of db entry).kinds < 2 ^ 32
 few_columns schema query db over entry low =
     let many = kinds_are schema query db over 1 entry low in
     let table : ℕ = table_of query entry in

@@ -9,15 +9,15 @@ use Rattle.cond_stats.specs.Lists.{compressed_degrees, greatest, keys_with, list
 use Rattle.cond_stats.specs.Rows.{filter_values, joined_keys, keys_where}
 use Rattle.piece_math.proofs.Cutting.{positive-cut_at}
 use Rattle.cond_stats.proofs.Dominating.{rest-is, uncompressed_rest}
-use Rattle.cond_stats.proofs.Maxima.{IsFalling-maxima}
+use Rattle.cond_stats.proofs.Maxima.{IsDescending-maxima}
 use Rattle.cond_stats.proofs.Members.{length-keys_where}
-use Rattle.cond_stats.proofs.Sums.{IsFalling-uncompressed_rest, sum-compressed_degrees}
+use Rattle.cond_stats.proofs.Sums.{IsDescending-uncompressed_rest, sum-compressed_degrees}
 use Rattle.cond_stats.proofs.ValueLists.{of_none}
 use Rattle.degree_sequences.specs.Compression.{compressed, compressed_from, slope}
 use Rattle.degree_sequences.specs.Degrees.{degree, degree_list}
-use Rattle.degree_sequences.specs.Falling.{IsFalling}
-use Rattle.degree_sequences.proofs.CompressedLists.{IsFalling-compressed}
-use Rattle.degree_sequences.proofs.DegreeLists.{IsFalling-degree_list}
+use Rattle.degree_sequences.specs.Descending.{IsDescending}
+use Rattle.degree_sequences.proofs.CompressedLists.{IsDescending-compressed}
+use Rattle.degree_sequences.proofs.DegreeLists.{IsDescending-degree_list}
 use Rattle.degree_sequences.proofs.FewRuns.{slope_pos}
 use Rattle.degree_sequences.proofs.Rearranged.{degree_list_positive}
 use Rattle.gathered_stats.proofs.Sizes.{node_within, value_within}
@@ -27,7 +27,7 @@ use Rattle.stats_file.specs.Rules.{IsList}
 
 -- ---- compressed lists
 
-positive_from : (k : ℕ) (f : List ℕ) → IsFalling f → All (λ x. 0 < x) f → (n m : ℕ) → AllByRecursion (λ x. 0 < x) (compressed_from k f n m)
+positive_from : (k : ℕ) (f : List ℕ) → IsDescending f → All (λ x. 0 < x) f → (n m : ℕ) → AllByRecursion (λ x. 0 < x) (compressed_from k f n m)
 positive_from k f falls positive zero m = tt
 positive_from k f falls positive (suc n) m =
     let next : ℕ = min (slope k f m) (sum f - m) in
@@ -35,22 +35,22 @@ positive_from k f falls positive (suc n) m =
     (λ e. (omega (arith, ltb-true m (sum f) e, slope_pos k f falls positive m (ltb-true m (sum f) e)), positive_from k f falls positive n (m + next)))
     (λ e. tt)
 
-pub is_compressed : (k : ℕ) (f : List ℕ) (rows : ℕ) → IsFalling f → All (λ x. 0 < x) f → sum (compressed k f) ≤ rows → IsList rows (compressed k f)
+pub is_compressed : (k : ℕ) (f : List ℕ) (rows : ℕ) → IsDescending f → All (λ x. 0 < x) f → sum (compressed k f) ≤ rows → IsList rows (compressed k f)
 is_compressed k f rows falls positive within = record {
-  falls = IsFalling-compressed k f falls;
+  falls = IsDescending-compressed k f falls;
   positive = All-from_recursion (λ x. 0 < x) (compressed k f) (positive_from k f falls positive (length f) 0);
   within = within;
 }
 
 pub degrees_listed : (k rows : ℕ) (keys : List ℕ) → length keys ≤ rows → IsList rows (compressed_degrees k keys)
 degrees_listed k rows keys few =
-    is_compressed k (degree_list keys) rows (IsFalling-degree_list keys) (degree_list_positive keys) (omega (arith, sum-compressed_degrees k keys, few))
+    is_compressed k (degree_list keys) rows (IsDescending-degree_list keys) (degree_list_positive keys) (omega (arith, sum-compressed_degrees k keys, few))
 
 positive_rest : (pairs : List (ℕ × ℕ)) → AllByRecursion (λ x. 0 < x) (uncompressed_rest pairs)
 positive_rest pairs =
     positive-cut_at (maxima (map (λ value. degree_list (keys_with value pairs)) (remaining (filter_values pairs))))
     (greatest (map (degree (filter_values pairs)) (remaining (filter_values pairs))))
-    (IsFalling-maxima (λ value. degree_list (keys_with value pairs)) (λ w. IsFalling-degree_list (keys_with w pairs)) (remaining (filter_values pairs)))
+    (IsDescending-maxima (λ value. degree_list (keys_with value pairs)) (λ w. IsDescending-degree_list (keys_with w pairs)) (remaining (filter_values pairs)))
 
 -- ---- the lists that are made from rows, each with a filter value and a joined key
 
@@ -75,6 +75,6 @@ module _ (k n : ℕ) (pairs : List (ℕ × ℕ)) (few : length pairs ≤ n) wher
   pub rest_listed : IsList n (rest k pairs)
   rest_listed =
       subst (IsList n) (sym (rest-is k pairs))
-      (is_compressed k (uncompressed_rest pairs) n (IsFalling-uncompressed_rest pairs)
+      (is_compressed k (uncompressed_rest pairs) n (IsDescending-uncompressed_rest pairs)
       (All-from_recursion (λ x. 0 < x) (uncompressed_rest pairs) (positive_rest pairs))
       (omega (arith, ap sum (rest-is k pairs), ap sum (of_none k pairs), value_within k pairs None, few)))

@@ -22,7 +22,7 @@ use Rattle.sql_meaning.specs.Databases.{AreCells}
 use Rattle.csv_tables.proofs.TableFacts.{columns_long}
 use Rattle.sql_meaning.proofs.ColumnFacts.{column_at}
 use Rattle.stats_file.specs.declared.types.Datum.{Datum}
-use Rattle.stats_file.specs.declared.types.Pair.{Pair}
+use Rattle.stats_file.specs.declared.types.PairStats.{PairStats}
 use Rattle.stats_file_of_query.specs.Data.{datum_of}
 use Rattle.stats_file_of_query.specs.Pairs.{frequent_in, pair_in_cells}
 
@@ -113,7 +113,7 @@ module _ (texts : List (List ℕ)) (cells : Cells) (are : AreCells texts cells) 
 
   pub pair_made : (stats : ColumnStats) (frequent_read : List FrequentList) (cuts_read : List ℕ) (values : List (Datum × List ℕ)) (ends : List Datum) → stats ≡ made
       → frequent_read ≡ stats.frequent → cuts_read ≡ stats.cuts → values ≡ map (frequent_in value) frequent_read → ends ≡ map value cuts_read
-      → (let p : Pair = record { filter = filter; joined = joined; whole = stats.whole; frequent = values; rest = stats.rest; cuts = ends; nodes = stats.nodes } in p)
+      → (let p : PairStats = record { filter = filter; joined = joined; whole = stats.whole; frequent = values; rest = stats.rest; cuts = ends; nodes = stats.nodes } in p)
       ≡ pair_in_cells texts cells accuracy filter joined
   pair_made stats frequent_read cuts_read values ends stats_is read_is also_is values_are ends_are =
       rw (values_are, ends_are, read_is, also_is, stats_is ∙ made_is, sym kind_is, keys_are) refl

@@ -37,7 +37,7 @@ use Rattle.level_bounds.proofs.Lists.{map_both}
 use Rattle.relabelling_laws.proofs.Ordered.{All-cuts, All-frequent}
 use Rattle.relabelling_laws.proofs.Rows.{columns_are}
 use Rattle.stats_file.specs.declared.types.Datum.{Datum}
-use Rattle.stats_file.specs.declared.types.Pair.{Pair}
+use Rattle.stats_file.specs.declared.types.PairStats.{PairStats}
 use Rattle.stats_file.specs.Rules.{AreFrequent, IsList, IsOfKind, IsPair, IsHistogram, IsHistogramOf, datum_cmp}
 use Rattle.table_stats.proofs.EqualValues.{equal_itself, is_equal}
 use Rattle.stats_file_of_query.specs.Data.{datum_of, value_of}

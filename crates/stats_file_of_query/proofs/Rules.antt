@@ -23,13 +23,13 @@ use Rattle.relabelling_laws.proofs.Rows.{columns_are}
 use Rattle.sql_meaning.specs.Tables.{cells_of, row_counts, tables_of}
 use Rattle.sql_meaning.proofs.ColumnFacts.{column_at}
 use Rattle.sql_meaning.proofs.LoopFacts.{rows_are}
-use Rattle.stats_file.specs.declared.types.Pair.{Pair}
+use Rattle.stats_file.specs.declared.types.PairStats.{PairStats}
 use Rattle.stats_file.specs.declared.types.StatsFile.{StatsFile}
 use Rattle.stats_file.specs.declared.types.TableStats.{TableStats}
-use Rattle.stats_file.specs.Rules.{Agree, HaveSameFilterCounts, IsPair, IsSection, KeepsRules, StandsBefore}
+use Rattle.stats_file.specs.Rules.{Agree, HaveSameFilterCounts, IsPair, IsSection, KeepsRules, ComesBefore}
 use Rattle.stats_file_of_query.specs.declared.column_pairs.ColumnPair.{ColumnPair}
 use Rattle.stats_file_of_query.specs.Needs.{needed_of_table, table_of}
-use Rattle.stats_file_of_query.specs.Databases.{IsOverSchema, section_of_cells, sections_of_cells}
+use Rattle.stats_file_of_query.specs.Databases.{FitsQueryAndTexts, section_of_cells, sections_of_cells}
 use Rattle.stats_file_of_query.specs.Files.{file_of_query, first_entry, for_each_pair, for_each_table, section_of_table, table_at}
 use Rattle.stats_file_of_query.specs.Pairs.{datum_of_cell, pair_in_cells}
 use Rattle.stats_file_of_query.proofs.Agreeing.{count_same, whole_same}
@@ -88,20 +88,20 @@ module _ (texts : List (List ℕ)) (differ : HaveDifferentCharacters texts) (utf
   }
 
   module _ (needed : List ColumnPair) where
-    abbrev made : List Pair
+    abbrev made : List PairStats
     made = for_each_pair (pair_in_cells texts cells accuracy) needed (length cells.kinds)
 
     pub all_kept : All (IsPair table cells.rows) made
     all_kept = all_made (IsPair table cells.rows) (pair_in_cells texts cells accuracy) needed (length cells.kinds) pair_kept
 
-    pub in_order : AllPairs StandsBefore made
+    pub in_order : AllPairs ComesBefore made
     in_order =
-        pairs_in_order (pair_in_cells texts cells accuracy) needed (length cells.kinds) StandsBefore (λ filter joined other also before. inl before)
+        pairs_in_order (pair_in_cells texts cells accuracy) needed (length cells.kinds) ComesBefore (λ filter joined other also before. inl before)
         (λ filter joined also before. inr (refl, before))
 
     pub all_agree : AllPairs Agree made
     all_agree i j d before low =
-        all_made (λ (a : Pair). All (Agree a) made) (pair_in_cells texts cells accuracy) needed (length cells.kinds)
+        all_made (λ (a : PairStats). All (Agree a) made) (pair_in_cells texts cells accuracy) needed (length cells.kinds)
         (λ filter joined has_filter has_joined.
         all_made (Agree (pair_in_cells texts cells accuracy filter joined)) (pair_in_cells texts cells accuracy) needed (length cells.kinds)
         (λ other also has_other has_also. agree filter joined other also has_filter has_joined has_other has_also))
@@ -109,7 +109,7 @@ module _ (texts : List (List ℕ)) (differ : HaveDifferentCharacters texts) (utf
 
 -- ---- the file
 
-module _ (schema : Schema) (query : Query) (db : Database) (over : IsOverSchema schema query db) (accuracy : ℕ) where
+module _ (schema : Schema) (query : Query) (db : Database) (over : FitsQueryAndTexts schema query db) (accuracy : ℕ) where
   section_kept : (table entry : ℕ) → table < length schema.tables → entry < length query.from → table_of query entry ≡ table
       → IsSection schema (section_of_cells query db accuracy table entry)
   section_kept table entry within low is =

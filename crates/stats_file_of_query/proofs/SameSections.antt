@@ -13,14 +13,14 @@ use Rattle.schema_types.specs.declared.types.Kind.TheVariants as kind
 use Rattle.schema_types.specs.declared.types.Schema.{Schema}
 use Rattle.sql_meaning.specs.Tables.{cells_of, row_counts, tables_of}
 use Rattle.sql_meaning.proofs.LoopFacts.{rows_are}
-use Rattle.stats_file.specs.declared.types.Pair.{Pair}
+use Rattle.stats_file.specs.declared.types.PairStats.{PairStats}
 use Rattle.stats_file.specs.declared.types.TableStats.{TableStats}
 use Rattle.table_stats.specs.Columns.{column_values}
 use Rattle.table_stats.proofs.DatabaseColumns.{column_is, values_are}
 use Rattle.stats_file_of_query.specs.declared.column_pairs.ColumnPair.{ColumnPair}
 use Rattle.stats_file_of_query.specs.ColumnPairs.{is_pair}
 use Rattle.stats_file_of_query.specs.Needs.{needed_of_table, table_of}
-use Rattle.stats_file_of_query.specs.Databases.{IsOverSchema, section_of_cells, sections_of_cells}
+use Rattle.stats_file_of_query.specs.Databases.{FitsQueryAndTexts, section_of_cells, sections_of_cells}
 use Rattle.stats_file_of_query.specs.Files.{column_count, first_entry, for_each_pair, for_each_table, joined_with, section_of_table, table_at}
 use Rattle.stats_file_of_query.specs.Pairs.{pair_in_cells, pair_in_table, pair_of_values}
 use Rattle.stats_file_of_query.proofs.Finding.{found_in}
@@ -44,7 +44,7 @@ same_lists f g (x ∷ xs) alike =
     later : {X : Type 0} (x : X) (xs : List X) (i : ℕ) (d : X) → get_or (x ∷ xs) (i + 1) d ≡ get_or xs i d
     later x xs i d = let e : i + 1 ≡ suc i = omega arith in rw e refl
 
-pub same_pairs : (make other : ℕ → ℕ → Pair) (needed : List ColumnPair) (count : ℕ) → ((filter joined : ℕ) → filter < count → joined < count → make filter joined ≡ other filter joined)
+pub same_pairs : (make other : ℕ → ℕ → PairStats) (needed : List ColumnPair) (count : ℕ) → ((filter joined : ℕ) → filter < count → joined < count → make filter joined ≡ other filter joined)
     → for_each_pair make needed count ≡ for_each_pair other needed count
 same_pairs make other needed count alike =
     same_lists (λ column. map (make column) (joined_with needed count column)) (λ column. map (other column) (joined_with needed count column)) (range_with_len 0 count)
@@ -59,7 +59,7 @@ first_is query table entry is =
     let found = found_in (λ entry. table_of query entry == table) (range_with_len 0 (length query.from)) entry is in
     (omega (arith, (range_within 0 (length query.from) entry found.0).1), eqb-true (table_of query entry) table found.1)
 
-module _ (schema : Schema) (query : Query) (db : Database) (over : IsOverSchema schema query db) (accuracy : ℕ) where
+module _ (schema : Schema) (query : Query) (db : Database) (over : FitsQueryAndTexts schema query db) (accuracy : ℕ) where
   pub slot_there : (entry : ℕ) → entry < length query.from → entry < length db.slots
   slot_there entry low = omega (arith, low, over.of.database.entries)
 
@@ -85,7 +85,7 @@ module _ (schema : Schema) (query : Query) (db : Database) (over : IsOverSchema 
   kinds_are entry low =
       ap (λ s. length s) (over.of.cells entry low).kinds ∙ length-map (table_at schema (table_of query entry)).columns (λ column. column.kind)
 
-  section_parts : (table rows rows' : ℕ) (pairs pairs' : List Pair) → rows ≡ rows' → pairs ≡ pairs'
+  section_parts : (table rows rows' : ℕ) (pairs pairs' : List PairStats) → rows ≡ rows' → pairs ≡ pairs'
       → (let s : TableStats = record { table = table; rows = rows; pairs = pairs } in s) ≡ record { table = table; rows = rows'; pairs = pairs' }
   section_parts table rows rows' pairs pairs' h k = rw (h, k) refl
 

@@ -26,8 +26,8 @@ use Rattle.relabelling_laws.proofs.Columns.{cuts_are, frequent_is, its_own}
 use Rattle.relabelling_laws.proofs.Ordered.{All-cuts, All-frequent}
 use Rattle.relabelling_laws.proofs.Rows.{columns_are, node_is, rest_is, value_is, whole_is}
 use Rattle.stats_file.specs.declared.types.Datum.{Datum}
-use Rattle.stats_file.specs.declared.types.Pair.{Pair}
-use Rattle.table_stats.specs.Columns.{first_row, numbered, paired, row_le, value_of_row}
+use Rattle.stats_file.specs.declared.types.PairStats.{PairStats}
+use Rattle.table_stats.specs.Columns.{first_row, as_first_rows, paired, row_le, value_of_row}
 use Rattle.table_stats.proofs.CellColumns.{cell_values, keeps_order, number_of, numbers_of_cells, one_to_one}
 use Rattle.table_stats.proofs.EqualValues.{equal_itself, is_equal}
 use Rattle.table_stats.proofs.FirstRows.{first_has, first_there}
@@ -38,7 +38,7 @@ use Rattle.stats_file_of_query.specs.Pairs.{datum_of_row, frequent_in, pair_of, 
 
 pub same_parts : (filter joined : ℕ) (all all' rest rest' : List ℕ) (frequent frequent' : List (Datum × List ℕ)) (cuts cuts' : List Datum) (nodes nodes' : List (List ℕ))
     → all ≡ all' → frequent ≡ frequent' → rest ≡ rest' → cuts ≡ cuts' → nodes ≡ nodes'
-    → (let p : Pair = record { filter = filter; joined = joined; whole = all; frequent = frequent; rest = rest; cuts = cuts; nodes = nodes } in p)
+    → (let p : PairStats = record { filter = filter; joined = joined; whole = all; frequent = frequent; rest = rest; cuts = cuts; nodes = nodes } in p)
     ≡ record { filter = filter; joined = joined; whole = all'; frequent = frequent'; rest = rest'; cuts = cuts'; nodes = nodes' }
 same_parts filter joined all all' rest rest' frequent frequent' cuts cuts' nodes nodes' a f r c n = rw (a, f, r, c, n) refl
 
@@ -84,7 +84,7 @@ module _ (texts : List (List ℕ)) (differ : HaveDifferentCharacters texts) (kin
 
   rows_are : paired filters keys ≡ rows
   rows_are =
-      ap (λ (s : List ℕ). zip s (numbered keys)) (numbers_of_cells texts differ kind filter are_filter)
+      ap (λ (s : List ℕ). zip s (as_first_rows keys)) (numbers_of_cells texts differ kind filter are_filter)
       ∙ ap (λ (s : List ℕ). zip (map row_of filter) s) (numbers_of_cells texts differ other joined are_joined)
 
   as_high : length (map row_of filter) ≡ length (map key_of joined)

@@ -13,15 +13,15 @@ use Rattle.level_bounds.proofs.Lists.{from_filter_map, range_within}
 use Rattle.query_types.specs.declared.types.Query.{Query}
 use Rattle.schema_types.specs.declared.types.Schema.{Schema}
 use Rattle.sql_meaning.specs.Tables.{Tables, no_cells, tables_of}
-use Rattle.stats_file.specs.declared.types.Pair.{Pair}
+use Rattle.stats_file.specs.declared.types.PairStats.{PairStats}
 use Rattle.stats_file.specs.declared.types.TableStats.{TableStats}
 use Rattle.table_stats.specs.Columns.{column_values}
-use Rattle.table_stats.specs.Keys.{TellsValues}
+use Rattle.table_stats.specs.Keys.{SeparatesValues}
 use Rattle.table_stats.proofs.FewerRows.{all_in_range}
 use Rattle.stats_file_of_query.specs.declared.column_pairs.ColumnPair.{ColumnPair}
 use Rattle.stats_file_of_query.specs.ColumnPairs.{is_pair}
 use Rattle.stats_file_of_query.specs.Needs.{needed_of_table, table_of}
-use Rattle.stats_file_of_query.specs.Databases.{IsOverSchema}
+use Rattle.stats_file_of_query.specs.Databases.{FitsQueryAndTexts}
 use Rattle.stats_file_of_query.specs.Files.{column_count, file_of_query, first_entry, for_each_pair, joined_with, section_of_table}
 use Rattle.stats_file_of_query.specs.Pairs.{pair_in_table, pair_of_values}
 use Rattle.stats_file_of_query.specs.Standing.{PairStandsFor, SectionStandsFor, ShareRows, StandsFor, section_of}
@@ -32,7 +32,7 @@ use Rattle.stats_file_of_query.proofs.Walks.{kept_below}
 
 -- ---- a property of each pair that is made, for the list of needed pairs
 
-pub all_made : (P : Pair → Type 0) (make : ℕ → ℕ → Pair) (needed : List ColumnPair) (count : ℕ) → ((filter_column joined : ℕ) → filter_column < count → joined < count → P (make filter_column joined))
+pub all_made : (P : PairStats → Type 0) (make : ℕ → ℕ → PairStats) (needed : List ColumnPair) (count : ℕ) → ((filter_column joined : ℕ) → filter_column < count → joined < count → P (make filter_column joined))
     → All P (for_each_pair make needed count)
 all_made P make needed count each = of (range_with_len 0 count) (all_in_range (λ x. x < count) 0 count (λ x low. omega (arith, low)))
   where
@@ -61,10 +61,10 @@ module _ (schema : Schema) (query : Query) (tables : Tables) (share : ShareRows 
   section_stands table first entry low also is is_too =
       let same : tables first ≡ tables entry = share first entry low also (is ∙ sym is_too) in record {
         rows = ap (λ (rows : List Row). length rows) same;
-        pairs = all_made (λ (pair : Pair). (key : ℕ → ℕ) → TellsValues tables entry pair.joined key → PairStandsFor pair tables entry key)
+        pairs = all_made (λ (pair : PairStats). (key : ℕ → ℕ) → SeparatesValues tables entry pair.joined key → PairStandsFor pair tables entry key)
             (pair_in_table tables accuracy first) (needed_of_table query table) (column_count schema table)
             (λ filter_column joined has_filter has_joined key tells.
-            subst (λ (pair : Pair). PairStandsFor pair tables entry key)
+            subst (λ (pair : PairStats). PairStandsFor pair tables entry key)
             (sym (same_pair first entry filter_column joined same)) (pair_stands tables accuracy entry filter_column joined key tells));
       }
 
@@ -91,6 +91,6 @@ module _ (schema : Schema) (query : Query) (tables : Tables) (share : ShareRows 
 
 -- ---- the tables of a database
 
-pub share_rows : (schema : Schema) (query : Query) (db : Database) → IsOverSchema schema query db → ShareRows query (tables_of db)
+pub share_rows : (schema : Schema) (query : Query) (db : Database) → FitsQueryAndTexts schema query db → ShareRows query (tables_of db)
 share_rows schema query db over entry other low also same =
-    ap (λ slot. rows_of_cells db.pool (slice_index_or db.cells slot no_cells)) (over.of.database.one_place entry other low also same)
+    ap (λ slot. rows_of_cells db.pool (slice_index_or db.cells slot no_cells)) (over.of.database.same_slot entry other low also same)

@@ -31,9 +31,9 @@ use Rattle.relabelling_laws.proofs.Rows.{columns_are, of_rows}
 use Rattle.sql_meaning.specs.Tables.{Tables, row_counts}
 use Rattle.stats_file.specs.declared.types.Datum.{Datum}
 use Rattle.stats_file.specs.declared.types.Datum.TheVariants as datum
-use Rattle.stats_file.specs.declared.types.Pair.{Pair}
-use Rattle.table_stats.specs.Columns.{column_values, first_row, numbered, paired, row_le, value_of_row}
-use Rattle.table_stats.specs.Keys.{TellsValues}
+use Rattle.stats_file.specs.declared.types.PairStats.{PairStats}
+use Rattle.table_stats.specs.Columns.{column_values, first_row, as_first_rows, paired, row_le, value_of_row}
+use Rattle.table_stats.specs.Keys.{SeparatesValues}
 use Rattle.table_stats.specs.Statistics.{column_lists}
 use Rattle.table_stats.proofs.ColumnRows.{height, number_at, number_below, number_has, numbers_are, same_number}
 use Rattle.table_stats.proofs.Dominating.{lists_stand}
@@ -85,7 +85,7 @@ pick false true any d list other others found rest same is later = absurd (false
 pub numbered_pairs : (tables : Tables) (entry filter joined : ℕ) → paired (column_values tables entry filter) (column_values tables entry joined)
     ≡ zip (map (number_at tables entry filter) (range_with_len 0 (row_counts tables entry))) (map (number_at tables entry joined) (range_with_len 0 (row_counts tables entry)))
 numbered_pairs tables entry filter joined =
-    ap (λ (s : List ℕ). zip s (numbered (column_values tables entry joined))) (numbers_are tables entry filter)
+    ap (λ (s : List ℕ). zip s (as_first_rows (column_values tables entry joined))) (numbers_are tables entry filter)
     ∙ ap (λ (s : List ℕ). zip (map (number_at tables entry filter) (range_with_len 0 (row_counts tables entry))) s) (numbers_are tables entry joined)
 
 module _ (tables : Tables) (accuracy entry filter_column joined : ℕ) where
@@ -98,7 +98,7 @@ module _ (tables : Tables) (accuracy entry filter_column joined : ℕ) where
   abbrev pairs : List (ℕ × ℕ)
   pairs = paired filters keys
 
-  abbrev pair : Pair
+  abbrev pair : PairStats
   pair = pair_in_table tables accuracy entry filter_column joined
 
   abbrev rows : List ℕ
@@ -107,17 +107,17 @@ module _ (tables : Tables) (accuracy entry filter_column joined : ℕ) where
   abbrev le : ℕ → ℕ → Bool
   le = row_le filters
 
-  as_high : length (numbered filters) ≡ length (numbered keys)
+  as_high : length (as_first_rows filters) ≡ length (as_first_rows keys)
   as_high = omega (arith, length-map filters (first_row filters), length-map keys (first_row keys), height tables entry filter_column, height tables entry joined)
 
-  pub firsts : filter_values pairs ≡ numbered filters
-  firsts = (columns_are (numbered filters) (numbered keys) as_high).0
+  pub firsts : filter_values pairs ≡ as_first_rows filters
+  firsts = (columns_are (as_first_rows filters) (as_first_rows keys) as_high).0
 
-  pub seconds : joined_keys pairs ≡ numbered keys
-  seconds = (columns_are (numbered filters) (numbered keys) as_high).1
+  pub seconds : joined_keys pairs ≡ as_first_rows keys
+  seconds = (columns_are (as_first_rows filters) (as_first_rows keys) as_high).1
 
   many : length pairs ≡ row_counts tables entry
-  many = omega (arith, length-zip (numbered filters) (numbered keys), as_high, length-map filters (first_row filters), height tables entry filter_column)
+  many = omega (arith, length-zip (as_first_rows filters) (as_first_rows keys), as_high, length-map filters (first_row filters), height tables entry filter_column)
 
   sums : sum (whole accuracy pairs) ≡ row_counts tables entry
   sums = sum-whole accuracy pairs ∙ many
@@ -147,7 +147,7 @@ module _ (tables : Tables) (accuracy entry filter_column joined : ℕ) where
               false≢true (sym e ∙ equal_chain w its value has (equal_firsts filters its value (number_below tables entry filter_column row low) same))))
         ]
 
-    all_alike : AllByRecursion IsAlike (numbered filters)
+    all_alike : AllByRecursion IsAlike (as_first_rows filters)
     all_alike =
         subst (AllByRecursion IsAlike) (sym (numbers_are tables entry filter_column))
         (all_from IsAlike (map (number_at tables entry filter_column) rows)
@@ -179,7 +179,7 @@ module _ (tables : Tables) (accuracy entry filter_column joined : ℕ) where
   column_cuts = cuts le (filter_values pairs)
 
   same_leaf : (row : ℕ) → row < row_counts tables entry
-      → leaf_of_value pair (value_in_row tables entry filter_column row) ≡ leaf_of le (numbered filters) (number_at tables entry filter_column row)
+      → leaf_of_value pair (value_in_row tables entry filter_column row) ≡ leaf_of le (as_first_rows filters) (number_at tables entry filter_column row)
   same_leaf row low =
       let its : Value = value_in_row tables entry filter_column row in
       let n : ℕ = number_at tables entry filter_column row in
@@ -194,7 +194,7 @@ module _ (tables : Tables) (accuracy entry filter_column joined : ℕ) where
       ∙ ap (λ (s : List ℕ). leaf_of le s n) firsts
 
   abbrev holds : ℕ → ℕ → ℕ → Bool
-  holds size leaf row = in_node size leaf (leaf_of le (numbered filters) (number_at tables entry filter_column row))
+  holds size leaf row = in_node size leaf (leaf_of le (as_first_rows filters) (number_at tables entry filter_column row))
 
   node_dominates : (size leaf : ℕ) → DominatesKeys (lists.list_of_node le accuracy pairs size leaf) (map (number_at tables entry joined) (filter (holds size leaf) rows))
   unfolding lists.list_of_node
@@ -209,7 +209,7 @@ module _ (tables : Tables) (accuracy entry filter_column joined : ℕ) where
 
   -- ---- any keys that are equal exactly if the values of the joined column are
 
-  module _ (key : ℕ → ℕ) (tells : TellsValues tables entry joined key) where
+  module _ (key : ℕ → ℕ) (tells : SeparatesValues tables entry joined key) where
     same_key : (row other : ℕ) → row < row_counts tables entry → other < row_counts tables entry
         → (number_at tables entry joined row ≡ number_at tables entry joined other) ↔ (key row ≡ key other)
     same_key row other low also = (

@@ -41,27 +41,27 @@ one_list f n old new before added =
 pub no_list : {X : Type 0} (f : ℕ → List X) (n : ℕ) (old new : List X) → old ≡ flat_map f (range_with_len 0 n) → f n ≡ [] → new ≡ old → new ≡ flat_map f (range_with_len 0 (n + 1))
 no_list f n old new before none same = one_list f n old new before (same ∙ sym (append-nil old) ∙ ap (λ s. old ++ s) (sym none))
 
-pub one_if : {X : Type 0} (b : ℕ → Bool) (f : ℕ → List X) (n : ℕ) (old new : List X) → old ≡ flat_map (λ e. if b e then f e else []) (range_with_len 0 n) → b n ≡ true → new ≡ old ++ f n
+pub append_if_passes : {X : Type 0} (b : ℕ → Bool) (f : ℕ → List X) (n : ℕ) (old new : List X) → old ≡ flat_map (λ e. if b e then f e else []) (range_with_len 0 n) → b n ≡ true → new ≡ old ++ f n
     → new ≡ flat_map (λ e. if b e then f e else []) (range_with_len 0 (n + 1))
-one_if b f n old new before is added =
+append_if_passes b f n old new before is added =
     one_list (λ e. if b e then f e else []) n old new before (added ∙ ap (λ s. old ++ s) (sym (ap (λ (t : Bool). if t then f n else []) is)))
 
-pub none_if : {X : Type 0} (b : ℕ → Bool) (f : ℕ → List X) (n : ℕ) (old new : List X) → old ≡ flat_map (λ e. if b e then f e else []) (range_with_len 0 n) → b n ≡ false → new ≡ old
+pub same_if_fails : {X : Type 0} (b : ℕ → Bool) (f : ℕ → List X) (n : ℕ) (old new : List X) → old ≡ flat_map (λ e. if b e then f e else []) (range_with_len 0 n) → b n ≡ false → new ≡ old
     → new ≡ flat_map (λ e. if b e then f e else []) (range_with_len 0 (n + 1))
-none_if b f n old new before is same = no_list (λ e. if b e then f e else []) n old new before (ap (λ (t : Bool). if t then f n else []) is) same
+same_if_fails b f n old new before is same = no_list (λ e. if b e then f e else []) n old new before (ap (λ (t : Bool). if t then f n else []) is) same
 
 -- ---- an item is made for some of the numbers
 
-pub one_made : {X : Type 0} (f : ℕ → Option X) (n : ℕ) (old new : List X) (x : X) → old ≡ filter_map f (range_with_len 0 n) → f n ≡ Some x → new ≡ old ++ x ∷ []
+pub append_if_some : {X : Type 0} (f : ℕ → Option X) (n : ℕ) (old new : List X) (x : X) → old ≡ filter_map f (range_with_len 0 n) → f n ≡ Some x → new ≡ old ++ x ∷ []
     → new ≡ filter_map f (range_with_len 0 (n + 1))
-one_made f n old new x before made pushed =
+append_if_some f n old new x before made pushed =
     let one : filter_map f (n ∷ []) ≡ x ∷ [] = rw made refl in
     pushed ∙ ap (λ s. s ++ x ∷ []) before ∙ ap (λ s. filter_map f (range_with_len 0 n) ++ s) (sym one)
     ∙ sym (filter_map-append f (range_with_len 0 n) (n ∷ [])) ∙ ap (filter_map f) (sym (range_more n))
 
-pub none_made : {X : Type 0} (f : ℕ → Option X) (n : ℕ) (old new : List X) → old ≡ filter_map f (range_with_len 0 n) → f n ≡ None → new ≡ old
+pub same_if_none : {X : Type 0} (f : ℕ → Option X) (n : ℕ) (old new : List X) → old ≡ filter_map f (range_with_len 0 n) → f n ≡ None → new ≡ old
     → new ≡ filter_map f (range_with_len 0 (n + 1))
-none_made f n old new before none same =
+same_if_none f n old new before none same =
     let nothing : filter_map f (n ∷ []) ≡ [] = rw none refl in
     same ∙ before ∙ sym (append-nil (filter_map f (range_with_len 0 n))) ∙ ap (λ s. filter_map f (range_with_len 0 n) ++ s) (sym nothing)
     ∙ sym (filter_map-append f (range_with_len 0 n) (n ∷ [])) ∙ ap (filter_map f) (sym (range_more n))

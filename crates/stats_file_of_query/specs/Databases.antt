@@ -16,15 +16,15 @@ use Rattle.stats_file_of_query.specs.Files.{for_each_pair, for_each_table, table
 use Rattle.stats_file_of_query.specs.Pairs.{pair_in_cells}
 
 -- the query is a query of the schema, and the database fits the query; each entry has the cells of its table
-pub record IsReadOver (schema : Schema) (query : Query) (db : Database) : Type 0 where
+pub record FitsQuery (schema : Schema) (query : Query) (db : Database) : Type 0 where
   pub schema_is : IsValid schema
   pub query_is : IsOf schema query
   pub database : IsDatabaseOf query db
   pub cells : (entry : ℕ) → entry < length query.from → AreCellsOf (table_at schema (table_of query entry)) db.pool (cells_of db entry)
 
 -- moreover, the pool's texts are UTF-8, and no two texts have the same characters. Every pool has these two properties
-pub record IsOverSchema (schema : Schema) (query : Query) (db : Database) : Type 0 where
-  pub of : IsReadOver schema query db
+pub record FitsQueryAndTexts (schema : Schema) (query : Query) (db : Database) : Type 0 where
+  pub of : FitsQuery schema query db
   pub texts : All IsUtf8 db.pool
   pub differ : HaveDifferentCharacters db.pool
 

@@ -13,7 +13,7 @@ use Rattle.column_stats.specs.Pairs.{kind_of_column, rows_of_pair}
 use Rattle.column_stats.specs.Stats.{frequent_lists}
 use Rattle.sql_meaning.specs.Tables.{Tables}
 use Rattle.stats_file.specs.declared.types.Datum.{Datum}
-use Rattle.stats_file.specs.declared.types.Pair.{Pair}
+use Rattle.stats_file.specs.declared.types.PairStats.{PairStats}
 use Rattle.table_stats.specs.Columns.{column_values, paired, row_le, value_of_row}
 use Rattle.stats_file_of_query.specs.Data.{datum_of}
 
@@ -23,7 +23,7 @@ frequent_in value_of frequent = (value_of frequent.cell, frequent.list)
 
 -- the statistics of rows, each with a filter value and a joined key, at an accuracy. Filter values are coded by numbers; `at_most` is the order of
 -- these numbers, and `value_of` gives the value of a number. `filter` and `joined` are the positions of the two columns in their table
-abbrev pub pair_of : (ℕ → ℕ → Bool) → (ℕ → Datum) → ℕ → List (ℕ × ℕ) → ℕ → ℕ → Pair
+abbrev pub pair_of : (ℕ → ℕ → Bool) → (ℕ → Datum) → ℕ → List (ℕ × ℕ) → ℕ → ℕ → PairStats
 pair_of at_most value_of accuracy rows filter joined = record {
   filter = filter;
   joined = joined;
@@ -39,11 +39,11 @@ abbrev pub datum_of_row : List Value → ℕ → Datum
 datum_of_row values row = datum_of (value_of_row values row)
 
 -- the statistics of two columns of values. The number of a value is the first row that has this value
-abbrev pub pair_of_values : ℕ → List Value → List Value → ℕ → ℕ → Pair
+abbrev pub pair_of_values : ℕ → List Value → List Value → ℕ → ℕ → PairStats
 pair_of_values accuracy filters keys filter joined = pair_of (row_le filters) (datum_of_row filters) accuracy (paired filters keys) filter joined
 
 -- the statistics of two columns of an entry's table
-abbrev pub pair_in_table : Tables → ℕ → ℕ → ℕ → ℕ → Pair
+abbrev pub pair_in_table : Tables → ℕ → ℕ → ℕ → ℕ → PairStats
 pair_in_table tables accuracy entry filter joined =
     pair_of_values accuracy (column_values tables entry filter) (column_values tables entry joined) filter joined
 
@@ -52,6 +52,6 @@ abbrev pub datum_of_cell : List (List ℕ) → Cells → ℕ → ℕ → Datum
 datum_of_cell texts cells column cell = datum_of (value_of_cell texts (kind_of_column cells column) cell)
 
 -- the statistics of two columns of a table's cells. The number of a value is its cell
-abbrev pub pair_in_cells : List (List ℕ) → Cells → ℕ → ℕ → ℕ → Pair
+abbrev pub pair_in_cells : List (List ℕ) → Cells → ℕ → ℕ → ℕ → PairStats
 pair_in_cells texts cells accuracy filter joined =
     pair_of (cell_le texts (kind_of_column cells filter)) (datum_of_cell texts cells filter) accuracy (rows_of_pair cells filter joined) filter joined

@@ -13,10 +13,10 @@ use Rattle.query_types.specs.declared.types.Query.{Query}
 use Rattle.sql_meaning.specs.Tables.{Tables, row_counts}
 use Rattle.stats_file.specs.declared.types.Datum.{Datum}
 use Rattle.stats_file.specs.declared.types.Datum.TheVariants as datum
-use Rattle.stats_file.specs.declared.types.Pair.{Pair}
+use Rattle.stats_file.specs.declared.types.PairStats.{PairStats}
 use Rattle.stats_file.specs.declared.types.StatsFile.{StatsFile}
 use Rattle.stats_file.specs.declared.types.TableStats.{TableStats}
-use Rattle.table_stats.specs.Keys.{TellsValues}
+use Rattle.table_stats.specs.Keys.{SeparatesValues}
 use Rattle.stats_file_of_query.specs.Needs.{table_of}
 use Rattle.stats_file_of_query.specs.Data.{value_of}
 
@@ -27,24 +27,24 @@ abbrev pub is_value : Value → Datum → Bool
 is_value value found = is_eq (value_cmp (value_of found) value)
 
 -- the list of a value: the value's own list if it is frequent, otherwise the rest list
-abbrev pub list_of_value : Pair → Value → List ℕ
+abbrev pub list_of_value : PairStats → Value → List ℕ
 list_of_value pair value =
     option_map_or (λ (found : Datum × List ℕ). found.1) (find (λ (found : Datum × List ℕ). is_value value found.0) pair.frequent) pair.rest
 
 -- the leaf of a value: the last leaf whose cut is at most the value, or leaf 0 if no cut is
-abbrev pub leaf_cut : Pair → ℕ → Value
+abbrev pub leaf_cut : PairStats → ℕ → Value
 leaf_cut pair leaf = value_of (slice_index_or pair.cuts leaf (datum.Text []))
 
-abbrev pub leaf_of_value : Pair → Value → ℕ
+abbrev pub leaf_of_value : PairStats → Value → ℕ
 leaf_of_value pair value = last_place (λ leaf. value_le (leaf_cut pair leaf) value) (range_with_len 0 (length pair.cuts))
 
 -- the list of the node that has the size `size` and contains the leaf, or the empty list if there are no nodes
-abbrev pub list_of_node : Pair → ℕ → ℕ → List ℕ
+abbrev pub list_of_node : PairStats → ℕ → ℕ → List ℕ
 list_of_node pair size leaf = slice_index_or pair.nodes (node_place size leaf) []
 
 -- the list of the values from `low` to `high`: the list of the smallest node that contains the leaves of both. A range without a low end begins in leaf
 -- 0, and a range without a high end ends in leaf 31
-abbrev pub list_between : Pair → Option Value → Option Value → List ℕ
+abbrev pub list_between : PairStats → Option Value → Option Value → List ℕ
 list_between pair low high =
     let first = unwrap_or (option_map (leaf_of_value pair) low) 0 in
     let last = unwrap_or (option_map (leaf_of_value pair) high) 31 in
@@ -53,13 +53,13 @@ list_between pair low high =
 -- ---- the rows for which a pair, a section or a file stands
 
 -- whether the leaf of a row of an entry lies in the node that has the size `size` and contains `leaf`
-abbrev pub is_in_node : Pair → Tables → ℕ → ℕ → ℕ → ℕ → Bool
+abbrev pub is_in_node : PairStats → Tables → ℕ → ℕ → ℕ → ℕ → Bool
 is_in_node pair tables entry size leaf row = in_node size leaf (leaf_of_value pair (value_in_row tables entry pair.filter row))
 
 -- the pair stands for the rows of an entry's table, which have these keys in the joined column. The list of all rows sums to their number and dominates
 -- their keys. The list of each value, frequent or not, dominates the keys of the rows that have the value in the filter column. The list of each node
 -- dominates the keys of the rows whose leaf lies in the node
-pub record PairStandsFor (pair : Pair) (tables : Tables) (entry : ℕ) (key : ℕ → ℕ) : Type 0 where
+pub record PairStandsFor (pair : PairStats) (tables : Tables) (entry : ℕ) (key : ℕ → ℕ) : Type 0 where
   pub rows : sum pair.whole ≡ row_counts tables entry
   pub whole : DominatesKeys pair.whole (map key (range_with_len 0 (row_counts tables entry)))
   pub value : (value : Value)
@@ -71,7 +71,7 @@ pub record PairStandsFor (pair : Pair) (tables : Tables) (entry : ℕ) (key : �
 -- the values of the pair's joined column are
 pub record SectionStandsFor (section : TableStats) (tables : Tables) (entry : ℕ) : Type 0 where
   pub rows : section.rows ≡ row_counts tables entry
-  pub pairs : All (λ (pair : Pair). (key : ℕ → ℕ) → TellsValues tables entry pair.joined key → PairStandsFor pair tables entry key) section.pairs
+  pub pairs : All (λ (pair : PairStats). (key : ℕ → ℕ) → SeparatesValues tables entry pair.joined key → PairStandsFor pair tables entry key) section.pairs
 
 -- the section of a table, if the file has one
 abbrev pub section_of : StatsFile → ℕ → Option TableStats

@@ -3,7 +3,7 @@ ghost use Rattle.std.specs.Prelude.{◌≡◌, ◌≤◌, IfOk, length};
 ghost use Rattle.join_graph.specs.Conjuncts.{equalities_of, local_of};
 ghost use Rattle.sql_meaning.specs.Tables.{tables_of};
 ghost use Rattle.stats_file.specs.Rules.{KeepsRules};
-ghost use Rattle.stats_file_of_query.specs.Databases.{IsOverSchema, IsReadOver, sections_of_cells};
+ghost use Rattle.stats_file_of_query.specs.Databases.{FitsQueryAndTexts, FitsQuery, sections_of_cells};
 ghost use Rattle.stats_file_of_query.specs.Files.{file_of_query, first_entry};
 ghost use Rattle.stats_file_of_query.specs.Standing.{StandsFor};
 
@@ -39,7 +39,7 @@ fn sections_of(
     db: &Database,
     accuracy: Accuracy,
 ) -> Result<Seq<TableStats>, NoMemory>
-    requires over { IsOverSchema schema.now query.now db.now }
+    requires over { FitsQueryAndTexts schema.now query.now db.now }
     requires local { parts.now.local ≡ local_of query.now }
     requires equalities { parts.now.equalities ≡ equalities_of query.now }
     ensures { IfOk result (λ sections. sections ≡ sections_of_cells query.now db.now accuracy (length schema.now.tables)) }
@@ -64,7 +64,7 @@ pub fn stats_of(
     db: &Database,
     accuracy: Accuracy,
 ) -> Result<StatsFile, NoMemory>
-    requires over { IsReadOver schema.now query.now db.now }
+    requires over { FitsQuery schema.now query.now db.now }
     ensures file { IfOk result (λ file. file ≡ file_of_query schema.now query.now (tables_of db.now) accuracy) }
     // the file keeps the rules, so `write_stats` takes it
     ensures rules { IfOk result (KeepsRules schema.now) }

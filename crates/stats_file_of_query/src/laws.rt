@@ -5,13 +5,13 @@ ghost use Rattle.query_types.specs.declared.types.Query.{Query};
 ghost use Rattle.schema_types.specs.declared.types.Schema.{Schema};
 ghost use Rattle.sql_meaning.specs.Tables.{Tables, tables_of};
 ghost use Rattle.stats_file.specs.Rules.{KeepsRules};
-ghost use Rattle.stats_file_of_query.specs.Databases.{IsOverSchema};
+ghost use Rattle.stats_file_of_query.specs.Databases.{FitsQueryAndTexts};
 ghost use Rattle.stats_file_of_query.specs.Files.{file_of_query};
 ghost use Rattle.stats_file_of_query.specs.Standing.{ShareRows, StandsFor};
 
 /// The file of a query keeps the rules of files, so that it can be written and read back.
 pub fn files_keep_the_rules()
-    ensures { (schema : Schema) (query : Query) (db : Database) (accuracy : ℕ) → IsOverSchema schema query db → 0 < accuracy → accuracy ≤ 64
+    ensures { (schema : Schema) (query : Query) (db : Database) (accuracy : ℕ) → FitsQueryAndTexts schema query db → 0 < accuracy → accuracy ≤ 64
         → KeepsRules schema (file_of_query schema query (tables_of db) accuracy) }
 {}
 

@@ -14,7 +14,7 @@ use column_stats::{ColumnStats, gather_sorted};
 use cond_stats::FilterColumn;
 use csv_tables::{Cells, Pool};
 use limits::Accuracy;
-use stats_file::Pair;
+use stats_file::PairStats;
 use std::alloc::Global;
 
 /// How many rows a table has, which is below 2^32.
@@ -33,7 +33,7 @@ fn pair_of(
     filter: u32,
     joined: u32,
     accuracy: Accuracy,
-) -> Result<Pair, NoMemory>
+) -> Result<PairStats, NoMemory>
     requires cells { AreCells pool.now cells.now }
     requires sorted { IsColumnIn pool.now cells.now filter sorted.now }
     requires joined { joined < length cells.now.kinds }
@@ -51,7 +51,7 @@ fn pair_of(
         nodes,
         ..
     } = stats;
-    Ok(Pair {
+    Ok(PairStats {
         filter,
         joined,
         whole,
@@ -70,7 +70,7 @@ pub fn pair_of_columns(
     filter: u32,
     joined: u32,
     accuracy: Accuracy,
-) -> Result<Pair, NoMemory>
+) -> Result<PairStats, NoMemory>
     requires cells { AreCells pool.now cells.now }
     requires filter { filter < length cells.now.kinds }
     requires joined { joined < length cells.now.kinds }
@@ -116,7 +116,7 @@ fn add_each(
     filter: u32,
     joined: &[u32],
     accuracy: Accuracy,
-    pairs: &mut Seq<Pair>,
+    pairs: &mut Seq<PairStats>,
 ) -> Result<(), NoMemory>
     requires cells { AreCells pool.now cells.now }
     requires filter { filter < length cells.now.kinds }
@@ -146,7 +146,7 @@ pub(crate) fn add_pairs(
     needed: &[ColumnPair],
     filter: u32,
     accuracy: Accuracy,
-    pairs: &mut Seq<Pair>,
+    pairs: &mut Seq<PairStats>,
 ) -> Result<(), NoMemory>
     requires cells { AreCells pool.now cells.now }
     requires filter { filter < length cells.now.kinds }

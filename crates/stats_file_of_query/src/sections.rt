@@ -17,7 +17,7 @@ use join_graph::Parts;
 use limits::Accuracy;
 use predicate_bounds::read_steps;
 use query_types::Query;
-use stats_file::{Pair, TableStats};
+use stats_file::{PairStats, TableStats};
 use std::alloc::Global;
 
 // Appends the pairs of a filter column and a joined column whose statistics the bounds of an entry need.
@@ -74,7 +74,7 @@ fn pairs_of(
     cells: &Cells,
     needed: &[ColumnPair],
     accuracy: Accuracy,
-) -> Result<Seq<Pair>, NoMemory>
+) -> Result<Seq<PairStats>, NoMemory>
     requires cells { AreCells pool.now cells.now }
     requires few { length cells.now.kinds < 2 ^ 32 }
     ensures { IfOk result (λ pairs. pairs ≡ for_each_pair (pair_in_cells pool.now cells.now accuracy) needed.now (length cells.now.kinds)) }

@@ -27,9 +27,9 @@ pub not : {P : Type 0} → Decided P → Decided (P → ⊥)
 not (inl p) = inr (λ fails. fails p)
 not (inr fails) = inl fails
 
-pub alike : {P Q : Type 0} → (P → Q) → (Q → P) → Decided P → Decided Q
-alike to from (inl p) = inl (to p)
-alike to from (inr fails) = inr (λ q. fails (from q))
+pub decided_alike : {P Q : Type 0} → (P → Q) → (Q → P) → Decided P → Decided Q
+decided_alike to from (inl p) = inl (to p)
+decided_alike to from (inr fails) = inr (λ q. fails (from q))
 
 -- ---- decisions whether two values are equal
 

@@ -7,7 +7,7 @@ use Rattle.stats_words.proofs.ListWordFacts.{last_run, run_more}
 use Rattle.stats_reading.specs.declared.line.LineKind.{LineKind}
 use Rattle.stats_reading.specs.declared.line.LineKind.TheVariants as kind
 use Rattle.stats_reading.specs.Kinds.{front, has_two, words_text, AreLineParts, IsLineOf}
-use Rattle.stats_lines.proofs.Deciding.{alike, both, either, is_true, not, same_number, same_numbers, some_split, Decided}
+use Rattle.stats_lines.proofs.Deciding.{decided_alike, both, either, is_true, not, same_number, same_numbers, some_split, Decided}
 
 -- ---- words
 
@@ -22,7 +22,7 @@ signed_numeral word = either (numeral word) (behind word)
 
     behind : (w : List ℕ) → Decided (Negative w)
     behind [] = inr (λ h. let e = h.1 in absurd (cc))
-    behind (c ∷ w) = alike to from (both (same_number c 45) (both (numeral w) (not (same_numbers w (codes "0")))))
+    behind (c ∷ w) = decided_alike to from (both (same_number c 45) (both (numeral w) (not (same_numbers w (codes "0")))))
       where
         to : (c ≡ 45) × (IsNumeral w × (w ≡ codes "0" → ⊥)) → Negative (c ∷ w)
         to h = (w, ap (λ (x : ℕ). x ∷ w) h.0, h.1.0, h.1.1)
@@ -35,7 +35,7 @@ signed_numeral word = either (numeral word) (behind word)
 
 hex_word : (word : List ℕ) → Decided (IsHexWord word)
 hex_word [] = inr (λ h. let e = h.1 in absurd (cc))
-hex_word (c ∷ w) = alike to from (both (same_number c 120) (is_true (are_hex_pairs w)))
+hex_word (c ∷ w) = decided_alike to from (both (same_number c 120) (is_true (are_hex_pairs w)))
   where
     to : (c ≡ 120) × (are_hex_pairs w ≡ true) → IsHexWord (c ∷ w)
     to h = (w, ap (λ (x : ℕ). x ∷ w) h.0, h.1)
@@ -50,14 +50,14 @@ value_word : (word : List ℕ) → Decided (IsValueWord word)
 value_word word = either (signed_numeral word) (hex_word word)
 
 run_word : (word : List ℕ) → Decided (IsRunWord word)
-run_word word = alike to from (some_split {P = λ value rest. IsNumeral value × Behind rest} (λ value rest. both (numeral value) (behind rest)) word)
+run_word word = decided_alike to from (some_split {P = λ value rest. IsNumeral value × Behind rest} (λ value rest. both (numeral value) (behind rest)) word)
   where
     Behind : List ℕ → Type 0
     Behind rest = (count : List ℕ) × (rest ≡ 42 ∷ count) × IsNumeral count
 
     behind : (rest : List ℕ) → Decided (Behind rest)
     behind [] = inr (λ h. let e = h.1 in absurd (cc))
-    behind (c ∷ w) = alike (λ h. (w, ap (λ (x : ℕ). x ∷ w) h.0, h.1)) back (both (same_number c 42) (numeral w))
+    behind (c ∷ w) = decided_alike (λ h. (w, ap (λ (x : ℕ). x ∷ w) h.0, h.1)) back (both (same_number c 42) (numeral w))
       where
         back : Behind (c ∷ w) → (c ≡ 42) × IsNumeral w
         back (count, e, is) =
@@ -93,17 +93,17 @@ run_words : (most : ℕ) (word : List ℕ) → length word ≤ most → Decided 
 run_words zero word few = by (first_split 32 word)
   where
     by : Without 32 word ⊎ ((run : List ℕ) × (others : List ℕ) × IsSplitAt 32 word run others) → Decided (AreRunWords word)
-    by (inl free) = let h = last_run word free in alike h.1 h.0 (run_word word)
+    by (inl free) = let h = last_run word free in decided_alike h.1 h.0 (run_word word)
     by (inr (run', others, split)) =
         let whole = ap length split.whole ∙ length-append run' (32 ∷ others) in absurd (omega arith)
 run_words (suc most) word few = by (first_split 32 word) (run_words most)
   where
     by : Without 32 word ⊎ ((run : List ℕ) × (others : List ℕ) × IsSplitAt 32 word run others) → ((others : List ℕ) → length others ≤ most → Decided (AreRunWords others)) → Decided (AreRunWords word)
-    by (inl free) fewer = let h = last_run word free in alike h.1 h.0 (run_word word)
+    by (inl free) fewer = let h = last_run word free in decided_alike h.1 h.0 (run_word word)
     by (inr (run', others, split)) fewer =
         let whole = ap length split.whole ∙ length-append run' (32 ∷ others) in
         let h = run_more word run' others split in
-        alike h.1 h.0 (both (run_word run') (fewer others (omega arith)))
+        decided_alike h.1 h.0 (both (run_word run') (fewer others (omega arith)))
 
 list_word : (word : List ℕ) → Decided (IsListWord word)
 list_word word = either (same_numbers word (codes "-")) (run_words (length word) word (omega arith))
@@ -157,7 +157,7 @@ words_of k words = by (has_two k) refl
 
     behind : (first rest : List ℕ) → Decided (Behind first rest)
     behind first [] = inr (λ h. let e = h.1 in absurd (cc))
-    behind first (c ∷ w) = alike (λ h. (w, ap (λ (x : ℕ). x ∷ w) h.0, h.1)) back (both (same_number c 32) (parts k first w))
+    behind first (c ∷ w) = decided_alike (λ h. (w, ap (λ (x : ℕ). x ∷ w) h.0, h.1)) back (both (same_number c 32) (parts k first w))
       where
         back : Behind first (c ∷ w) → (c ≡ 32) × AreLineParts k first w
         back (second, e, are) =
@@ -166,7 +166,7 @@ words_of k words = by (has_two k) refl
             (blank, subst (λ (x : List ℕ). AreLineParts k first x) rest are)
 
     by : (two : Bool) → has_two k ≡ two → Decided (HasWords k words)
-    by false one = alike to from (parts k words [])
+    by false one = decided_alike to from (parts k words [])
       where
         to : AreLineParts k words [] → HasWords k words
         to are = (words, [], sym (one_text words [] one), are)
@@ -174,7 +174,7 @@ words_of k words = by (has_two k) refl
         from : HasWords k words → AreLineParts k words []
         from (first, second, e, are) =
             subst (λ (x : List ℕ). AreLineParts k x []) (sym (e ∙ one_text first second one)) (subst (λ (x : List ℕ). AreLineParts k first x) (alone k first second one are) are)
-    by true two = alike to from (some_split {P = Behind} behind words)
+    by true two = decided_alike to from (some_split {P = Behind} behind words)
       where
         to : (first : List ℕ) × (rest : List ℕ) × (words ≡ first ++ rest) × Behind first rest → HasWords k words
         to (first, rest, e, (second, f, are)) = (first, second, e ∙ ap (λ (x : List ℕ). first ++ x) f ∙ sym (two_text first second two), are)
@@ -183,7 +183,7 @@ words_of k words = by (has_two k) refl
         from (first, second, e, are) = (first, 32 ∷ second, e ∙ two_text first second two, (second, refl, are))
 
 of_kind : (k : LineKind) (line : List ℕ) → Decided (IsLine k line)
-of_kind k line = alike to from (some_split {P = λ f words. (f ≡ front k) × HasWords k words} (λ f words. both (same_numbers f (front k)) (words_of k words)) line)
+of_kind k line = decided_alike to from (some_split {P = λ f words. (f ≡ front k) × HasWords k words} (λ f words. both (same_numbers f (front k)) (words_of k words)) line)
   where
     to : (f : List ℕ) × (words : List ℕ) × (line ≡ f ++ words) × ((f ≡ front k) × HasWords k words) → IsLine k line
     to (f, words, e, (is, (first, second, g, are))) = record {

@@ -5,13 +5,13 @@ use Rattle.std.specs.declared.cmp.Ordering.{Ordering}
 use Rattle.std.specs.declared.cmp.Ordering.TheVariants.{Less, Equal, Greater}
 use Rattle.limits.specs.Profile.{least_accuracy, most_accuracy}
 use Rattle.stats_file.specs.declared.types.Datum.{Datum}
-use Rattle.stats_file.specs.declared.types.Pair.{Pair}
+use Rattle.stats_file.specs.declared.types.PairStats.{PairStats}
 use Rattle.stats_file.specs.Lines.{datum_text}
 use Rattle.stats_file.specs.Rules.{datum_cmp, IsList, IsOfKind}
 use Rattle.stats_words.specs.Runs.{list_text}
 use Rattle.stats_reading.specs.declared.draft.Draft.{Draft}
 use Rattle.stats_reading.specs.Drafts.{frequent_words, list_word, number_word, value_word, CutFollows, FrequentFollows, IsSameRest, IsSameTotal, IsSameValue, HasAllNodes, MayBeAccuracy, MayBeCut, MayBeFrequent, MayBeNode, MayBeRest, MayBeWhole, NodeFollows, RestFollows, WholeFollows}
-use Rattle.stats_lines.proofs.Deciding.{alike, at_most, below, both, for_all, is_there, less, not, same_number, same_numbers, where_found, Decided}
+use Rattle.stats_lines.proofs.Deciding.{decided_alike, at_most, below, both, for_all, is_there, less, not, same_number, same_numbers, where_found, Decided}
 use Rattle.stats_lines.proofs.Values.{list, same_value, value, Spelled}
 
 -- if a line has one word, its second word is empty
@@ -28,27 +28,27 @@ first_word words = words.0
 
 follows_whole : (s : Draft) (l : List ℕ) → Decided (WholeFollows s l)
 follows_whole s l =
-    alike (λ h. record { all = h.0; alike = h.1 }) (λ h. (h.all, h.alike))
-    (both (same_number (sum l) s.section.rows) (where_found {P = λ q. q.whole ≡ l} (λ (q : Pair). same_numbers q.whole l) s.section.pairs s.same_joined_at))
+    decided_alike (λ h. record { all = h.0; alike = h.1 }) (λ h. (h.all, h.alike))
+    (both (same_number (sum l) s.section.rows) (where_found {P = λ q. q.whole ≡ l} (λ (q : PairStats). same_numbers q.whole l) s.section.pairs s.same_joined_at))
 
-same_frequent : (place : ℕ) (f : Datum × List ℕ) (q : Pair) → Decided (IsSameValue place f q)
+same_frequent : (place : ℕ) (f : Datum × List ℕ) (q : PairStats) → Decided (IsSameValue place f q)
 same_frequent place f q =
-    alike (λ h. record { other = h.0; there = h.1; value = h.2.0; total = h.2.1 }) (λ h. (h.other, h.there, (h.value, h.total)))
+    decided_alike (λ h. record { other = h.0; there = h.1; value = h.2.0; total = h.2.1 }) (λ h. (h.other, h.there, (h.value, h.total)))
     (is_there {P = λ (other : Datum × List ℕ). (other.0 ≡ f.0) × (sum other.1 ≡ sum f.1)} (λ other. both (same_value other.0 f.0) (same_number (sum other.1) (sum f.1))) q.frequent place)
 
 follows_frequent : (s : Draft) (f : Datum × List ℕ) → Decided (FrequentFollows s f)
 follows_frequent s f =
-    alike (λ h. record { few = h.0; differs = h.1.0; alike = h.1.1 }) (λ h. (h.few, (h.differs, h.alike)))
+    decided_alike (λ h. record { few = h.0; differs = h.1.0; alike = h.1.1 }) (λ h. (h.few, (h.differs, h.alike)))
     (both (less (length s.pair.frequent) 32) (both (for_all {P = λ (e : Datum × List ℕ). e.0 ≢ f.0} (λ e. not (same_value e.0 f.0)) s.pair.frequent)
     (where_found {P = IsSameValue (length s.pair.frequent) f} (same_frequent (length s.pair.frequent) f) s.section.pairs s.same_filter_at)))
 
-same_rest : (count : ℕ) (l : List ℕ) (q : Pair) → Decided (IsSameRest count l q)
+same_rest : (count : ℕ) (l : List ℕ) (q : PairStats) → Decided (IsSameRest count l q)
 same_rest count l q =
-    alike (λ h. record { count_is = h.0; total = h.1 }) (λ h. (h.count_is, h.total)) (both (same_number (length q.frequent) count) (same_number (sum q.rest) (sum l)))
+    decided_alike (λ h. record { count_is = h.0; total = h.1 }) (λ h. (h.count_is, h.total)) (both (same_number (length q.frequent) count) (same_number (sum q.rest) (sum l)))
 
 follows_rest : (s : Draft) (l : List ℕ) → Decided (RestFollows s l)
 follows_rest s l =
-    alike (λ h. record { alike = h }) (λ h. h.alike) (where_found {P = IsSameRest (length s.pair.frequent) l} (same_rest (length s.pair.frequent) l) s.section.pairs s.same_filter_at)
+    decided_alike (λ h. record { alike = h }) (λ h. h.alike) (where_found {P = IsSameRest (length s.pair.frequent) l} (same_rest (length s.pair.frequent) l) s.section.pairs s.same_filter_at)
 
 not_greater : (o : Ordering) → Decided (o ≢ Greater)
 not_greater Less = inl (λ e. cc)
@@ -57,23 +57,23 @@ not_greater Greater = inr (λ h. h refl)
 
 same_cut : (cuts : List Datum) (place : ℕ) (cut : Datum) → Decided (slice_get cuts place ≡ Some cut)
 same_cut cuts place cut =
-    alike (λ h. let is = h.1 in let e = h.2 in cc) (λ e. (cut, e, refl)) (is_there {P = λ other. other ≡ cut} (λ other. same_value other cut) cuts place)
+    decided_alike (λ h. let is = h.1 in let e = h.2 in cc) (λ e. (cut, e, refl)) (is_there {P = λ other. other ≡ cut} (λ other. same_value other cut) cuts place)
 
 follows_cut : (s : Draft) (cut : Datum) → Decided (CutFollows s cut)
 follows_cut s cut =
-    alike (λ h. record { some = h.0; few = h.1.0; order = h.1.1.0; alike = h.1.1.1 }) (λ h. (h.some, (h.few, (h.order, h.alike))))
+    decided_alike (λ h. record { some = h.0; few = h.1.0; order = h.1.1.0; alike = h.1.1.1 }) (λ h. (h.some, (h.few, (h.order, h.alike))))
     (both (less 0 s.section.rows) (both (less (length s.pair.cuts) 32) (both
     (where_found {P = λ last. datum_cmp last cut ≢ Greater} (λ last. not_greater (datum_cmp last cut)) s.pair.cuts (length s.pair.cuts - 1))
-    (where_found {P = λ q. slice_get q.cuts (length s.pair.cuts) ≡ Some cut} (λ (q : Pair). same_cut q.cuts (length s.pair.cuts) cut) s.section.pairs s.same_filter_at))))
+    (where_found {P = λ q. slice_get q.cuts (length s.pair.cuts) ≡ Some cut} (λ (q : PairStats). same_cut q.cuts (length s.pair.cuts) cut) s.section.pairs s.same_filter_at))))
 
-same_total : (place : ℕ) (node : List ℕ) (q : Pair) → Decided (IsSameTotal place node q)
+same_total : (place : ℕ) (node : List ℕ) (q : PairStats) → Decided (IsSameTotal place node q)
 same_total place node q =
-    alike (λ h. record { other = h.0; there = h.1; total = h.2 }) (λ h. (h.other, h.there, h.total))
+    decided_alike (λ h. record { other = h.0; there = h.1; total = h.2 }) (λ h. (h.other, h.there, h.total))
     (is_there {P = λ other. sum other ≡ sum node} (λ other. same_number (sum other) (sum node)) q.nodes place)
 
 follows_node : (s : Draft) (node : List ℕ) → Decided (NodeFollows s node)
 follows_node s node =
-    alike (λ h. record { some = h.0; all_cuts = h.1.0; few = h.1.1.0; alike = h.1.1.1 }) (λ h. (h.some, (h.all_cuts, (h.few, h.alike))))
+    decided_alike (λ h. record { some = h.0; all_cuts = h.1.0; few = h.1.1.0; alike = h.1.1.1 }) (λ h. (h.some, (h.all_cuts, (h.few, h.alike))))
     (both (less 0 s.section.rows) (both (same_number (length s.pair.cuts) 32) (both (less (length s.pair.nodes) 63)
     (where_found {P = IsSameTotal (length s.pair.nodes) node} (same_total (length s.pair.nodes) node) s.section.pairs s.same_filter_at))))
 
@@ -89,13 +89,13 @@ is_whole s = by (less 0 s.section.rows) (both (same_number (length s.pair.cuts) 
 
 pub next_accuracy : (word : List ℕ) → Decided (Spelled number_word MayBeAccuracy (word, []))
 next_accuracy word =
-    alike (λ h. let lt = h.1 in record { value = h.0; may = (h.2.0, omega arith); spells = ap alone h.2.1 })
+    decided_alike (λ h. let lt = h.1 in record { value = h.0; may = (h.2.0, omega arith); spells = ap alone h.2.1 })
     (λ h. let most = h.may.1 in (h.value, omega arith, (h.may.0, ap first_word h.spells)))
     (below {P = λ n. (least_accuracy ≤ n) × (decimal n ≡ word)} (λ n. both (at_most least_accuracy n) (same_numbers (decimal n) word)) (suc most_accuracy))
 
 as_one : {X : Type 0} (text : X → List ℕ) (MayBe : X → Type 0) (word : List ℕ) → Decided (Spelled text MayBe word) → Decided (Spelled (λ x. alone (text x)) MayBe (word, []))
 as_one text MayBe word d =
-    alike (λ h. record { value = h.value; may = h.may; spells = ap alone h.spells }) (λ h. record { value = h.value; may = h.may; spells = ap first_word h.spells }) d
+    decided_alike (λ h. record { value = h.value; may = h.may; spells = ap alone h.spells }) (λ h. record { value = h.value; may = h.may; spells = ap first_word h.spells }) d
 
 pub next_whole : (s : Draft) (word : List ℕ) → Decided (Spelled list_word (MayBeWhole s) (word, []))
 next_whole s word = as_one list_text (MayBeWhole s) word (list {F = WholeFollows s} (follows_whole s) s.section.rows word)
@@ -113,7 +113,7 @@ abbrev ListOf : Draft → List ℕ → Datum → Type 0
 ListOf s word v = Spelled list_text (λ l. IsList s.section.rows l × FrequentFollows s (v, l)) word
 
 pub next_frequent : (s : Draft) (words : List ℕ × List ℕ) → Decided (Spelled frequent_words (MayBeFrequent s) words)
-next_frequent s (a, b) = alike to from (value {F = ListOf s b} (λ v. list {F = λ l. FrequentFollows s (v, l)} (λ l. follows_frequent s (v, l)) s.section.rows b) s.kind a)
+next_frequent s (a, b) = decided_alike to from (value {F = ListOf s b} (λ v. list {F = λ l. FrequentFollows s (v, l)} (λ l. follows_frequent s (v, l)) s.section.rows b) s.kind a)
   where
     to : Spelled datum_text (λ v. IsOfKind s.kind v × ListOf s b v) a → Spelled frequent_words (MayBeFrequent s) (a, b)
     to h =

@@ -6,15 +6,15 @@ use Rattle.limits.specs.Profile.{most_rows}
 use Rattle.schema_types.specs.declared.types.Column.{Column}
 use Rattle.schema_types.specs.declared.types.Schema.{Schema}
 use Rattle.schema_types.specs.declared.types.Table.{Table}
-use Rattle.stats_file.specs.declared.types.Pair.{Pair}
+use Rattle.stats_file.specs.declared.types.PairStats.{PairStats}
 use Rattle.stats_file.specs.declared.types.TableStats.{TableStats}
 use Rattle.stats_file.specs.FileText.{name_at}
 use Rattle.stats_file.specs.Lines.{hex_text}
-use Rattle.stats_file.specs.Rules.{StandsBefore}
+use Rattle.stats_file.specs.Rules.{ComesBefore}
 use Rattle.stats_reading.specs.declared.draft.Draft.{Draft}
 use Rattle.stats_reading.specs.Drafts.{empty_pair, pair_words, table_words, BeginsPair, IsPlaceOf, MayBePair, MayBeTable}
-use Rattle.stats_reading.proofs.Turns.{place_of}
-use Rattle.stats_lines.proofs.Deciding.{alike, below, both, either, for_all, less, same_number, same_numbers, Decided}
+use Rattle.stats_reading.proofs.BeginsAndEnds.{place_of}
+use Rattle.stats_lines.proofs.Deciding.{decided_alike, below, both, either, for_all, less, same_number, same_numbers, Decided}
 use Rattle.stats_lines.proofs.Values.{number, Spelled}
 
 -- ---- tables
@@ -31,7 +31,7 @@ named schema s name place = by (slice_get schema.tables place) refl
     by : (found : Option Table) → slice_get schema.tables place ≡ found → Decided (Named schema s name place)
     by None e = inr (λ h. let is = h.1 in absurd (cc))
     by (Some table) e =
-        alike (λ h. (table, e, h.0, h.1)) back
+        decided_alike (λ h. (table, e, h.0, h.1)) back
         (both (same_numbers (hex_text table.name) name) (for_all {P = λ (t : TableStats). t.table < place} (λ t. less t.table place) s.tables))
       where
         back : Named schema s name place → (hex_text table.name ≡ name) × All (λ (t : TableStats). t.table < place) s.tables
@@ -40,7 +40,7 @@ named schema s name place = by (slice_get schema.tables place) refl
             (subst (λ (t : Table). hex_text t.name ≡ name) same spells, later)
 
 pub some_table : (schema : Schema) (s : Draft) (words : List ℕ × List ℕ) → Decided (Spelled table_words (MayBeTable schema s) words)
-some_table schema s (name, rows) = alike to from (both (below {P = Named schema s name} (named schema s name) (length schema.tables)) (number most_rows rows))
+some_table schema s (name, rows) = decided_alike to from (both (below {P = Named schema s name} (named schema s name) (length schema.tables)) (number most_rows rows))
   where
     to : ((place : ℕ) × (place < length schema.tables) × Named schema s name place) × Spelled decimal (λ n. n ≤ most_rows) rows → Spelled table_words (MayBeTable schema s) (name, rows)
     to ((place, lt, (table, is, spells, later)), n) = record {
@@ -59,24 +59,24 @@ some_table schema s (name, rows) = alike to from (both (below {P = Named schema 
 
 -- ---- pairs
 
-pub stands_before : (a b : Pair) → Decided (StandsBefore a b)
+pub stands_before : (a b : PairStats) → Decided (ComesBefore a b)
 stands_before a b = either (less a.filter b.filter) (both (same_number a.filter b.filter) (less a.joined b.joined))
 
 abbrev Later : Table → Draft → List ℕ × List ℕ → ℕ → ℕ → Type 0
-Later table s words filter joined = (hex_text (name_at table filter) ≡ words.0) × (hex_text (name_at table joined) ≡ words.1) × All (λ q. StandsBefore q (empty_pair filter joined)) s.section.pairs
+Later table s words filter joined = (hex_text (name_at table filter) ≡ words.0) × (hex_text (name_at table joined) ≡ words.1) × All (λ q. ComesBefore q (empty_pair filter joined)) s.section.pairs
 
 later : (table : Table) (s : Draft) (words : List ℕ × List ℕ) (filter joined : ℕ) → Decided (Later table s words filter joined)
 later table s words filter joined =
-    alike (λ h. (h.0, h.1.0, h.1.1)) (λ h. (h.0, (h.1, h.2)))
+    decided_alike (λ h. (h.0, h.1.0, h.1.1)) (λ h. (h.0, (h.1, h.2)))
     (both (same_numbers (hex_text (name_at table filter)) words.0) (both (same_numbers (hex_text (name_at table joined)) words.1)
-    (for_all {P = λ q. StandsBefore q (empty_pair filter joined)} (λ q. stands_before q (empty_pair filter joined)) s.section.pairs)))
+    (for_all {P = λ q. ComesBefore q (empty_pair filter joined)} (λ q. stands_before q (empty_pair filter joined)) s.section.pairs)))
 
 abbrev MayBe : Table → Draft → ℕ × ℕ → Type 0
 MayBe table s c = MayBePair table s c.0 c.1
 
 pub some_pair : (table : Table) (s : Draft) (words : List ℕ × List ℕ) → Decided (Spelled (pair_words table) (MayBe table s) words)
 some_pair table s (a, b) =
-    alike to from
+    decided_alike to from
     (below {P = λ i. (j : ℕ) × (j < length table.columns) × Later table s (a, b) i j} (λ i. below {P = λ j. Later table s (a, b) i j} (λ j. later table s (a, b) i j) (length table.columns))
     (length table.columns))
   where
@@ -94,27 +94,27 @@ some_pair table s (a, b) =
 
 -- ---- earlier pairs
 
-record PlaceIn (column : Pair → ℕ) (wanted : ℕ) (pairs : List Pair) : Type 0 where
+record PlaceIn (column : PairStats → ℕ) (wanted : ℕ) (pairs : List PairStats) : Type 0 where
   place : ℕ
   is : IsPlaceOf column wanted pairs place
 
-place_in : (column : Pair → ℕ) (wanted : ℕ) (pairs : List Pair) → PlaceIn column wanted pairs
+place_in : (column : PairStats → ℕ) (wanted : ℕ) (pairs : List PairStats) → PlaceIn column wanted pairs
 place_in column wanted [] = record { place = 0; is = record { found = λ q e. absurd (cc); none = λ e k d lt. absurd (omega arith) } }
 place_in column wanted (p ∷ pairs) = by (same_number (column p) wanted) (place_in column wanted pairs)
   where
     by : Decided (column p ≡ wanted) → PlaceIn column wanted pairs → PlaceIn column wanted (p ∷ pairs)
-    by (inl e) rest = record { place = 0; is = record { found = λ q is. let same : p ≡ q = cc in subst (λ (x : Pair). column x ≡ wanted) same e; none = λ is. absurd (cc) } }
+    by (inl e) rest = record { place = 0; is = record { found = λ q is. let same : p ≡ q = cc in subst (λ (x : PairStats). column x ≡ wanted) same e; none = λ is. absurd (cc) } }
     by (inr other) rest = record { place = suc rest.place; is = record { found = rest.is.found; none = λ is. all (rest.is.none is) } }
       where
         all : All (λ q. column q ≢ wanted) pairs → All (λ q. column q ≢ wanted) (p ∷ pairs)
         all h zero d lt = other
         all h (suc k) d lt = h k d (omega arith)
 
-pub record Begun (table : Table) (s : Draft) (filter joined : ℕ) : Type 0 where
+pub record PairBegun (table : Table) (s : Draft) (filter joined : ℕ) : Type 0 where
   pub draft : Draft
   pub begins : BeginsPair table s draft filter joined
 
-pub begun : (table : Table) (s : Draft) (filter joined : ℕ) → filter < length table.columns → Begun table s filter joined
+pub begun : (table : Table) (s : Draft) (filter joined : ℕ) → filter < length table.columns → PairBegun table s filter joined
 begun table s filter joined lt = by (slice_get table.columns filter) refl
   where
     same_filter_at : PlaceIn (λ q. q.filter) filter s.section.pairs
@@ -123,7 +123,7 @@ begun table s filter joined lt = by (slice_get table.columns filter) refl
     same_joined_at : PlaceIn (λ q. q.joined) joined s.section.pairs
     same_joined_at = place_in (λ q. q.joined) joined s.section.pairs
 
-    by : (found : Option Column) → slice_get table.columns filter ≡ found → Begun table s filter joined
+    by : (found : Option Column) → slice_get table.columns filter ≡ found → PairBegun table s filter joined
     by None e = absurd (none_within table.columns filter lt e)
       where
         none_within : {X : Type 0} (xs : List X) (k : ℕ) → k < length xs → slice_get xs k ≡ None → ⊥

@@ -11,8 +11,8 @@ use Rattle.stats_reading.specs.declared.line.LineKind.{LineKind}
 use Rattle.stats_reading.specs.declared.line.LineKind.TheVariants as kind
 use Rattle.stats_reading.specs.declared.stages.Stage.{Stage}
 use Rattle.stats_reading.specs.declared.stages.Stage.TheVariants as stage
-use Rattle.stats_reading.specs.Drafts.{empty_section, frequent_words, list_word, number_word, pair_ended, pair_words, table_ended, table_words, value_word, HasAllNodes, with_cut, with_frequent, with_node, with_rest, with_whole, BeginsPair, MayBeAccuracy, MayBeCut, MayBeFrequent, MayBeNode, MayBePair, MayBeRest, MayBeTable, MayBeWhole, Takes}
-use Rattle.stats_reading.specs.Goes.{LineAnswers, BeginsPairOf, WordsAreRead}
+use Rattle.stats_reading.specs.Drafts.{empty_section, frequent_words, list_word, number_word, pair_ended, pair_words, table_ended, table_words, value_word, HasAllNodes, with_cut, with_frequent, with_node, with_rest, with_whole, BeginsPair, MayBeAccuracy, MayBeCut, MayBeFrequent, MayBeNode, MayBePair, MayBeRest, MayBeTable, MayBeWhole, ReadsValue}
+use Rattle.stats_reading.specs.IsTaken.{LineAnswers, BeginsPairOf, WordsAreRead}
 use Rattle.stats_reading.specs.Stages.{next_stage}
 use Rattle.stats_reading.specs.Steps.{PairEnds, TableEnds}
 use Rattle.stats_reading.specs.Valid.{IsValidDraft}
@@ -30,14 +30,14 @@ Outcome = Result (Unit {0}) Fault
 -- ---- the words of a line spell a value
 
 -- a value that may come next and has these words is taken, which gives `draft`; if there is no such value, `result` is the fault
-record Taken {X : Type 0} (text : X → List ℕ × List ℕ) (MayBe : X → Type 0) (After : Draft → X → Type 0) (words : List ℕ × List ℕ) : Type 0 where
+record TakenOrNot {X : Type 0} (text : X → List ℕ × List ℕ) (MayBe : X → Type 0) (After : Draft → X → Type 0) (words : List ℕ × List ℕ) : Type 0 where
   draft : Draft
   result : Outcome
-  is : Takes text MayBe (After draft) words result
+  is : ReadsValue text MayBe (After draft) words result
   some : result ≢ Err fault.NoMemory
 
 taken : {X : Type 0} (text : X → List ℕ × List ℕ) (MayBe : X → Type 0) (After : Draft → X → Type 0) (s : Draft) (words : List ℕ × List ℕ) → ((x : X) → MayBe x → (t : Draft) × After t x)
-    → Decided (Spelled text MayBe words) → Taken text MayBe After words
+    → Decided (Spelled text MayBe words) → TakenOrNot text MayBe After words
 taken text MayBe After s words after (inl h) =
     let next = after h.value h.may in
     record { draft = next.0; result = Ok tt; is = record { value = h.value; may = h.may; spelled = h.spells; after = next.1 }; some = λ e. cc }
@@ -113,7 +113,7 @@ begins schema m words = by (slice_get schema.tables m.section.table) refl
           result = r.result;
           is = λ other is.
               let same : table ≡ other = cc in
-              subst (λ (x : Table). Takes (pair_words x) (λ c. MayBePair x m c.0 c.1) (λ c. BeginsPair x m r.draft c.0 c.1) words r.result) same r.is;
+              subst (λ (x : Table). ReadsValue (pair_words x) (λ c. MayBePair x m c.0 c.1) (λ c. BeginsPair x m r.draft c.0 c.1) words r.result) same r.is;
           some = r.some;
         }
 

@@ -15,18 +15,18 @@ use Rattle.stats_reading.specs.declared.fault.Fault.TheVariants as fault
 use Rattle.stats_reading.specs.declared.stages.Stage.{Stage}
 use Rattle.stats_reading.specs.declared.stages.Stage.TheVariants as stage
 use Rattle.stats_reading.specs.Drafts.{empty_draft}
-use Rattle.stats_reading.specs.Goes.{LineAnswers}
-use Rattle.stats_reading.specs.Left.{file_of_draft}
+use Rattle.stats_reading.specs.IsTaken.{LineAnswers}
+use Rattle.stats_reading.specs.Remaining.{file_of_draft}
 use Rattle.stats_reading.specs.Refusals.{refusal_of}
 use Rattle.stats_reading.proofs.Reading.{all_read, read_more, refused, too_early, IsRead}
 use Rattle.stats_reading.proofs.Stepping.{ended}
 use Rattle.stats_lines.proofs.Deciding.{both, same_number, same_numbers, Decided}
 use Rattle.stats_lines.proofs.Steps.{step, Step}
 
--- the first lines were read into draft `s`; `left` are the remaining bytes, and `line` is the number of the next line
-record Left (schema : Schema) (s : Draft) (line : ℕ) (left : List ℕ) : Type 0 where
+-- the first lines were read into draft `s`; `remaining` are the remaining bytes, and `line` is the number of the next line
+record AnswerForRest (schema : Schema) (s : Draft) (line : ℕ) (remaining : List ℕ) : Type 0 where
   answer : Result StatsFile StatsError
-  answers : (bytes : List ℕ) → IsValid schema → IsRead schema bytes left s line → FileAnswers schema bytes answer
+  answers : (bytes : List ℕ) → IsValid schema → IsRead schema bytes remaining s line → FileAnswers schema bytes answer
   some : answer ≢ Err error.NoMemory
 
 is_done : (at : Stage) → Decided (at ≡ stage.Done)
@@ -39,40 +39,40 @@ is_done stage.Cuts = inr (λ e. cc)
 is_done stage.Nodes = inr (λ e. cc)
 is_done stage.Done = inl refl
 
-at_end : (schema : Schema) (s : Draft) (line : ℕ) (left : List ℕ) → Without 10 left → Left schema s line left
-at_end schema s line left free = by (both (is_done s.stage) (same_numbers left []))
+at_end : (schema : Schema) (s : Draft) (line : ℕ) (remaining : List ℕ) → Without 10 remaining → AnswerForRest schema s line remaining
+at_end schema s line remaining free = by (both (is_done s.stage) (same_numbers remaining []))
   where
-    by : Decided ((s.stage ≡ stage.Done) × (left ≡ [])) → Left schema s line left
+    by : Decided ((s.stage ≡ stage.Done) × (remaining ≡ [])) → AnswerForRest schema s line remaining
     by (inl (done, none)) = record {
       answer = Ok (file_of_draft s []);
-      answers = λ bytes good h. all_read schema bytes left s line (file_of_draft s []) h done none refl;
+      answers = λ bytes good h. all_read schema bytes remaining s line (file_of_draft s []) h done none refl;
       some = λ e. cc;
     }
-    by (inr fails) = record { answer = Err (error.Syntax line); answers = λ bytes good h. too_early schema bytes left s line h free fails; some = λ e. cc }
+    by (inr fails) = record { answer = Err (error.Syntax line); answers = λ bytes good h. too_early schema bytes remaining s line h free fails; some = λ e. cc }
 
 abbrev refused_by : StatsError → Result StatsFile StatsError
 refused_by why = Err why
 
-at_line : (schema : Schema) (s : Draft) (line : ℕ) (left text others : List ℕ) → IsSplitAt 10 left text others → (st : Step schema s text) → Left schema st.draft (line + 1) others → Left schema s line left
-at_line schema s line left text others split st further = by st.result refl
+at_line : (schema : Schema) (s : Draft) (line : ℕ) (remaining text others : List ℕ) → IsSplitAt 10 remaining text others → (st : Step schema s text) → AnswerForRest schema st.draft (line + 1) others → AnswerForRest schema s line remaining
+at_line schema s line remaining text others split st further = by st.result refl
   where
     not_memory : (f : Fault) → st.result ≡ Err f → refused_by (refusal_of line f) ≢ refused_by error.NoMemory
     not_memory fault.Syntax is e = cc
     not_memory fault.Rule is e = cc
     not_memory fault.NoMemory is e = st.some is
 
-    by : (r : Result (Unit {0}) Fault) → st.result ≡ r → Left schema s line left
+    by : (r : Result (Unit {0}) Fault) → st.result ≡ r → AnswerForRest schema s line remaining
     by (Ok done) is = record {
       answer = further.answer;
       answers = λ bytes good h.
           further.answers bytes good
-          (read_more schema bytes left text others s st.draft line h split (subst (LineAnswers schema s st.draft (ended text)) is (st.answers good h.valid)));
+          (read_more schema bytes remaining text others s st.draft line h split (subst (LineAnswers schema s st.draft (ended text)) is (st.answers good h.valid)));
       some = further.some;
     }
     by (Err f) is = record {
       answer = Err (refusal_of line f);
       answers = λ bytes good h.
-          refused schema bytes left text others s st.draft line f h split (subst (LineAnswers schema s st.draft (ended text)) is (st.answers good h.valid));
+          refused schema bytes remaining text others s st.draft line f h split (subst (LineAnswers schema s st.draft (ended text)) is (st.answers good h.valid));
       some = not_memory f is;
     }
 
@@ -80,17 +80,17 @@ no_bytes : Without 10 []
 no_bytes k d lt = absurd (omega arith)
 
 -- `text` is the part of the next line that was searched so far and has no line end; `rest` are the bytes after it
-told_from : (schema : Schema) (s : Draft) (line : ℕ) (text rest : List ℕ) → Without 10 text → Left schema s line (text ++ rest)
-told_from schema s line text [] free = subst (Left schema s line) (sym (append-nil text)) (at_end schema s line text free)
+told_from : (schema : Schema) (s : Draft) (line : ℕ) (text rest : List ℕ) → Without 10 text → AnswerForRest schema s line (text ++ rest)
+told_from schema s line text [] free = subst (AnswerForRest schema s line) (sym (append-nil text)) (at_end schema s line text free)
 told_from schema s line text (c ∷ rest) free =
     by (same_number c 10) (told_from schema (step schema s text).draft (line + 1) [] rest no_bytes) (told_from schema s line (text ++ c ∷ []) rest)
   where
-    by : Decided (c ≡ 10) → Left schema (step schema s text).draft (line + 1) rest → (Without 10 (text ++ c ∷ []) → Left schema s line ((text ++ c ∷ []) ++ rest))
-        → Left schema s line (text ++ (c ∷ rest))
+    by : Decided (c ≡ 10) → AnswerForRest schema (step schema s text).draft (line + 1) rest → (Without 10 (text ++ c ∷ []) → AnswerForRest schema s line ((text ++ c ∷ []) ++ rest))
+        → AnswerForRest schema s line (text ++ (c ∷ rest))
     by (inl e) further longer =
         at_line schema s line (text ++ (c ∷ rest)) text rest (record { first = free; whole = ap (λ (x : ℕ). text ++ (x ∷ rest)) e }) (step schema s text) further
     by (inr other) further longer =
-        subst (Left schema s line) (append_assoc text (c ∷ []) rest) (longer (both_without 10 text (c ∷ []) free (front_without 10 c [] other no_bytes)))
+        subst (AnswerForRest schema s line) (append_assoc text (c ∷ []) rest) (longer (both_without 10 text (c ∷ []) free (front_without 10 c [] other no_bytes)))
 
 pub record Told (schema : Schema) (bytes : List ℕ) : Type 0 where
   pub answer : Result StatsFile StatsError

@@ -5,7 +5,7 @@ use Rattle.std.specs.List.{flat_map}
 use Rattle.std.specs.Str.{is_utf8}
 use Rattle.std.proofs.lemmas.List.Sums.{sum_by-cons}
 use Rattle.std.proofs.lemmas.Str.{IsUtf8-from_is_utf8, is_utf8-from_IsUtf8}
-use Rattle.degree_sequences.specs.Falling.{IsFalling}
+use Rattle.degree_sequences.specs.Descending.{IsDescending}
 use Rattle.schema_types.specs.declared.types.Kind.{Kind}
 use Rattle.schema_types.specs.declared.types.Kind.TheVariants as kinds
 use Rattle.stats_file.specs.declared.types.Datum.{Datum}
@@ -14,7 +14,7 @@ use Rattle.stats_file.specs.Lines.{datum_text, hex_byte, hex_text}
 use Rattle.stats_file.specs.Rules.{IsList, IsOfKind}
 use Rattle.stats_words.specs.Runs.{list_text}
 use Rattle.stats_words.proofs.TextFacts.{utf8_bytes}
-use Rattle.stats_lines.proofs.Deciding.{alike, at_most, below, both, for_all, is_true, less, same_number, same_numbers, some_list, Decided, Within}
+use Rattle.stats_lines.proofs.Deciding.{decided_alike, at_most, below, both, for_all, is_true, less, same_number, same_numbers, some_list, Decided, Within}
 
 pub record Spelled {X W : Type 0} (text : X → W) (MayStand : X → Type 0) (word : W) : Type 0 where
   pub value : X
@@ -25,30 +25,30 @@ pub record Spelled {X W : Type 0} (text : X → W) (MayStand : X → Type 0) (wo
 
 pub number : (most : ℕ) (word : List ℕ) → Decided (Spelled decimal (λ n. n ≤ most) word)
 number most word =
-    alike (λ h. let lt = h.1 in record { value = h.0; may = omega arith; spells = h.2 }) (λ h. let le : h.value ≤ most = h.may in (h.value, omega arith, h.spells))
+    decided_alike (λ h. let lt = h.1 in record { value = h.0; may = omega arith; spells = h.2 }) (λ h. let le : h.value ≤ most = h.may in (h.value, omega arith, h.spells))
     (below {P = λ n. decimal n ≡ word} (λ n. same_numbers (decimal n) word) (suc most))
 
 -- ---- lists
 
-falls : (list : List ℕ) → Decided (IsFalling list)
+falls : (list : List ℕ) → Decided (IsDescending list)
 falls [] = inl (λ r. omega arith)
 falls (x ∷ []) = inl at
   where
-    at : IsFalling (x ∷ [])
+    at : IsDescending (x ∷ [])
     at zero = omega arith
     at (suc r) = omega arith
-falls (x ∷ y ∷ list) = alike to from (both (at_most y x) (falls (y ∷ list)))
+falls (x ∷ y ∷ list) = decided_alike to from (both (at_most y x) (falls (y ∷ list)))
   where
-    to : (y ≤ x) × IsFalling (y ∷ list) → IsFalling (x ∷ y ∷ list)
+    to : (y ≤ x) × IsDescending (y ∷ list) → IsDescending (x ∷ y ∷ list)
     to h zero = h.0
     to h (suc r) = h.1 r
 
-    from : IsFalling (x ∷ y ∷ list) → (y ≤ x) × IsFalling (y ∷ list)
+    from : IsDescending (x ∷ y ∷ list) → (y ≤ x) × IsDescending (y ∷ list)
     from h = (h 0, λ r. h (suc r))
 
 pub is_list : (rows : ℕ) (list : List ℕ) → Decided (IsList rows list)
 is_list rows list =
-    alike (λ h. record { falls = h.0; positive = h.1.0; within = h.1.1 }) (λ h. (h.falls, (h.positive, h.within)))
+    decided_alike (λ h. record { falls = h.0; positive = h.1.0; within = h.1.1 }) (λ h. (h.falls, (h.positive, h.within)))
     (both (falls list) (both (for_all {P = λ x. 0 < x} (λ x. less 0 x) list) (at_most (sum list) rows)))
 
 few_and_small : (rows most : ℕ) (list : List ℕ) → rows < most → All (λ x. 0 < x) list → sum list ≤ rows → Within rows most list
@@ -62,23 +62,23 @@ few_and_small rows most (x ∷ list) lt positive within =
 
 pub list : {F : List ℕ → Type 0} → ((l : List ℕ) → Decided (F l)) → (rows : ℕ) (word : List ℕ) → Decided (Spelled list_text (λ l. IsList rows l × F l) word)
 list {F = F} follows rows word =
-    alike (λ h. record { value = h.0; may = h.2.0; spells = h.2.1 })
+    decided_alike (λ h. record { value = h.0; may = h.2.0; spells = h.2.1 })
     (λ h. (h.value, few_and_small rows (suc rows) h.value (omega arith) h.may.0.positive h.may.0.within, (h.may, h.spells)))
     (some_list {P = λ l. (IsList rows l × F l) × (list_text l ≡ word)} (λ l. both (both (is_list rows l) (follows l)) (same_numbers (list_text l) word)) rows (suc rows))
 
 -- ---- values of columns
 
 pub is_text : (bytes : List ℕ) → Decided (IsUtf8 bytes)
-is_text bytes = alike (IsUtf8-from_is_utf8 bytes) (is_utf8-from_IsUtf8 bytes) (is_true (is_utf8 bytes))
+is_text bytes = decided_alike (IsUtf8-from_is_utf8 bytes) (is_utf8-from_IsUtf8 bytes) (is_true (is_utf8 bytes))
 
 pub same_value : (a b : Datum) → Decided (a ≡ b)
-same_value (datum.Int (pos a)) (datum.Int (pos b)) = alike (λ e. ap (λ n. datum.Int (pos n)) e) (λ e. cc) (same_number a b)
+same_value (datum.Int (pos a)) (datum.Int (pos b)) = decided_alike (λ e. ap (λ n. datum.Int (pos n)) e) (λ e. cc) (same_number a b)
 same_value (datum.Int (pos a)) (datum.Int (negsuc b)) = inr (λ e. cc)
 same_value (datum.Int (negsuc a)) (datum.Int (pos b)) = inr (λ e. cc)
-same_value (datum.Int (negsuc a)) (datum.Int (negsuc b)) = alike (λ e. ap (λ n. datum.Int (negsuc n)) e) (λ e. cc) (same_number a b)
+same_value (datum.Int (negsuc a)) (datum.Int (negsuc b)) = decided_alike (λ e. ap (λ n. datum.Int (negsuc n)) e) (λ e. cc) (same_number a b)
 same_value (datum.Int a) (datum.Text b) = inr (λ e. cc)
 same_value (datum.Text a) (datum.Int b) = inr (λ e. cc)
-same_value (datum.Text a) (datum.Text b) = alike (λ e. ap datum.Text e) (λ e. cc) (same_numbers a b)
+same_value (datum.Text a) (datum.Text b) = decided_alike (λ e. ap datum.Text e) (λ e. cc) (same_numbers a b)
 
 module _ {F : Datum → Type 0} (follows : (v : Datum) → Decided (F v)) (word : List ℕ) where
   abbrev MayBe : Kind → Datum → Type 0
@@ -109,7 +109,7 @@ hex_len (b ∷ bytes) = let rest = hex_len bytes in omega arith
 
 text_value : {F : Datum → Type 0} → ((v : Datum) → Decided (F v)) → (most : ℕ) (word : List ℕ) → Decided (Spelled datum_text (λ v. IsOfKind (kinds.Text most) v × F v) word)
 text_value {F = F} follows most word =
-    alike (λ h. record { value = datum.Text h.0; may = h.2.0; spells = h.2.1 }) (λ h. back h.value h.may h.spells)
+    decided_alike (λ h. record { value = datum.Text h.0; may = h.2.0; spells = h.2.1 }) (λ h. back h.value h.may h.spells)
     (some_list {P = λ l. (IsUtf8 l × F (datum.Text l)) × (hex_text l ≡ word)} (λ l. both (both (is_text l) (follows (datum.Text l))) (same_numbers (hex_text l) word)) (length word) 256)
   where
     back : (v : Datum) → IsOfKind (kinds.Text most) v × F v → datum_text v ≡ word → (l : List ℕ) × Within (length word) 256 l × ((IsUtf8 l × F (datum.Text l)) × (hex_text l ≡ word))

@@ -4,7 +4,7 @@ use Rattle.std.specs.Prelude.{⊤, codes, Result, Ok, Err}
 use Rattle.std.proofs.lemmas.Option.{slice_get_within}
 use Rattle.schema_types.specs.declared.types.Schema.{Schema}
 use Rattle.schema_types.specs.Validity.{IsValid}
-use Rattle.stats_file.specs.declared.types.Pair.{Pair}
+use Rattle.stats_file.specs.declared.types.PairStats.{PairStats}
 use Rattle.stats_file.specs.declared.types.StatsFile.{StatsFile}
 use Rattle.stats_reading.specs.declared.draft.Draft.{Draft}
 use Rattle.stats_reading.specs.declared.fault.Fault.{Fault}
@@ -13,11 +13,11 @@ use Rattle.stats_reading.specs.declared.line.LineKind.{LineKind}
 use Rattle.stats_reading.specs.declared.line.LineKind.TheVariants as kind
 use Rattle.stats_reading.specs.declared.stages.Stage.{Stage}
 use Rattle.stats_reading.specs.declared.stages.Stage.TheVariants as stage
-use Rattle.stats_reading.specs.Drafts.{list_word, number_word, value_word, with_cut, with_node, with_rest, with_whole, MayBeAccuracy, MayBeCut, MayBeNode, MayBeRest, MayBeWhole, Takes}
-use Rattle.stats_reading.specs.Goes.{LineAnswers, IsReadyAt, LineIsRead, WordsAreRead}
+use Rattle.stats_reading.specs.Drafts.{list_word, number_word, value_word, with_cut, with_node, with_rest, with_whole, MayBeAccuracy, MayBeCut, MayBeNode, MayBeRest, MayBeWhole, ReadsValue}
+use Rattle.stats_reading.specs.IsTaken.{LineAnswers, IsReadyAt, LineIsRead, WordsAreRead}
 use Rattle.stats_reading.specs.Kinds.{IsLineOf, IsNoLine}
-use Rattle.stats_reading.specs.Left.{CutsLeft, FileLeft, FrequentLeft, InFile, InPair, InTable, NodesLeft, WholeLeft}
-use Rattle.stats_reading.specs.Stages.{next_stage, TextLeft, TextLeftAt}
+use Rattle.stats_reading.specs.Remaining.{CutsRemaining, FileRemaining, FrequentRemaining, InFile, InPair, InTable, NodesRemaining, WholeRemaining}
+use Rattle.stats_reading.specs.Stages.{next_stage, TextRemaining, TextLeftAt}
 use Rattle.stats_reading.specs.Valid.{IsValidDraft, IsValidPair}
 use Rattle.stats_reading.proofs.Ascending.{pairs_ascend_in_cuts, pairs_ascend_in_nodes, pairs_ascend_in_pairs, tables_ascend_in_cuts, tables_ascend_in_nodes, tables_ascend_in_pairs, tables_ascend_in_tables}
 use Rattle.stats_reading.proofs.Begun.{small_pairs}
@@ -25,13 +25,13 @@ use Rattle.stats_reading.proofs.Going.{FilesGo}
 use Rattle.stats_reading.proofs.Grammar.{no_text, tag_of, text_back, text_step}
 use Rattle.stats_reading.proofs.Stepping.{cut_goes, ended, frequent_goes, kind_line, line_kind, line_tag, next_node_goes, node_goes, rest_goes, whole_goes}
 use Rattle.stats_reading.proofs.Tags.{tag}
-use Rattle.stats_reading.proofs.Turns.{end_line_goes, ends_in_cuts, ends_in_nodes, ends_in_pairs, ends_in_tables, first_goes, pair_goes, table_goes, table_in_cuts, table_in_nodes, table_in_pairs, PairEnding}
+use Rattle.stats_reading.proofs.BeginsAndEnds.{end_line_goes, ends_in_cuts, ends_in_nodes, ends_in_pairs, ends_in_tables, first_goes, pair_goes, table_goes, table_in_cuts, table_in_nodes, table_in_pairs, PairEnding}
 
 -- ---- files that may follow
 
 abbrev FilesGoAt : Option Stage → Stage → Schema → Draft → Draft → List ℕ → Result (Unit {0}) Fault → Type 0
 FilesGoAt None at schema s t line r = ⊤
-FilesGoAt (Some next) at schema s t line r = FilesGo (FileLeft at schema s) (FileLeft next schema t) (IsValidDraft next schema t) line r
+FilesGoAt (Some next) at schema s t line r = FilesGo (FileRemaining at schema s) (FileRemaining next schema t) (IsValidDraft next schema t) line r
 
 not_tag : (k : LineKind) (a b l : List ℕ) (n : ℕ) → IsLineOf k a b l → (tag_of k ≡ n → ⊥) → tag (ended l) ≢ n
 not_tag k a b l n is other e = other (sym (line_tag k a b l is) ∙ e)
@@ -44,8 +44,8 @@ in_nodes : (schema : Schema) (s : Draft) (k : LineKind) (a b l : List ℕ) → I
     → PairEnding stage.Nodes schema s (ended l)
 in_nodes schema s k a b l valid is c n = ends_in_nodes schema s (ended l) valid (not_tag k a b l 99 is c) (not_tag k a b l 110 is n)
 
-one_part : {X : Type 0} (text : X → List ℕ × List ℕ) (MayBe Then : X → Type 0) (a b : List ℕ) (r : Result (Unit {0}) Fault) → b ≡ [] → Takes text MayBe Then (a, []) r → Takes text MayBe Then (a, b) r
-one_part text MayBe Then a b r none h = subst (λ (x : List ℕ). Takes text MayBe Then (a, x) r) (sym none) h
+one_part : {X : Type 0} (text : X → List ℕ × List ℕ) (MayBe Then : X → Type 0) (a b : List ℕ) (r : Result (Unit {0}) Fault) → b ≡ [] → ReadsValue text MayBe Then (a, []) r → ReadsValue text MayBe Then (a, b) r
+one_part text MayBe Then a b r none h = subst (λ (x : List ℕ). ReadsValue text MayBe Then (a, x) r) (sym none) h
 
 files_at : (at : Stage) (k : LineKind) (schema : Schema) (s t : Draft) (a b l : List ℕ) (r : Result (Unit {0}) Fault) → IsValid schema → IsValidDraft at schema s → IsLineOf k a b l
     → WordsAreRead at schema k s t (a, b) r → FilesGoAt (next_stage at k) at schema s t (ended l) r
@@ -98,7 +98,7 @@ files_at _ _ schema s t a b l r good valid is h = tt
 abbrev last : List (List ℕ)
 last = codes "end\n" ∷ []
 
-pub some_text : (at : Stage) → (lines : List (List ℕ)) × TextLeft at lines
+pub some_text : (at : Stage) → (lines : List (List ℕ)) × TextRemaining at lines
 some_text stage.Start = (
   codes "safebound-stats 1 0\n" ∷ last,
   record {
@@ -137,7 +137,7 @@ table_staged : (schema : Schema) (t : Draft) (x y : Stage) (file : StatsFile) (m
 table_staged schema t x y file more h =
     record { table = h.table; exists = h.exists; pairs = h.pairs; tables = h.tables; keeps = h.keeps; is = h.is; all = h.all }
 
-pair_staged : (Left : Pair → List (List ℕ) → Type 0) (schema : Schema) (t : Draft) (x y : Stage) (file : StatsFile) (more : List (List ℕ)) → InPair Left schema (staged t x) file more
+pair_staged : (Left : PairStats → List (List ℕ) → Type 0) (schema : Schema) (t : Draft) (x y : Stage) (file : StatsFile) (more : List (List ℕ)) → InPair Left schema (staged t x) file more
     → InPair Left schema (staged t y) file more
 pair_staged Left schema t x y file more h = record {
   table = h.table;
@@ -152,17 +152,17 @@ pair_staged Left schema t x y file more h = record {
   all = h.all;
 }
 
-files_staged : (at : Stage) (schema : Schema) (t : Draft) (x y : Stage) (file : StatsFile) (more : List (List ℕ)) → FileLeft at schema (staged t x) file more → FileLeft at schema (staged t y) file more
+files_staged : (at : Stage) (schema : Schema) (t : Draft) (x y : Stage) (file : StatsFile) (more : List (List ℕ)) → FileRemaining at schema (staged t x) file more → FileRemaining at schema (staged t y) file more
 files_staged stage.Start schema t x y file more h = h
 files_staged stage.Tables schema t x y file more h = file_staged schema t x y file more h
 files_staged stage.Pairs schema t x y file more h = table_staged schema t x y file more h
-files_staged stage.Whole schema t x y file more h = pair_staged (WholeLeft t.pair) schema t x y file more h
-files_staged stage.Frequent schema t x y file more h = pair_staged (FrequentLeft t.pair) schema t x y file more h
-files_staged stage.Cuts schema t x y file more h = pair_staged (CutsLeft t.pair) schema t x y file more h
-files_staged stage.Nodes schema t x y file more h = pair_staged (NodesLeft t.pair) schema t x y file more h
+files_staged stage.Whole schema t x y file more h = pair_staged (WholeRemaining t.pair) schema t x y file more h
+files_staged stage.Frequent schema t x y file more h = pair_staged (FrequentRemaining t.pair) schema t x y file more h
+files_staged stage.Cuts schema t x y file more h = pair_staged (CutsRemaining t.pair) schema t x y file more h
+files_staged stage.Nodes schema t x y file more h = pair_staged (NodesRemaining t.pair) schema t x y file more h
 files_staged stage.Done schema t x y file more h = h
 
-valid_pair_staged : (Left : Pair → List (List ℕ) → Type 0) (schema : Schema) (t : Draft) (x y : Stage) → IsValidPair Left schema (staged t x) → IsValidPair Left schema (staged t y)
+valid_pair_staged : (Left : PairStats → List (List ℕ) → Type 0) (schema : Schema) (t : Draft) (x y : Stage) → IsValidPair Left schema (staged t x) → IsValidPair Left schema (staged t y)
 valid_pair_staged Left schema t x y v = record {
   table = v.table;
   exists = v.exists;
@@ -178,10 +178,10 @@ valid_staged : (at : Stage) (schema : Schema) (t : Draft) (x y : Stage) → (at 
 valid_staged stage.Start schema t x y other v = absurd (other refl)
 valid_staged stage.Tables schema t x y other v = v
 valid_staged stage.Pairs schema t x y other v = record { table = v.table; exists = v.exists; keeps = v.keeps }
-valid_staged stage.Whole schema t x y other v = valid_pair_staged (WholeLeft t.pair) schema t x y v
-valid_staged stage.Frequent schema t x y other v = valid_pair_staged (FrequentLeft t.pair) schema t x y v
-valid_staged stage.Cuts schema t x y other v = valid_pair_staged (CutsLeft t.pair) schema t x y v
-valid_staged stage.Nodes schema t x y other v = valid_pair_staged (NodesLeft t.pair) schema t x y v
+valid_staged stage.Whole schema t x y other v = valid_pair_staged (WholeRemaining t.pair) schema t x y v
+valid_staged stage.Frequent schema t x y other v = valid_pair_staged (FrequentRemaining t.pair) schema t x y v
+valid_staged stage.Cuts schema t x y other v = valid_pair_staged (CutsRemaining t.pair) schema t x y v
+valid_staged stage.Nodes schema t x y other v = valid_pair_staged (NodesRemaining t.pair) schema t x y v
 valid_staged stage.Done schema t x y other v = v
 
 starts_once : (at : Stage) (k : LineKind) → next_stage at k ≡ Some stage.Start → ⊥
@@ -206,11 +206,11 @@ starts_once stage.Nodes kind.End e = absurd (cc)
 starts_once _ _ e = absurd (cc)
 
 pub leaves : (schema : Schema) (s : Draft) (k : LineKind) (a b l : List ℕ) → IsLineOf k a b l → next_stage s.stage k ≡ None
-    → (more : List (List ℕ)) → TextLeft s.stage (ended l ∷ more) → ⊥
+    → (more : List (List ℕ)) → TextRemaining s.stage (ended l ∷ more) → ⊥
 leaves schema s k a b l is none more h = subst (λ (o : Option Stage). TextLeftAt o more) none (text_step s.stage k (ended l) more (kind_line k a b l is) h)
 
 by_result : (schema : Schema) (s t : Draft) (k : LineKind) (next : Stage) (a b l : List ℕ) (r : Result (Unit {0}) Fault) → IsLineOf k a b l → next_stage s.stage k ≡ Some next
-    → FilesGo (FileLeft s.stage schema s) (FileLeft next schema t) (IsValidDraft next schema t) (ended l) r → LineAnswers schema s (staged t next) (ended l) r
+    → FilesGo (FileRemaining s.stage schema s) (FileRemaining next schema t) (IsValidDraft next schema t) (ended l) r → LineAnswers schema s (staged t next) (ended l) r
 by_result schema s t k next a b l (Ok done) is to h = record {
   files = λ file more. (
     λ x. files_staged next schema t t.stage next file more ((h.0 file more).0 x),
@@ -244,7 +244,7 @@ any_draft schema s t u line fault.Syntax h = h
 any_draft schema s t u line fault.Rule h = h
 any_draft schema s t u line fault.NoMemory h = h
 
-pub no_line : (schema : Schema) (s : Draft) (l : List ℕ) → IsNoLine l → (more : List (List ℕ)) → TextLeft s.stage (ended l ∷ more) → ⊥
+pub no_line : (schema : Schema) (s : Draft) (l : List ℕ) → IsNoLine l → (more : List (List ℕ)) → TextRemaining s.stage (ended l ∷ more) → ⊥
 no_line schema s l none more h = no_text s.stage (ended l) more (λ k is. let found = line_kind k l is in none k found.0 found.1 found.2) h
 
 pub is_ready : (at : Stage) (k : LineKind) (next : Stage) (schema : Schema) (s : Draft) → next_stage at k ≡ Some next → IsValidDraft at schema s → IsReadyAt at k schema s

@@ -4,13 +4,13 @@ use Rattle.std.specs.Prelude.{All, AllPairs}
 use Rattle.std.proofs.lemmas.Bool.{eqb-false}
 use Rattle.std.proofs.lemmas.Option.{get_or_from_slice_get, slice_get_within}
 use Rattle.schema_types.specs.declared.types.Schema.{Schema}
-use Rattle.stats_file.specs.declared.types.Pair.{Pair}
+use Rattle.stats_file.specs.declared.types.PairStats.{PairStats}
 use Rattle.stats_file.specs.declared.types.TableStats.{TableStats}
-use Rattle.stats_file.specs.Rules.{KeepsRules, StandsBefore}
+use Rattle.stats_file.specs.Rules.{KeepsRules, ComesBefore}
 use Rattle.stats_reading.specs.declared.draft.Draft.{Draft}
 use Rattle.stats_reading.specs.declared.stages.Stage.TheVariants as stage
 use Rattle.stats_reading.specs.Drafts.{empty_pair, pair_ended, table_ended, IsPlaceOf, PairsAscend, TablesAscend}
-use Rattle.stats_reading.specs.Left.{file_of_draft}
+use Rattle.stats_reading.specs.Remaining.{file_of_draft}
 use Rattle.stats_reading.specs.Steps.{PairEnds, TableEnds}
 use Rattle.stats_reading.specs.Valid.{IsValidDraft, IsValidTable}
 use Rattle.stats_reading.proofs.Begun.{pair_ended_valid, table_ended_valid}
@@ -23,32 +23,32 @@ filled n e = let other = eqb-false n 0 e in omega (arith, other)
 
 -- ---- pairs
 
-stands_behind : (a b c : Pair) → StandsBefore a b → StandsBefore b c → StandsBefore a c
+stands_behind : (a b c : PairStats) → ComesBefore a b → ComesBefore b c → ComesBefore a c
 stands_behind a b c (inl f) (inl g) = inl (omega arith)
 stands_behind a b c (inl f) (inr (g, h)) = inl (omega arith)
 stands_behind a b c (inr (f, g)) (inl h) = inl (omega arith)
 stands_behind a b c (inr (f, g)) (inr (h, k)) = inr (omega arith, omega arith)
 
-none_behind : (a b : Pair) → StandsBefore a b → a.filter ≤ b.filter
+none_behind : (a b : PairStats) → ComesBefore a b → a.filter ≤ b.filter
 none_behind a b (inl f) = omega arith
 none_behind a b (inr (f, g)) = omega arith
 
-pub later_than_last : (pairs : List Pair) (pair : Pair) (d : Pair) → 0 < length pairs → AllPairs StandsBefore pairs
-    → StandsBefore (get_or pairs (length pairs - 1) d) pair ↔ All (λ q. StandsBefore q pair) pairs
+pub later_than_last : (pairs : List PairStats) (pair : PairStats) (d : PairStats) → 0 < length pairs → AllPairs ComesBefore pairs
+    → ComesBefore (get_or pairs (length pairs - 1) d) pair ↔ All (λ q. ComesBefore q pair) pairs
 later_than_last pairs pair d some ascend = (
-  λ h. last_tells StandsBefore (λ q. StandsBefore q pair) (λ a b. stands_behind a b pair) pairs ascend
-      (λ last at. subst (λ (q : Pair). StandsBefore q pair) (get_or_from_slice_get pairs (length pairs - 1) last d at) h),
+  λ h. last_tells ComesBefore (λ q. ComesBefore q pair) (λ a b. stands_behind a b pair) pairs ascend
+      (λ last at. subst (λ (q : PairStats). ComesBefore q pair) (get_or_from_slice_get pairs (length pairs - 1) last d at) h),
   λ all. all (length pairs - 1) d (omega arith),
 )
 
-pub later_than : (pairs : List Pair) (pair : Pair) (q : Pair) → q ≡ get_or pairs (length pairs - 1) q → 0 < length pairs → AllPairs StandsBefore pairs
-    → StandsBefore q pair ↔ All (λ p. StandsBefore p pair) pairs
+pub later_than : (pairs : List PairStats) (pair : PairStats) (q : PairStats) → q ≡ get_or pairs (length pairs - 1) q → 0 < length pairs → AllPairs ComesBefore pairs
+    → ComesBefore q pair ↔ All (λ p. ComesBefore p pair) pairs
 later_than pairs pair q is some ascend =
     let same = later_than_last pairs pair q some ascend in
-    (λ h. same.0 (subst (λ (p : Pair). StandsBefore p pair) is h), λ all. subst (λ (p : Pair). StandsBefore p pair) (sym is) (same.1 all))
+    (λ h. same.0 (subst (λ (p : PairStats). ComesBefore p pair) is h), λ all. subst (λ (p : PairStats). ComesBefore p pair) (sym is) (same.1 all))
 
-pub no_place : (pairs : List Pair) (filter : ℕ) (d : Pair) → 0 < length pairs → AllPairs StandsBefore pairs → All (λ (q : Pair). q.filter ≤ filter) pairs
-    → (get_or pairs (length pairs - 1) d).filter ≢ filter → IsPlaceOf (λ (q : Pair). q.filter) filter pairs (length pairs)
+pub no_place : (pairs : List PairStats) (filter : ℕ) (d : PairStats) → 0 < length pairs → AllPairs ComesBefore pairs → All (λ (q : PairStats). q.filter ≤ filter) pairs
+    → (get_or pairs (length pairs - 1) d).filter ≢ filter → IsPlaceOf (λ (q : PairStats). q.filter) filter pairs (length pairs)
 no_place pairs filter d some ascend within other = record {
   found = λ q at. let lt = slice_get_within pairs (length pairs) q at in absurd (omega (arith, lt));
   none = λ at k e lt f. let below = all_below k e lt in omega (arith, below, f);
@@ -57,11 +57,11 @@ no_place pairs filter d some ascend within other = record {
     below_filter : (get_or pairs (length pairs - 1) d).filter < filter
     below_filter = let le = within (length pairs - 1) d (omega arith) in omega (arith, le, other)
 
-    all_below : All (λ (q : Pair). q.filter < filter) pairs
-    all_below = last_tells StandsBefore (λ (q : Pair). q.filter < filter) (λ a b before lt. let le = none_behind a b before in omega (arith, le, lt)) pairs ascend
-        (λ last at. subst (λ (q : Pair). q.filter < filter) (get_or_from_slice_get pairs (length pairs - 1) last d at) below_filter)
+    all_below : All (λ (q : PairStats). q.filter < filter) pairs
+    all_below = last_tells ComesBefore (λ (q : PairStats). q.filter < filter) (λ a b before lt. let le = none_behind a b before in omega (arith, le, lt)) pairs ascend
+        (λ last at. subst (λ (q : PairStats). q.filter < filter) (get_or_from_slice_get pairs (length pairs - 1) last d at) below_filter)
 
-pub none_later : (pairs : List Pair) (filter joined : ℕ) → All (λ q. StandsBefore q (empty_pair filter joined)) pairs → All (λ (q : Pair). q.filter ≤ filter) pairs
+pub none_later : (pairs : List PairStats) (filter joined : ℕ) → All (λ q. ComesBefore q (empty_pair filter joined)) pairs → All (λ (q : PairStats). q.filter ≤ filter) pairs
 none_later pairs filter joined all k d lt = none_behind (get_or pairs k d) (empty_pair filter joined) (all k d lt)
 
 -- ---- tables
@@ -77,7 +77,7 @@ later_than_last_table tables place d some ascend = (
 -- ---- the complete pairs and tables of a valid draft ascend
 
 pairs_of_table : (schema : Schema) (s : Draft) → IsValidTable schema s → PairsAscend s
-pairs_of_table schema s v = subst (AllPairs StandsBefore) (append-nil s.section.pairs) (section_at schema s [] [] v.keeps).order
+pairs_of_table schema s v = subst (AllPairs ComesBefore) (append-nil s.section.pairs) (section_at schema s [] [] v.keeps).order
 
 tables_of_file : (schema : Schema) (s : Draft) → KeepsRules schema (file_of_draft s []) → TablesAscend s
 tables_of_file schema s keeps = subst (AllPairs (λ (a b : TableStats). a.table < b.table)) (append-nil s.tables) keeps.order

@@ -5,7 +5,7 @@ use Rattle.std.specs.declared.cmp.Ordering.TheVariants.{Greater}
 use Rattle.std.proofs.lemmas.List.{length-replicate}
 use Rattle.std.proofs.lemmas.List.Quantifiers.{all_pairs_push}
 use Rattle.std.proofs.lemmas.Str.{IsUtf8-nil}
-use Rattle.degree_sequences.specs.Falling.{IsFalling}
+use Rattle.degree_sequences.specs.Descending.{IsDescending}
 use Rattle.schema_types.specs.declared.types.Column.{Column}
 use Rattle.schema_types.specs.declared.types.Kind.{Kind}
 use Rattle.schema_types.specs.declared.types.Kind.TheVariants as kinds
@@ -13,19 +13,19 @@ use Rattle.schema_types.specs.declared.types.Schema.{Schema}
 use Rattle.schema_types.specs.declared.types.Table.{Table}
 use Rattle.stats_file.specs.declared.types.Datum.{Datum}
 use Rattle.stats_file.specs.declared.types.Datum.TheVariants as datum
-use Rattle.stats_file.specs.declared.types.Pair.{Pair}
+use Rattle.stats_file.specs.declared.types.PairStats.{PairStats}
 use Rattle.stats_file.specs.declared.types.TableStats.{TableStats}
 use Rattle.stats_file.specs.Rules.{datum_cmp, Agree, AreFrequent, HaveSameFilterCounts, IsList, IsOfKind, IsPair, IsSection, IsHistogram, IsHistogramOf, KeepsRules}
 use Rattle.stats_reading.specs.declared.draft.Draft.{Draft}
-use Rattle.stats_reading.specs.Drafts.{empty_pair, pair_ended, table_ended, AreSmall, BeginsPair, IsPlaceOf, HasAllNodes, MayBePair, MayBeTable, Place}
-use Rattle.stats_reading.specs.Left.{file_of_draft, frequent_lines, section_of, whole_line, CutsLeft, WholeLeft}
+use Rattle.stats_reading.specs.Drafts.{empty_pair, pair_ended, table_ended, AreSmall, BeginsPair, IsPlaceOf, HasAllNodes, MayBePair, MayBeTable, TableWithRows}
+use Rattle.stats_reading.specs.Remaining.{file_of_draft, frequent_lines, section_of, whole_line, CutsRemaining, WholeRemaining}
 use Rattle.stats_reading.specs.Valid.{IsValidPair, IsValidTable}
 use Rattle.stats_reading.proofs.Counts.{members_agree}
 use Rattle.stats_reading.proofs.Edges.{begun, ended_is, same_pair, table_is, with_section}
 use Rattle.stats_reading.proofs.Grown.{no_more, rules_of}
 use Rattle.stats_reading.proofs.OrderFacts.{all_same, pairs_padded, value_itself}
 use Rattle.stats_reading.proofs.RuleFacts.{section_at, section_rules, with_pair, PairRules}
-use Rattle.stats_reading.proofs.Seams.{all_at, all_left, all_more, same_some}
+use Rattle.stats_reading.proofs.AppendedLists.{all_at, all_left, all_more, same_some}
 
 -- ---- a pair ends
 
@@ -41,9 +41,9 @@ nodes_whole : (kind : Kind) (rows : ℕ) (cuts : List Datum) (front old : List (
 nodes_whole kind zero cuts front old (none, others) all = (nothing front old others).1
 nodes_whole kind (suc n) cuts front old is all = no_more front old (is.all ∙ sym (all (omega arith)))
 
-pub pair_ended_valid : (schema : Schema) (s : Draft) → IsValidPair (CutsLeft s.pair) schema s → HasAllNodes s → IsValidTable schema (pair_ended s)
+pub pair_ended_valid : (schema : Schema) (s : Draft) → IsValidPair (CutsRemaining s.pair) schema s → HasAllNodes s → IsValidTable schema (pair_ended s)
 pair_ended_valid schema s v whole =
-    let rules = rules_of (CutsLeft s.pair) schema s v in
+    let rules = rules_of (CutsRemaining s.pair) schema s v in
     let cuts = v.left.0 in
     let tree = v.left.1 in
     let g = tree.grows in
@@ -58,7 +58,7 @@ pair_ended_valid schema s v whole =
     record {
       table = v.table;
       exists = v.exists;
-      keeps = subst (KeepsRules schema) (ap (λ (p : Pair). file_of_draft s (section_of s (p ∷ []) ∷ [])) same ∙ ended_is s [] []) v.keeps;
+      keeps = subst (KeepsRules schema) (ap (λ (p : PairStats). file_of_draft s (section_of s (p ∷ []) ∷ [])) same ∙ ended_is s [] []) v.keeps;
     }
 
 -- ---- a table ends
@@ -68,7 +68,7 @@ table_ended_valid schema s v = subst (KeepsRules schema) (table_is s []) v.keeps
 
 -- ---- a table begins
 
-pub table_begun_valid : (schema : Schema) (s : Draft) (v : Place) → KeepsRules schema (file_of_draft s []) → MayBeTable schema s v → IsValidTable schema (with_section s v)
+pub table_begun_valid : (schema : Schema) (s : Draft) (v : TableWithRows) → KeepsRules schema (file_of_draft s []) → MayBeTable schema s v → IsValidTable schema (with_section s v)
 table_begun_valid schema s v keeps may =
     let none : s.tables ++ [] ≡ s.tables = append-nil s.tables in
     let section = section_of (with_section s v) [] in
@@ -107,7 +107,7 @@ all_rows_is : (rows : ℕ) → IsList rows (all_rows rows) × (sum (all_rows row
 all_rows_is zero = (list_of_none 0, refl)
 all_rows_is (suc n) = (record { falls = falls; positive = positive; within = omega arith }, omega arith)
   where
-    falls : IsFalling (suc n ∷ [])
+    falls : IsDescending (suc n ∷ [])
     falls r = omega arith
 
     positive : All (λ x. 0 < x) (suc n ∷ [])
@@ -133,7 +133,7 @@ some_tree_is kind rows = record {
 }
 
 -- a new pair may go on with these lists after its list of all rows
-record Counted (s : Draft) (kind : Kind) (rows filter joined : ℕ) (whole : List ℕ) : Type 0 where
+record RestOfPair (s : Draft) (kind : Kind) (rows filter joined : ℕ) (whole : List ℕ) : Type 0 where
   frequent : List (Datum × List ℕ)
   rest : List ℕ
   cuts : List Datum
@@ -141,7 +141,7 @@ record Counted (s : Draft) (kind : Kind) (rows filter joined : ℕ) (whole : Lis
   are : AreFrequent kind rows frequent
   rest_is : IsList rows rest
   tree : IsHistogramOf kind rows cuts nodes
-  counts : (k : ℕ) (d : Pair) → k < length s.section.pairs → (get_or s.section.pairs k d).filter ≡ filter
+  counts : (k : ℕ) (d : PairStats) → k < length s.section.pairs → (get_or s.section.pairs k d).filter ≡ filter
       → HaveSameFilterCounts (get_or s.section.pairs k d) (record { filter = filter; joined = joined; whole = whole; frequent = frequent; rest = rest; cuts = cuts; nodes = nodes })
 
 no_values : (kind : Kind) (rows : ℕ) → AreFrequent kind rows []
@@ -152,7 +152,7 @@ no_values kind rows = record {
   lists = λ k d lt. absurd (omega arith);
 }
 
-alone : (s : Draft) (kind : Kind) (rows filter joined : ℕ) (whole : List ℕ) → All (λ q. q.filter ≢ filter) s.section.pairs → Counted s kind rows filter joined whole
+alone : (s : Draft) (kind : Kind) (rows filter joined : ℕ) (whole : List ℕ) → All (λ q. q.filter ≢ filter) s.section.pairs → RestOfPair s kind rows filter joined whole
 alone s kind zero filter joined whole none = record {
   frequent = [];
   rest = [];
@@ -174,8 +174,8 @@ alone s kind (suc n) filter joined whole none = record {
   counts = λ k d lt e. absurd (none k d lt e);
 }
 
-copied : (table : Table) (s : Draft) (kind : Kind) (filter joined place : ℕ) (whole : List ℕ) (q : Pair) (is : IsPair table s.section.rows q) → is.filter.kind ≡ kind → AllPairs Agree s.section.pairs
-    → slice_get s.section.pairs place ≡ Some q → q.filter ≡ filter → Counted s kind s.section.rows filter joined whole
+copied : (table : Table) (s : Draft) (kind : Kind) (filter joined place : ℕ) (whole : List ℕ) (q : PairStats) (is : IsPair table s.section.rows q) → is.filter.kind ≡ kind → AllPairs Agree s.section.pairs
+    → slice_get s.section.pairs place ≡ Some q → q.filter ≡ filter → RestOfPair s kind s.section.rows filter joined whole
 copied table s kind filter joined place whole q is same agree at column = record {
   frequent = q.frequent;
   rest = q.rest;
@@ -187,22 +187,22 @@ copied table s kind filter joined place whole q is same agree at column = record
   counts = λ k d lt e. again k d ((members_agree s.section.pairs k place d q agree lt at).filter (e ∙ sym column));
 }
   where
-    again : (k : ℕ) (d : Pair) → HaveSameFilterCounts (get_or s.section.pairs k d) q
+    again : (k : ℕ) (d : PairStats) → HaveSameFilterCounts (get_or s.section.pairs k d) q
         → HaveSameFilterCounts (get_or s.section.pairs k d) (record { filter = filter; joined = joined; whole = whole; frequent = q.frequent; rest = q.rest; cuts = q.cuts; nodes = q.nodes })
     again k d h = record { values = h.values; totals = h.totals; rest = h.rest; cuts = h.cuts; nodes = h.nodes }
 
 -- a new pair with this joined column may begin with this list of all rows
-record Totalled (s : Draft) (joined : ℕ) : Type 0 where
+record ListOfAllRows (s : Draft) (joined : ℕ) : Type 0 where
   whole : List ℕ
   is : IsList s.section.rows whole
   all : sum whole ≡ s.section.rows
-  alike : (k : ℕ) (d : Pair) → k < length s.section.pairs → (get_or s.section.pairs k d).joined ≡ joined → (get_or s.section.pairs k d).whole ≡ whole
+  alike : (k : ℕ) (d : PairStats) → k < length s.section.pairs → (get_or s.section.pairs k d).joined ≡ joined → (get_or s.section.pairs k d).whole ≡ whole
 
 totalled : (table : Table) (s : Draft) (joined place : ℕ) → All (IsPair table s.section.rows) s.section.pairs → AllPairs Agree s.section.pairs
-    → IsPlaceOf (λ q. q.joined) joined s.section.pairs place → Totalled s joined
+    → IsPlaceOf (λ q. q.joined) joined s.section.pairs place → ListOfAllRows s joined
 totalled table s joined place are agree found = at (slice_get s.section.pairs place) refl
   where
-    at : (o : Option Pair) → slice_get s.section.pairs place ≡ o → Totalled s joined
+    at : (o : Option PairStats) → slice_get s.section.pairs place ≡ o → ListOfAllRows s joined
     at None e = record {
       whole = all_rows s.section.rows;
       is = (all_rows_is s.section.rows).0;
@@ -220,10 +220,10 @@ totalled table s joined place are agree found = at (slice_get s.section.pairs pl
 
 counted : (table : Table) (s : Draft) (column : Column) (filter joined place : ℕ) (whole : List ℕ) → slice_get table.columns filter ≡ Some column
     → All (IsPair table s.section.rows) s.section.pairs → AllPairs Agree s.section.pairs → IsPlaceOf (λ q. q.filter) filter s.section.pairs place
-    → Counted s column.kind s.section.rows filter joined whole
+    → RestOfPair s column.kind s.section.rows filter joined whole
 counted table s column filter joined place whole exists are agree found = at (slice_get s.section.pairs place) refl
   where
-    at : (o : Option Pair) → slice_get s.section.pairs place ≡ o → Counted s column.kind s.section.rows filter joined whole
+    at : (o : Option PairStats) → slice_get s.section.pairs place ≡ o → RestOfPair s column.kind s.section.rows filter joined whole
     at None e = alone s column.kind s.section.rows filter joined whole (found.none e)
     at (Some q) e =
         let is = all_at (IsPair table s.section.rows) s.section.pairs place q are e in
@@ -235,7 +235,7 @@ counted table s column filter joined place whole exists are agree found = at (sl
 begun_valid : (schema : Schema) (table : Table) (s : Draft) (filter joined same_filter_at same_joined_at : ℕ) (column : Column) → IsValidTable schema s → slice_get schema.tables s.section.table ≡ Some table
     → MayBePair table s filter joined → slice_get table.columns filter ≡ Some column → IsPlaceOf (λ q. q.filter) filter s.section.pairs same_filter_at
     → IsPlaceOf (λ q. q.joined) joined s.section.pairs same_joined_at
-    → IsValidPair (WholeLeft (empty_pair filter joined)) schema (begun s filter joined column.kind same_filter_at same_joined_at)
+    → IsValidPair (WholeRemaining (empty_pair filter joined)) schema (begun s filter joined column.kind same_filter_at same_joined_at)
 begun_valid schema table s filter joined same_filter_at same_joined_at column v exists may column_is has_like has_twin =
     let none : s.section.pairs ++ [] ≡ s.section.pairs = append-nil s.section.pairs in
     let rules = section_rules schema table (section_of s []) (section_at schema s [] [] v.keeps) exists in
@@ -243,7 +243,7 @@ begun_valid schema table s filter joined same_filter_at same_joined_at column v 
     let agree = subst (AllPairs Agree) none rules.agree in
     let t = totalled table s joined same_joined_at are agree has_twin in
     let n = counted table s column filter joined same_filter_at t.whole column_is are agree has_like in
-    let p : Pair = record { filter = filter; joined = joined; whole = t.whole; frequent = n.frequent; rest = n.rest; cuts = n.cuts; nodes = n.nodes } in
+    let p : PairStats = record { filter = filter; joined = joined; whole = t.whole; frequent = n.frequent; rest = n.rest; cuts = n.cuts; nodes = n.nodes } in
     let of_pair : PairRules table s.section.rows s.section.pairs p = record {
       is = record {
         filter = column;
@@ -275,14 +275,14 @@ begun_valid schema table s filter joined same_filter_at same_joined_at column v 
     }
 
 pub pair_begun_valid : (schema : Schema) (table : Table) (s t : Draft) (filter joined : ℕ) → IsValidTable schema s → slice_get schema.tables s.section.table ≡ Some table
-    → MayBePair table s filter joined → BeginsPair table s t filter joined → IsValidPair (WholeLeft t.pair) schema t
+    → MayBePair table s filter joined → BeginsPair table s t filter joined → IsValidPair (WholeRemaining t.pair) schema t
 pair_begun_valid schema table s t filter joined v exists may b =
-    subst (λ (x : Draft). IsValidPair (WholeLeft x.pair) schema x) (sym b.whole)
+    subst (λ (x : Draft). IsValidPair (WholeRemaining x.pair) schema x) (sym b.whole)
     (begun_valid schema table s filter joined t.same_filter_at t.same_joined_at b.column v exists may b.column_is b.same_filter_at b.same_joined_at)
 
 -- ---- sums of lists fit into a `u64`
 
-small_pair : (table : Table) (rows : ℕ) (q : Pair) → rows < 2 ^ 64 → IsPair table rows q → AreSmall q
+small_pair : (table : Table) (rows : ℕ) (q : PairStats) → rows < 2 ^ 64 → IsPair table rows q → AreSmall q
 small_pair table rows q few is = record {
   rest = let within : sum q.rest ≤ rows = is.rest.within in omega arith;
   frequent = λ k d lt. let within : sum (get_or q.frequent k d).1 ≤ rows = (is.frequent.lists k d lt).within in omega arith;
@@ -293,7 +293,7 @@ small_pair table rows q few is = record {
     node_lists kind zero cuts nodes (none, others) = subst (λ (ns : List (List ℕ)). All (IsList zero) ns) (sym others) (λ i d lt. absurd (omega arith))
     node_lists kind (suc n) cuts nodes is = is.lists
 
-pub small_pairs : (schema : Schema) (table : Table) (s : Draft) (pairs : List Pair) (tables : List TableStats) → slice_get schema.tables s.section.table ≡ Some table
+pub small_pairs : (schema : Schema) (table : Table) (s : Draft) (pairs : List PairStats) (tables : List TableStats) → slice_get schema.tables s.section.table ≡ Some table
     → KeepsRules schema (file_of_draft s (section_of s pairs ∷ tables)) → All AreSmall s.section.pairs
 small_pairs schema table s pairs tables exists keeps =
     let at = section_at schema s pairs tables keeps in

@@ -12,7 +12,7 @@ use Rattle.schema_types.specs.declared.types.Table.{Table}
 use Rattle.schema_types.specs.Validity.{is_plain, IsValid}
 use Rattle.stats_file.specs.declared.types.Datum.{Datum}
 use Rattle.stats_file.specs.declared.types.Datum.TheVariants as datum
-use Rattle.stats_file.specs.declared.types.Pair.{Pair}
+use Rattle.stats_file.specs.declared.types.PairStats.{PairStats}
 use Rattle.stats_file.specs.declared.types.StatsFile.{StatsFile}
 use Rattle.stats_file.specs.Bytes.{AreBytes, ConsistOfBytes, HasBytes, HasByteValues}
 use Rattle.stats_file.specs.Rules.{IsOfKind, IsPair, IsHistogramOf, KeepsRules}
@@ -42,7 +42,7 @@ cut_bytes : (k : Kind) (rows : ℕ) (cuts : List Datum) (nodes : List (List ℕ)
 cut_bytes k zero cuts nodes (none, others) = subst (All HasBytes) (sym none) (λ i d lt. absurd (omega arith))
 cut_bytes k (suc n) cuts nodes is = λ i d lt. value_bytes k (get_or cuts i d) (is.values i d lt)
 
-pair_bytes : (table : Table) (rows : ℕ) (pair : Pair) → IsPair table rows pair → HasByteValues pair
+pair_bytes : (table : Table) (rows : ℕ) (pair : PairStats) → IsPair table rows pair → HasByteValues pair
 pair_bytes table rows pair is = record {
   frequent = λ i d lt. value_bytes is.filter.kind (get_or pair.frequent i d).0 (is.frequent.values i d lt);
   cuts = cut_bytes is.filter.kind rows pair.cuts pair.nodes is.tree;

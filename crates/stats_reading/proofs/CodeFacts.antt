@@ -12,7 +12,7 @@ use Rattle.piece_math.specs.declared.pieces.Piece.{Piece}
 use Rattle.piece_math.specs.Expanded.{expanded, ArePieces}
 use Rattle.stats_file.specs.declared.types.Datum.{Datum}
 use Rattle.stats_file.specs.declared.types.Datum.TheVariants as datum
-use Rattle.stats_file.specs.declared.types.Pair.{Pair}
+use Rattle.stats_file.specs.declared.types.PairStats.{PairStats}
 use Rattle.stats_file.specs.Rules.{datum_cmp}
 use Rattle.stats_file.specs.Runs.{runs_of}
 use Rattle.stats_file.proofs.RunFacts.{runs_found}
@@ -25,9 +25,9 @@ use Rattle.stats_reading.specs.declared.line.LineKind.TheVariants as kind
 use Rattle.stats_reading.specs.declared.stages.Stage.{Stage}
 use Rattle.stats_reading.specs.declared.stages.Stage.TheVariants as stage
 use Rattle.stats_reading.specs.Drafts.{table_ended}
-use Rattle.stats_reading.specs.Kinds.{has_two, words_text, AreLineParts, MayStandBehind}
+use Rattle.stats_reading.specs.Kinds.{has_two, words_text, AreLineParts, SplitsInto}
 use Rattle.stats_reading.specs.Steps.{Ends, PairEnds, TableEnds}
-use Rattle.stats_reading.proofs.Seams.{same_some}
+use Rattle.stats_reading.proofs.AppendedLists.{same_some}
 use Rattle.stats_reading.proofs.WordFacts.{hex_word_blank, value_blank}
 
 equal_itself : {K : Type 0} (R : K → K → Ordering) → IsTotalOrder R → (a : K) → R a a ≡ Equal
@@ -50,8 +50,8 @@ pub pieces_are : (a b : List ℕ) (p q : List Piece) → a ≡ expanded p → b 
 pieces_are a b p q is_a is_b are_p are_q =
     (λ e. is_a ∙ ap expanded e ∙ sym is_b, λ e. sym (runs_found a p are_p is_a) ∙ ap runs_of e ∙ runs_found b q are_q is_b)
 
-pub only_here : (pairs : List Pair) (place : ℕ) (q : Pair) (P : Pair → Type 0) (b : Bool) → slice_get pairs place ≡ Some q → (IsTrue b ↔ P q)
-    → IsTrue b ↔ ((o : Pair) → slice_get pairs place ≡ Some o → P o)
+pub only_here : (pairs : List PairStats) (place : ℕ) (q : PairStats) (P : PairStats → Type 0) (b : Bool) → slice_get pairs place ≡ Some q → (IsTrue b ↔ P q)
+    → IsTrue b ↔ ((o : PairStats) → slice_get pairs place ≡ Some o → P o)
 only_here pairs place q P b is h =
     (λ t o at. subst P (same_some q o (slice_get pairs place) is at) (h.0 t), λ all. h.1 (all q is))
 
@@ -74,7 +74,7 @@ parts_there kind.Frequent words f s two split first second are e =
     subst (λ (x : List ℕ). AreLineParts kind.Frequent x s) (sym same.0) (subst (λ (x : List ℕ). AreLineParts kind.Frequent first x) (sym same.1) are)
 parts_there _ words f s two split first second are e = absurd (cc)
 
-pub two_behind : (k : LineKind) (words f s : List ℕ) → has_two k ≡ true → IsSplitAt 32 words f s → MayStandBehind k words f s
+pub two_behind : (k : LineKind) (words f s : List ℕ) → has_two k ≡ true → IsSplitAt 32 words f s → SplitsInto k words f s
 two_behind k words f s two split = record {
   whole = split.whole ∙ sym (two_text k f s two);
   alone = λ one. absurd (cc);

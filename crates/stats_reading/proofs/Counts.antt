@@ -4,27 +4,27 @@ use Rattle.std.proofs.Common.{◌≡◌, ℕ, zero, suc, ◌<◌, List, length, 
 use Rattle.std.specs.Prelude.{All, AllPairs, slice_get}
 use Rattle.std.proofs.lemmas.Option.{get_or_from_slice_get, slice_get_within}
 use Rattle.schema_types.specs.declared.types.Table.{Table}
-use Rattle.stats_file.specs.declared.types.Pair.{Pair}
+use Rattle.stats_file.specs.declared.types.PairStats.{PairStats}
 use Rattle.stats_file.specs.Rules.{Agree, HaveSameFilterCounts}
 use Rattle.stats_reading.specs.declared.draft.Draft.{Draft}
-use Rattle.stats_reading.specs.Drafts.{IsLike, IsTwin}
+use Rattle.stats_reading.specs.Drafts.{HasSameFilter, HasSameJoined}
 use Rattle.stats_reading.specs.Valid.{IsKnown}
 use Rattle.stats_reading.proofs.NextFacts.{twin_whole}
 use Rattle.stats_reading.proofs.RuleFacts.{PairRules}
 
-pub counts_itself : (a : Pair) → HaveSameFilterCounts a a
+pub counts_itself : (a : PairStats) → HaveSameFilterCounts a a
 counts_itself a = record { values = refl; totals = refl; rest = refl; cuts = refl; nodes = refl }
 
-pub counts_back : (a b : Pair) → HaveSameFilterCounts a b → HaveSameFilterCounts b a
+pub counts_back : (a b : PairStats) → HaveSameFilterCounts a b → HaveSameFilterCounts b a
 counts_back a b h = record { values = sym h.values; totals = sym h.totals; rest = sym h.rest; cuts = sym h.cuts; nodes = sym h.nodes }
 
-pub counts_too : (a b c : Pair) → HaveSameFilterCounts a b → HaveSameFilterCounts b c → HaveSameFilterCounts a c
+pub counts_too : (a b c : PairStats) → HaveSameFilterCounts a b → HaveSameFilterCounts b c → HaveSameFilterCounts a c
 counts_too a b c h k = record { values = h.values ∙ k.values; totals = h.totals ∙ k.totals; rest = h.rest ∙ k.rest; cuts = h.cuts ∙ k.cuts; nodes = h.nodes ∙ k.nodes }
 
-pub agree_back : (a b : Pair) → Agree a b → Agree b a
+pub agree_back : (a b : PairStats) → Agree a b → Agree b a
 agree_back a b h = record { joined = λ e. sym (h.joined (sym e)); filter = λ e. counts_back a b (h.filter (sym e)) }
 
-pub agree_itself : (a : Pair) → Agree a a
+pub agree_itself : (a : PairStats) → Agree a a
 agree_itself a = record { joined = λ e. refl; filter = λ e. counts_itself a }
 
 pub data Tri (a b : ℕ) : Type 0 where
@@ -43,8 +43,8 @@ tri (suc a) (suc b) = up (tri a b)
     up (same h) = same (omega arith)
     up (behind h) = behind (omega arith)
 
-pub members_agree : (pairs : List Pair) (i j : ℕ) (d e : Pair) → AllPairs Agree pairs → i < length pairs → slice_get pairs j ≡ Some e → Agree (get_or pairs i d) e
-members_agree pairs i j d e agree lt is = subst (λ (x : Pair). Agree (get_or pairs i d) x) (get_or_from_slice_get pairs j e d is) (at (tri i j))
+pub members_agree : (pairs : List PairStats) (i j : ℕ) (d e : PairStats) → AllPairs Agree pairs → i < length pairs → slice_get pairs j ≡ Some e → Agree (get_or pairs i d) e
+members_agree pairs i j d e agree lt is = subst (λ (x : PairStats). Agree (get_or pairs i d) x) (get_or_from_slice_get pairs j e d is) (at (tri i j))
   where
     within : j < length pairs
     within = slice_get_within pairs j e is
@@ -55,8 +55,8 @@ members_agree pairs i j d e agree lt is = subst (λ (x : Pair). Agree (get_or pa
     at (behind h) = agree_back (get_or pairs j d) (get_or pairs i d) (agree j i d h lt)
 
 -- if an earlier pair has the filter column of p, `other` must have the counts of p too
-pub agrees_after : (table : Table) (s : Draft) (p other : Pair) (rows : ℕ) → IsKnown table s → PairRules table rows s.section.pairs p → p.filter ≡ s.pair.filter
-    → other.filter ≡ p.filter → other.joined ≡ p.joined → other.whole ≡ p.whole → ((q : Pair) → IsLike s q → HaveSameFilterCounts p other) → All (λ q. Agree q other) s.section.pairs
+pub agrees_after : (table : Table) (s : Draft) (p other : PairStats) (rows : ℕ) → IsKnown table s → PairRules table rows s.section.pairs p → p.filter ≡ s.pair.filter
+    → other.filter ≡ p.filter → other.joined ≡ p.joined → other.whole ≡ p.whole → ((q : PairStats) → HasSameFilter s q → HaveSameFilterCounts p other) → All (λ q. Agree q other) s.section.pairs
 agrees_after table s p other rows known rules at_filter same_filter same_joined same_whole counts k d lt =
     let q = get_or s.section.pairs k d in
     let old = rules.agree k d lt in
@@ -65,13 +65,13 @@ agrees_after table s p other rows known rules at_filter same_filter same_joined 
       filter = λ e. by_like (e ∙ same_filter) (slice_get s.section.pairs s.same_filter_at) refl;
     }
   where
-    by_like : (get_or s.section.pairs k d).filter ≡ p.filter → (o : Option Pair) → slice_get s.section.pairs s.same_filter_at ≡ o → HaveSameFilterCounts (get_or s.section.pairs k d) other
+    by_like : (get_or s.section.pairs k d).filter ≡ p.filter → (o : Option PairStats) → slice_get s.section.pairs s.same_filter_at ≡ o → HaveSameFilterCounts (get_or s.section.pairs k d) other
     by_like e None is = absurd (known.same_filter_at.none is k d lt (e ∙ at_filter))
     by_like e (Some same_filter_at) is = counts_too (get_or s.section.pairs k d) p other ((rules.agree k d lt).filter e) (counts same_filter_at is)
 
 -- if an earlier pair has the joined column of p, `list` must be its list of all rows
-pub agrees_whole : (table : Table) (s : Draft) (p : Pair) (list : List ℕ) (rows : ℕ) → IsKnown table s → PairRules table rows s.section.pairs p → p.joined ≡ s.pair.joined
-    → ((q : Pair) → IsTwin s q → q.whole ≡ list) → All (λ q. Agree q (record p { whole = list })) s.section.pairs
+pub agrees_whole : (table : Table) (s : Draft) (p : PairStats) (list : List ℕ) (rows : ℕ) → IsKnown table s → PairRules table rows s.section.pairs p → p.joined ≡ s.pair.joined
+    → ((q : PairStats) → HasSameJoined s q → q.whole ≡ list) → All (λ q. Agree q (record p { whole = list })) s.section.pairs
 agrees_whole table s p list rows known rules at_joined alike k d lt =
     let old = rules.agree k d lt in
     record { joined = λ e. by_twin e (slice_get s.section.pairs s.same_joined_at) refl; filter = λ e. again (old.filter e) }
@@ -79,6 +79,6 @@ agrees_whole table s p list rows known rules at_joined alike k d lt =
     again : HaveSameFilterCounts (get_or s.section.pairs k d) p → HaveSameFilterCounts (get_or s.section.pairs k d) (record p { whole = list })
     again h = record { values = h.values; totals = h.totals; rest = h.rest; cuts = h.cuts; nodes = h.nodes }
 
-    by_twin : (get_or s.section.pairs k d).joined ≡ p.joined → (o : Option Pair) → slice_get s.section.pairs s.same_joined_at ≡ o → (get_or s.section.pairs k d).whole ≡ list
+    by_twin : (get_or s.section.pairs k d).joined ≡ p.joined → (o : Option PairStats) → slice_get s.section.pairs s.same_joined_at ≡ o → (get_or s.section.pairs k d).whole ≡ list
     by_twin e None is = absurd (known.same_joined_at.none is k d lt (e ∙ at_joined))
     by_twin e (Some same_joined_at) is = (rules.agree k d lt).joined e ∙ sym (twin_whole table s p rows known rules at_joined same_joined_at is) ∙ alike same_joined_at is

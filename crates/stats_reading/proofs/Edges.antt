@@ -6,25 +6,25 @@ use Rattle.schema_types.specs.declared.types.Kind.{Kind}
 use Rattle.schema_types.specs.declared.types.Schema.{Schema}
 use Rattle.schema_types.specs.declared.types.Table.{Table}
 use Rattle.stats_file.specs.declared.types.Datum.{Datum}
-use Rattle.stats_file.specs.declared.types.Pair.{Pair}
+use Rattle.stats_file.specs.declared.types.PairStats.{PairStats}
 use Rattle.stats_file.specs.declared.types.StatsFile.{StatsFile}
 use Rattle.stats_file.specs.declared.types.TableStats.{TableStats}
 use Rattle.stats_file.specs.FileText.{file_lines, name_at}
 use Rattle.stats_file.specs.Lines.{end_line, first_line, pair_line, table_line}
-use Rattle.stats_file.specs.Rules.{IsPair, IsSection, IsHistogramOf, KeepsRules, StandsBefore}
+use Rattle.stats_file.specs.Rules.{IsPair, IsSection, IsHistogramOf, KeepsRules, ComesBefore}
 use Rattle.stats_reading.specs.declared.draft.Draft.{Draft}
-use Rattle.stats_reading.specs.Drafts.{empty_draft, empty_pair, empty_section, pair_ended, table_ended, BeginsPair, HasAllNodes, MayBeAccuracy, MayBePair, MayBeTable, Place}
-use Rattle.stats_reading.specs.Left.{file_of_draft, frequent_lines, pairs_left, section_of, tables_left, whole_line, CutsLeft, InFile, InPair, InTable, NodesLeft, WholeLeft}
-use Rattle.stats_reading.proofs.Opens.{parts_here, rules_here, Opened}
+use Rattle.stats_reading.specs.Drafts.{empty_draft, empty_pair, empty_section, pair_ended, table_ended, BeginsPair, HasAllNodes, MayBeAccuracy, MayBePair, MayBeTable, TableWithRows}
+use Rattle.stats_reading.specs.Remaining.{file_of_draft, frequent_lines, pairs_left, section_of, tables_left, whole_line, CutsRemaining, InFile, InPair, InTable, NodesRemaining, WholeRemaining}
+use Rattle.stats_reading.proofs.Opens.{parts_here, rules_here, IsLineOfNext}
 use Rattle.stats_reading.proofs.RuleFacts.{section_rules, section_at}
-use Rattle.stats_reading.proofs.Seams.{all_here, pairs_here, same_some}
+use Rattle.stats_reading.proofs.AppendedLists.{all_here, pairs_here, same_some}
 use Rattle.stats_reading.proofs.Tags.{after_pairs, from_tables, pair_opened, pair_rest, same_tag, tag, to_tables}
 
 pub whole_tree : (kind : Kind) (rows : ℕ) (cuts : List Datum) (nodes : List (List ℕ)) → IsHistogramOf kind rows cuts nodes → 0 < rows → (length cuts ≡ 32) × (length nodes ≡ 63)
 whole_tree kind zero cuts nodes is lt = absurd (omega arith)
 whole_tree kind (suc n) cuts nodes is lt = (is.leaves, is.all)
 
-pub same_pair : (p q : Pair) → p.filter ≡ q.filter → p.joined ≡ q.joined → p.whole ≡ q.whole → p.frequent ≡ q.frequent → p.rest ≡ q.rest → p.cuts ≡ q.cuts → p.nodes ≡ q.nodes → p ≡ q
+pub same_pair : (p q : PairStats) → p.filter ≡ q.filter → p.joined ≡ q.joined → p.whole ≡ q.whole → p.frequent ≡ q.frequent → p.rest ≡ q.rest → p.cuts ≡ q.cuts → p.nodes ≡ q.nodes → p ≡ q
 same_pair p q a b c d e f g =
     ap (λ x. record p { filter = x }) a
     ∙ ap (λ x. record p { filter = q.filter; joined = x }) b
@@ -36,10 +36,10 @@ same_pair p q a b c d e f g =
 
 -- ---- the current pair ends
 
-pub ended_is : (s : Draft) (pairs : List Pair) (tables : List TableStats) → file_of_draft s (section_of s (s.pair ∷ pairs) ∷ tables) ≡ file_of_draft (pair_ended s) (section_of (pair_ended s) pairs ∷ tables)
-ended_is s pairs tables = ap (λ (ps : List Pair). file_of_draft s (record s.section { pairs = ps } ∷ tables)) (sym (append_assoc s.section.pairs (s.pair ∷ []) pairs))
+pub ended_is : (s : Draft) (pairs : List PairStats) (tables : List TableStats) → file_of_draft s (section_of s (s.pair ∷ pairs) ∷ tables) ≡ file_of_draft (pair_ended s) (section_of (pair_ended s) pairs ∷ tables)
+ended_is s pairs tables = ap (λ (ps : List PairStats). file_of_draft s (record s.section { pairs = ps } ∷ tables)) (sym (append_assoc s.section.pairs (s.pair ∷ []) pairs))
 
-pub pair_closes : (schema : Schema) (s : Draft) (file : StatsFile) (line : List ℕ) (more : List (List ℕ)) → InPair (CutsLeft s.pair) schema s file (line ∷ more) → tag line ≢ 99 → tag line ≢ 110
+pub pair_closes : (schema : Schema) (s : Draft) (file : StatsFile) (line : List ℕ) (more : List (List ℕ)) → InPair (CutsRemaining s.pair) schema s file (line ∷ more) → tag line ≢ 99 → tag line ≢ 110
     → HasAllNodes s × InTable schema (pair_ended s) file (line ∷ more)
 pair_closes schema s file line more h no_cut no_node =
     let found = (parts_here schema s file line more h).behind no_cut no_node in
@@ -48,7 +48,7 @@ pair_closes schema s file line more h no_cut no_node =
     let cuts : h.pair.cuts ≡ s.pair.cuts = g.cuts_is ∙ ap (λ (l : List Datum). s.pair.cuts ++ l) found.0 ∙ append-nil s.pair.cuts in
     let nodes : h.pair.nodes ≡ s.pair.nodes = g.nodes_is ∙ ap (λ (l : List (List ℕ)). s.pair.nodes ++ l) found.1 ∙ append-nil s.pair.nodes in
     let same = same_pair h.pair s.pair g.filter g.joined tree.whole (g.frequent_is ∙ append-nil s.pair.frequent) tree.rest cuts nodes in
-    let rules = rules_here (CutsLeft s.pair) schema s file (line ∷ more) h in (
+    let rules = rules_here (CutsRemaining s.pair) schema s file (line ∷ more) h in (
       λ some.
           let both = whole_tree rules.is.filter.kind s.section.rows h.pair.cuts h.pair.nodes rules.is.tree some in
           (sym (ap length cuts) ∙ both.0, sym (ap length nodes) ∙ both.1),
@@ -58,12 +58,12 @@ pair_closes schema s file line more h no_cut no_node =
         pairs = h.pairs;
         tables = h.tables;
         keeps = h.keeps;
-        is = h.is ∙ ap (λ (p : Pair). file_of_draft s (section_of s (p ∷ h.pairs) ∷ h.tables)) same ∙ ended_is s h.pairs h.tables;
+        is = h.is ∙ ap (λ (p : PairStats). file_of_draft s (section_of s (p ∷ h.pairs) ∷ h.tables)) same ∙ ended_is s h.pairs h.tables;
         all = found.2;
       },
     )
 
-pub pair_reopens : (schema : Schema) (s : Draft) (file : StatsFile) (lines : List (List ℕ)) → InTable schema (pair_ended s) file lines → InPair (NodesLeft s.pair) schema s file lines
+pub pair_reopens : (schema : Schema) (s : Draft) (file : StatsFile) (lines : List (List ℕ)) → InTable schema (pair_ended s) file lines → InPair (NodesRemaining s.pair) schema s file lines
 pair_reopens schema s file lines h = record {
   table = h.table;
   exists = h.exists;
@@ -93,14 +93,14 @@ pair_reopens schema s file lines h = record {
 
 pub table_is : (s : Draft) (tables : List TableStats) → file_of_draft s (section_of s [] ∷ tables) ≡ file_of_draft (table_ended s) tables
 table_is s tables =
-    ap (λ (ps : List Pair). file_of_draft s (record s.section { pairs = ps } ∷ tables)) (append-nil s.section.pairs)
+    ap (λ (ps : List PairStats). file_of_draft s (record s.section { pairs = ps } ∷ tables)) (append-nil s.section.pairs)
     ∙ ap (λ (ts : List TableStats). record { accuracy = s.accuracy; tables = ts }) (sym (append_assoc s.tables (s.section ∷ []) tables))
 
 pub table_closes : (schema : Schema) (s : Draft) (file : StatsFile) (line : List ℕ) (more : List (List ℕ)) → InTable schema s file (line ∷ more) → tag line ≢ 112
     → InFile schema (table_ended s) file (line ∷ more)
 table_closes schema s file line more h other = by_pairs h.pairs h.is h.all
   where
-    by_pairs : (pairs : List Pair) → file ≡ file_of_draft s (section_of s pairs ∷ h.tables) → line ∷ more ≡ pairs_left schema h.table pairs h.tables → InFile schema (table_ended s) file (line ∷ more)
+    by_pairs : (pairs : List PairStats) → file ≡ file_of_draft s (section_of s pairs ∷ h.tables) → line ∷ more ≡ pairs_left schema h.table pairs h.tables → InFile schema (table_ended s) file (line ∷ more)
     by_pairs [] is all = record { tables = h.tables; keeps = h.keeps; is = is ∙ table_is s h.tables; all = all }
     by_pairs (p ∷ rest) is all =
         let whole = all ∙ pair_opened schema h.table p rest h.tables in
@@ -121,18 +121,18 @@ table_reopens schema table s file lines exists h = record {
 
 -- ---- a table begins
 
-abbrev pub line_of_table : Place → List ℕ
+abbrev pub line_of_table : TableWithRows → List ℕ
 line_of_table v = table_line v.table.name v.rows
 
-abbrev pub with_section : Draft → Place → Draft
+abbrev pub with_section : Draft → TableWithRows → Draft
 with_section s v = record s { section = empty_section v.place v.rows }
 
 pub open_table : (schema : Schema) (s : Draft) (file : StatsFile) (line : List ℕ) (more : List (List ℕ)) → InFile schema s file (line ∷ more) → tag line ≡ 116
-    → Opened line_of_table (MayBeTable schema s) (λ v. InTable schema (with_section s v) file more) line
+    → IsLineOfNext line_of_table (MayBeTable schema s) (λ v. InTable schema (with_section s v) file more) line
 open_table schema s file line more h t = by_tables h.tables h.is h.all
   where
     by_tables : (tables : List TableStats) → file ≡ file_of_draft s tables → line ∷ more ≡ tables_left schema tables
-        → Opened line_of_table (MayBeTable schema s) (λ v. InTable schema (with_section s v) file more) line
+        → IsLineOfNext line_of_table (MayBeTable schema s) (λ v. InTable schema (with_section s v) file more) line
     by_tables [] is all = let first : line ≡ end_line = cc in absurd (omega (arith, same_tag line end_line first))
     by_tables (section ∷ rest) is all =
         let keeps = subst (KeepsRules schema) is h.keeps in
@@ -153,7 +153,7 @@ open_table schema s file line more h t = by_tables h.tables h.is h.all
           };
         }
 
-pub close_table : (schema : Schema) (s : Draft) (v : Place) (file : StatsFile) (more : List (List ℕ)) → MayBeTable schema s v → InTable schema (with_section s v) file more
+pub close_table : (schema : Schema) (s : Draft) (v : TableWithRows) (file : StatsFile) (more : List (List ℕ)) → MayBeTable schema s v → InTable schema (with_section s v) file more
     → InFile schema s file (line_of_table v ∷ more)
 close_table schema s v file more may h =
     let section = section_of (with_section s v) h.pairs in
@@ -175,14 +175,14 @@ abbrev pub begun : Draft → ℕ → ℕ → Kind → ℕ → ℕ → Draft
 begun s filter joined kind same_filter_at same_joined_at = record s { pair = empty_pair filter joined; kind = kind; same_filter_at = same_filter_at; same_joined_at = same_joined_at }
 
 abbrev pub BeginsFor : Schema → Draft → StatsFile → List (List ℕ) → Table → ℕ × ℕ → Type 0
-BeginsFor schema s file more table c = (t : Draft) → BeginsPair table s t c.0 c.1 → InPair (WholeLeft t.pair) schema t file more
+BeginsFor schema s file more table c = (t : Draft) → BeginsPair table s t c.0 c.1 → InPair (WholeRemaining t.pair) schema t file more
 
 open_pair_of : (schema : Schema) (s : Draft) (file : StatsFile) (line : List ℕ) (more : List (List ℕ)) (h : InTable schema s file (line ∷ more)) → tag line ≡ 112
-    → Opened (line_of_pair h.table) (λ c. MayBePair h.table s c.0 c.1) (BeginsFor schema s file more h.table) line
+    → IsLineOfNext (line_of_pair h.table) (λ c. MayBePair h.table s c.0 c.1) (BeginsFor schema s file more h.table) line
 open_pair_of schema s file line more h t = by_pairs h.pairs h.is h.all
   where
-    by_pairs : (pairs : List Pair) → file ≡ file_of_draft s (section_of s pairs ∷ h.tables) → line ∷ more ≡ pairs_left schema h.table pairs h.tables
-        → Opened (line_of_pair h.table) (λ c. MayBePair h.table s c.0 c.1) (BeginsFor schema s file more h.table) line
+    by_pairs : (pairs : List PairStats) → file ≡ file_of_draft s (section_of s pairs ∷ h.tables) → line ∷ more ≡ pairs_left schema h.table pairs h.tables
+        → IsLineOfNext (line_of_pair h.table) (λ c. MayBePair h.table s c.0 c.1) (BeginsFor schema s file more h.table) line
     by_pairs [] is all = absurd (after_pairs schema h.tables line more all t)
     by_pairs (p ∷ rest) is all =
         let whole = all ∙ pair_opened schema h.table p rest h.tables in
@@ -196,9 +196,9 @@ open_pair_of schema s file line more h t = by_pairs h.pairs h.is h.all
           may = record {
             filter_is = slice_get_within h.table.columns p.filter of_pair.filter of_pair.filter_is;
             joined_is = of_pair.joined;
-            later = pairs_here StandsBefore s.section.pairs p rest rules.order;
+            later = pairs_here ComesBefore s.section.pairs p rest rules.order;
           };
-          rest = λ u b. subst (λ (x : Draft). InPair (WholeLeft x.pair) schema x file more) (sym b.whole) (record {
+          rest = λ u b. subst (λ (x : Draft). InPair (WholeRemaining x.pair) schema x file more) (sym b.whole) (record {
             table = h.table;
             exists = h.exists;
             pair = p;
@@ -219,16 +219,16 @@ open_pair_of schema s file line more h t = by_pairs h.pairs h.is h.all
         }
 
 pub open_pair : (schema : Schema) (table : Table) (s : Draft) (file : StatsFile) (line : List ℕ) (more : List (List ℕ)) → slice_get schema.tables s.section.table ≡ Some table
-    → InTable schema s file (line ∷ more) → tag line ≡ 112 → Opened (line_of_pair table) (λ c. MayBePair table s c.0 c.1) (BeginsFor schema s file more table) line
+    → InTable schema s file (line ∷ more) → tag line ≡ 112 → IsLineOfNext (line_of_pair table) (λ c. MayBePair table s c.0 c.1) (BeginsFor schema s file more table) line
 open_pair schema table s file line more exists h t =
-    subst (λ (x : Table). Opened (line_of_pair x) (λ c. MayBePair x s c.0 c.1) (BeginsFor schema s file more x) line)
+    subst (λ (x : Table). IsLineOfNext (line_of_pair x) (λ c. MayBePair x s c.0 c.1) (BeginsFor schema s file more x) line)
     (same_some h.table table (slice_get schema.tables s.section.table) h.exists exists) (open_pair_of schema s file line more h t)
 
 pub close_pair : (schema : Schema) (table : Table) (s t : Draft) (c : ℕ × ℕ) (file : StatsFile) (more : List (List ℕ)) → slice_get schema.tables s.section.table ≡ Some table
-    → BeginsPair table s t c.0 c.1 → InPair (WholeLeft t.pair) schema t file more → InTable schema s file (line_of_pair table c ∷ more)
-close_pair schema table s t c file more exists b h = at (subst (λ (x : Draft). InPair (WholeLeft x.pair) schema x file more) b.whole h)
+    → BeginsPair table s t c.0 c.1 → InPair (WholeRemaining t.pair) schema t file more → InTable schema s file (line_of_pair table c ∷ more)
+close_pair schema table s t c file more exists b h = at (subst (λ (x : Draft). InPair (WholeRemaining x.pair) schema x file more) b.whole h)
   where
-    at : InPair (WholeLeft (empty_pair c.0 c.1)) schema (begun s c.0 c.1 b.column.kind t.same_filter_at t.same_joined_at) file more → InTable schema s file (line_of_pair table c ∷ more)
+    at : InPair (WholeRemaining (empty_pair c.0 c.1)) schema (begun s c.0 c.1 b.column.kind t.same_filter_at t.same_joined_at) file more → InTable schema s file (line_of_pair table c ∷ more)
     at i =
         let g = i.left.grows in
         let p = i.pair in
@@ -255,7 +255,7 @@ close_pair schema table s t c file more exists b h = at (subst (λ (x : Draft). 
 -- ---- the first line and the last one
 
 pub open_first : (schema : Schema) (file : StatsFile) (line : List ℕ) (more : List (List ℕ)) → KeepsRules schema file → line ∷ more ≡ file_lines schema file
-    → Opened first_line MayBeAccuracy (λ k. InFile schema (record empty_draft { accuracy = k }) file more) line
+    → IsLineOfNext first_line MayBeAccuracy (λ k. InFile schema (record empty_draft { accuracy = k }) file more) line
 unfolding file_lines
 open_first schema file line more keeps all = record {
   value = file.accuracy;

@@ -6,9 +6,9 @@ use Rattle.stats_file.specs.declared.types.StatsFile.{StatsFile}
 use Rattle.stats_reading.specs.declared.draft.Draft.{Draft}
 use Rattle.stats_reading.specs.declared.fault.Fault.{Fault}
 use Rattle.stats_reading.specs.declared.fault.Fault.TheVariants as fault
-use Rattle.stats_reading.specs.Drafts.{Takes}
+use Rattle.stats_reading.specs.Drafts.{ReadsValue}
 use Rattle.stats_reading.specs.Steps.{Ends, EndsAnd}
-use Rattle.stats_reading.proofs.Opens.{Opened}
+use Rattle.stats_reading.proofs.Opens.{IsLineOfNext}
 
 abbrev pub Lines : Type 0
 Lines = List (List ℕ)
@@ -22,7 +22,7 @@ two a b = (a, b)
 -- reading `line` takes a value: a file goes on with this line exactly if it is the line of a value that may come next. The words of a line determine
 -- the value
 pub record IsStep {X : Type 0} (line_of : X → List ℕ) (text : X → Words) (MayBe Then : X → Type 0) (Before Next : StatsFile → Lines → Type 0) (line : List ℕ) (words : Words) : Type 0 where
-  pub opens : (file : StatsFile) (more : Lines) → Before file (line ∷ more) → Opened line_of MayBe (λ v. Then v → Next file more) line
+  pub opens : (file : StatsFile) (more : Lines) → Before file (line ∷ more) → IsLineOfNext line_of MayBe (λ v. Then v → Next file more) line
   pub closes : (v : X) (file : StatsFile) (more : Lines) → Then v → MayBe v → Next file more → Before file (line_of v ∷ more)
   pub same : (a b : X) → MayBe a → MayBe b → text a ≡ text b → a ≡ b
   pub spells : (v : X) → MayBe v → (line_of v ≡ line) ↔ (text v ≡ words)
@@ -45,7 +45,7 @@ value_goes {Then = Then} {Before = Before} step v may spelled then' file more = 
 )
 
 pub step_goes : {X : Type 0} {line_of : X → List ℕ} {text : X → Words} {MayBe Then : X → Type 0} {Before Next : StatsFile → Lines → Type 0} {line : List ℕ} {words : Words}
-    → IsStep line_of text MayBe Then Before Next line words → (Valid : Type 0) (r : Result (Unit {0}) Fault) → Takes text MayBe Then words r → ((v : X) → MayBe v → Then v → Valid)
+    → IsStep line_of text MayBe Then Before Next line words → (Valid : Type 0) (r : Result (Unit {0}) Fault) → ReadsValue text MayBe Then words r → ((v : X) → MayBe v → Then v → Valid)
     → FilesGo Before Next Valid line r
 step_goes step Valid (Ok done) took valid =
     (λ file more. value_goes step took.value took.may took.spelled took.after file more, valid took.value took.may took.after)

@@ -8,7 +8,7 @@ use Rattle.stats_reading.specs.declared.line.LineKind.TheVariants as kind
 use Rattle.stats_reading.specs.declared.stages.Stage.{Stage}
 use Rattle.stats_reading.specs.declared.stages.Stage.TheVariants as stage
 use Rattle.stats_reading.specs.Kinds.{IsOfKind}
-use Rattle.stats_reading.specs.Stages.{next_stage, CutsLeft, FrequentLeft, Many, MayEnd, NodesLeft, One, PairsLeft, TablesLeft, TextLeft, TextLeftAt}
+use Rattle.stats_reading.specs.Stages.{next_stage, CutsRemaining, FrequentRemaining, Many, MayEnd, NodesRemaining, One, PairsRemaining, TablesRemaining, TextRemaining, TextLeftAt}
 use Rattle.stats_reading.proofs.Tags.{same_tag, tag}
 
 -- ---- the kind of a line by its first byte
@@ -88,10 +88,10 @@ one_put line more is h = record { line = line; others = more; line_is = is; next
 abbrev whole : List (List (List ℕ)) → List (List ℕ)
 whole parts = flat_map (λ part. part) parts
 
-tables_first : (line : List ℕ) (more : List (List ℕ)) → TablesLeft (line ∷ more) → (IsTableLine line × PairsLeft more) ⊎ MayEnd (line ∷ more)
+tables_first : (line : List ℕ) (more : List (List ℕ)) → TablesRemaining (line ∷ more) → (IsTableLine line × PairsRemaining more) ⊎ MayEnd (line ∷ more)
 tables_first line more h = by h.parts h.parts_are h.all
   where
-    by : (parts : List (List (List ℕ))) → AllByRecursion AreTableLines parts → line ∷ more ≡ whole parts ++ h.others → (IsTableLine line × PairsLeft more) ⊎ MayEnd (line ∷ more)
+    by : (parts : List (List (List ℕ))) → AllByRecursion AreTableLines parts → line ∷ more ≡ whole parts ++ h.others → (IsTableLine line × PairsRemaining more) ⊎ MayEnd (line ∷ more)
     by [] are e = inr (e ∙ h.next)
     by (part ∷ parts) (is, are) e =
         let f = e ∙ append_assoc part (whole parts) h.others ∙ ap (λ (p : List (List ℕ)). p ++ (whole parts ++ h.others)) is.all in
@@ -107,7 +107,7 @@ tables_first line more h = by h.parts h.parts_are h.all
           },
         )
 
-tables_put : (line : List ℕ) (more : List (List ℕ)) → IsTableLine line → PairsLeft more → TablesLeft (line ∷ more)
+tables_put : (line : List ℕ) (more : List (List ℕ)) → IsTableLine line → PairsRemaining more → TablesRemaining (line ∷ more)
 tables_put line more is h =
     let t = h.next in
     let part = line ∷ whole h.parts in
@@ -119,12 +119,12 @@ tables_put line more is h =
       all = ap (λ (ls : List (List ℕ)). line ∷ ls) (h.all ∙ ap (λ (ls : List (List ℕ)). whole h.parts ++ ls) t.all) ∙ sym (append_assoc part (whole t.parts) t.others);
     }
 
-pairs_first : (line : List ℕ) (more : List (List ℕ)) → PairsLeft (line ∷ more) → (IsPairLine line × One IsWholeLine FrequentLeft more) ⊎ TablesLeft (line ∷ more)
+pairs_first : (line : List ℕ) (more : List (List ℕ)) → PairsRemaining (line ∷ more) → (IsPairLine line × One IsWholeLine FrequentRemaining more) ⊎ TablesRemaining (line ∷ more)
 pairs_first line more h = by h.parts h.parts_are h.all
   where
     by : (parts : List (List (List ℕ))) → AllByRecursion ArePairLines parts → line ∷ more ≡ whole parts ++ h.others
-        → (IsPairLine line × One IsWholeLine FrequentLeft more) ⊎ TablesLeft (line ∷ more)
-    by [] are e = inr (subst TablesLeft (sym e) h.next)
+        → (IsPairLine line × One IsWholeLine FrequentRemaining more) ⊎ TablesRemaining (line ∷ more)
+    by [] are e = inr (subst TablesRemaining (sym e) h.next)
     by (part ∷ parts) (is, are) e =
         let after = whole parts ++ h.others in
         let f = e ∙ append_assoc part (whole parts) h.others ∙ ap (λ (p : List (List ℕ)). p ++ after) is.all in
@@ -168,7 +168,7 @@ pairs_first line more h = by h.parts h.parts_are h.all
           },
         )
 
-pairs_put : (line : List ℕ) (more : List (List ℕ)) → IsPairLine line → One IsWholeLine FrequentLeft more → PairsLeft (line ∷ more)
+pairs_put : (line : List ℕ) (more : List (List ℕ)) → IsPairLine line → One IsWholeLine FrequentRemaining more → PairsRemaining (line ∷ more)
 pairs_put line more is h =
     let values = h.next in
     let rest = values.next in
@@ -215,72 +215,72 @@ GoesOn at line more = (k : LineKind) × (IsOfKind k line × TextLeftAt (next_sta
 end_of : (line : List ℕ) (more : List (List ℕ)) → MayEnd (line ∷ more) → IsOfKind kind.End line × (more ≡ [])
 end_of line more e = (cc, cc)
 
-text_opens : (at : Stage) (line : List ℕ) (more : List (List ℕ)) → TextLeft at (line ∷ more) → GoesOn at line more
+text_opens : (at : Stage) (line : List ℕ) (more : List (List ℕ)) → TextRemaining at (line ∷ more) → GoesOn at line more
 text_opens stage.Start line more h =
     let same : line ≡ h.head = cc in
     (kind.First, (subst IsFirstLine (sym same) h.head_is, record { parts = h.tables; others = codes "end\n" ∷ []; parts_are = h.tables_are; next = refl; all = cc }))
 text_opens stage.Tables line more h = by (tables_first line more h)
   where
-    by : (IsTableLine line × PairsLeft more) ⊎ MayEnd (line ∷ more) → GoesOn stage.Tables line more
+    by : (IsTableLine line × PairsRemaining more) ⊎ MayEnd (line ∷ more) → GoesOn stage.Tables line more
     by (inl (is, rest)) = (kind.Table, (is, rest))
     by (inr e) = (kind.End, end_of line more e)
 text_opens stage.Pairs line more h = by (pairs_first line more h)
   where
-    by_table : (IsTableLine line × PairsLeft more) ⊎ MayEnd (line ∷ more) → GoesOn stage.Pairs line more
+    by_table : (IsTableLine line × PairsRemaining more) ⊎ MayEnd (line ∷ more) → GoesOn stage.Pairs line more
     by_table (inl (is, rest)) = (kind.Table, (is, rest))
     by_table (inr e) = (kind.End, end_of line more e)
 
-    by : (IsPairLine line × One IsWholeLine FrequentLeft more) ⊎ TablesLeft (line ∷ more) → GoesOn stage.Pairs line more
+    by : (IsPairLine line × One IsWholeLine FrequentRemaining more) ⊎ TablesRemaining (line ∷ more) → GoesOn stage.Pairs line more
     by (inl (is, rest)) = (kind.Pair, (is, rest))
     by (inr t) = by_table (tables_first line more t)
 text_opens stage.Whole line more h = let both = one_first line more h in (kind.Whole, (both.0, both.1))
 text_opens stage.Frequent line more h = by (many_first line more h)
   where
-    by : (IsFrequentLine line × FrequentLeft more) ⊎ One IsRestLine CutsLeft (line ∷ more) → GoesOn stage.Frequent line more
+    by : (IsFrequentLine line × FrequentRemaining more) ⊎ One IsRestLine CutsRemaining (line ∷ more) → GoesOn stage.Frequent line more
     by (inl (is, rest)) = (kind.Frequent, (is, rest))
     by (inr r) = let both = one_first line more r in (kind.Rest, (both.0, both.1))
 text_opens stage.Cuts line more h = by (many_first line more h)
   where
-    by_table : (IsTableLine line × PairsLeft more) ⊎ MayEnd (line ∷ more) → GoesOn stage.Cuts line more
+    by_table : (IsTableLine line × PairsRemaining more) ⊎ MayEnd (line ∷ more) → GoesOn stage.Cuts line more
     by_table (inl (is, rest)) = (kind.Table, (is, rest))
     by_table (inr e) = (kind.End, end_of line more e)
 
-    by_pair : (IsPairLine line × One IsWholeLine FrequentLeft more) ⊎ TablesLeft (line ∷ more) → GoesOn stage.Cuts line more
+    by_pair : (IsPairLine line × One IsWholeLine FrequentRemaining more) ⊎ TablesRemaining (line ∷ more) → GoesOn stage.Cuts line more
     by_pair (inl (is, rest)) = (kind.Pair, (is, rest))
     by_pair (inr t) = by_table (tables_first line more t)
 
-    by_node : (IsNodeLine line × NodesLeft more) ⊎ PairsLeft (line ∷ more) → GoesOn stage.Cuts line more
+    by_node : (IsNodeLine line × NodesRemaining more) ⊎ PairsRemaining (line ∷ more) → GoesOn stage.Cuts line more
     by_node (inl (is, rest)) = (kind.Node, (is, rest))
     by_node (inr p) = by_pair (pairs_first line more p)
 
-    by : (IsCutLine line × CutsLeft more) ⊎ NodesLeft (line ∷ more) → GoesOn stage.Cuts line more
+    by : (IsCutLine line × CutsRemaining more) ⊎ NodesRemaining (line ∷ more) → GoesOn stage.Cuts line more
     by (inl (is, rest)) = (kind.Cut, (is, rest))
     by (inr n) = by_node (many_first line more n)
 text_opens stage.Nodes line more h = by_node (many_first line more h)
   where
-    by_table : (IsTableLine line × PairsLeft more) ⊎ MayEnd (line ∷ more) → GoesOn stage.Nodes line more
+    by_table : (IsTableLine line × PairsRemaining more) ⊎ MayEnd (line ∷ more) → GoesOn stage.Nodes line more
     by_table (inl (is, rest)) = (kind.Table, (is, rest))
     by_table (inr e) = (kind.End, end_of line more e)
 
-    by_pair : (IsPairLine line × One IsWholeLine FrequentLeft more) ⊎ TablesLeft (line ∷ more) → GoesOn stage.Nodes line more
+    by_pair : (IsPairLine line × One IsWholeLine FrequentRemaining more) ⊎ TablesRemaining (line ∷ more) → GoesOn stage.Nodes line more
     by_pair (inl (is, rest)) = (kind.Pair, (is, rest))
     by_pair (inr t) = by_table (tables_first line more t)
 
-    by_node : (IsNodeLine line × NodesLeft more) ⊎ PairsLeft (line ∷ more) → GoesOn stage.Nodes line more
+    by_node : (IsNodeLine line × NodesRemaining more) ⊎ PairsRemaining (line ∷ more) → GoesOn stage.Nodes line more
     by_node (inl (is, rest)) = (kind.Node, (is, rest))
     by_node (inr p) = by_pair (pairs_first line more p)
 text_opens stage.Done line more h = absurd (cc)
 
-to_tables : (lines : List (List ℕ)) → MayEnd lines → TablesLeft lines
+to_tables : (lines : List (List ℕ)) → MayEnd lines → TablesRemaining lines
 to_tables lines h = record { parts = []; others = lines; parts_are = tt; next = h; all = refl }
 
-to_pairs : (lines : List (List ℕ)) → TablesLeft lines → PairsLeft lines
+to_pairs : (lines : List (List ℕ)) → TablesRemaining lines → PairsRemaining lines
 to_pairs lines h = record { parts = []; others = lines; parts_are = tt; next = h; all = refl }
 
 ends_here : (line : List ℕ) (more : List (List ℕ)) → IsOfKind kind.End line → more ≡ [] → MayEnd (line ∷ more)
 ends_here line more is none = cc
 
-text_closes : (at : Stage) (k : LineKind) (line : List ℕ) (more : List (List ℕ)) → IsOfKind k line → TextLeftAt (next_stage at k) more → TextLeft at (line ∷ more)
+text_closes : (at : Stage) (k : LineKind) (line : List ℕ) (more : List (List ℕ)) → IsOfKind k line → TextLeftAt (next_stage at k) more → TextRemaining at (line ∷ more)
 text_closes stage.Start kind.First line more is h = record {
   head = line;
   tables = h.parts;
@@ -307,13 +307,13 @@ text_closes stage.Nodes kind.Table line more is h = many_none (line ∷ more) (t
 text_closes stage.Nodes kind.End line more is h = many_none (line ∷ more) (to_pairs (line ∷ more) (to_tables (line ∷ more) (ends_here line more is h)))
 text_closes _ _ line more is h = absurd h
 
-pub text_step : (at : Stage) (k : LineKind) (line : List ℕ) (more : List (List ℕ)) → IsOfKind k line → TextLeft at (line ∷ more) → TextLeftAt (next_stage at k) more
+pub text_step : (at : Stage) (k : LineKind) (line : List ℕ) (more : List (List ℕ)) → IsOfKind k line → TextRemaining at (line ∷ more) → TextLeftAt (next_stage at k) more
 text_step at k line more is h =
     let on = text_opens at line more h in
     subst (λ (x : LineKind). TextLeftAt (next_stage at x) more) (same_kind on.0 k line on.1.0 is) on.1.1
 
-pub text_back : (at : Stage) (k : LineKind) (line : List ℕ) (more : List (List ℕ)) → IsOfKind k line → TextLeftAt (next_stage at k) more → TextLeft at (line ∷ more)
+pub text_back : (at : Stage) (k : LineKind) (line : List ℕ) (more : List (List ℕ)) → IsOfKind k line → TextLeftAt (next_stage at k) more → TextRemaining at (line ∷ more)
 text_back at k line more is h = text_closes at k line more is h
 
-pub no_text : (at : Stage) (line : List ℕ) (more : List (List ℕ)) → ((k : LineKind) → IsOfKind k line → ⊥) → TextLeft at (line ∷ more) → ⊥
+pub no_text : (at : Stage) (line : List ℕ) (more : List (List ℕ)) → ((k : LineKind) → IsOfKind k line → ⊥) → TextRemaining at (line ∷ more) → ⊥
 no_text at line more none h = let on = text_opens at line more h in none on.0 on.1.0

@@ -6,31 +6,31 @@ use Rattle.schema_types.specs.declared.types.Kind.{Kind}
 use Rattle.schema_types.specs.declared.types.Schema.{Schema}
 use Rattle.schema_types.specs.declared.types.Table.{Table}
 use Rattle.stats_file.specs.declared.types.Datum.{Datum}
-use Rattle.stats_file.specs.declared.types.Pair.{Pair}
+use Rattle.stats_file.specs.declared.types.PairStats.{PairStats}
 use Rattle.stats_file.specs.Rules.{AreFrequent, HaveSameFilterCounts, IsList, IsOfKind, KeepsRules}
 use Rattle.stats_reading.specs.declared.draft.Draft.{Draft}
-use Rattle.stats_reading.specs.Drafts.{with_frequent, with_rest, with_whole, IsLike, MayBeFrequent, MayBeRest, MayBeWhole}
-use Rattle.stats_reading.specs.Left.{file_of_draft, frequent_lines, section_of, histogram_lines, CutsLeft, FrequentLeft, WholeLeft}
+use Rattle.stats_reading.specs.Drafts.{with_frequent, with_rest, with_whole, HasSameFilter, MayBeFrequent, MayBeRest, MayBeWhole}
+use Rattle.stats_reading.specs.Remaining.{file_of_draft, frequent_lines, section_of, histogram_lines, CutsRemaining, FrequentRemaining, WholeRemaining}
 use Rattle.stats_reading.specs.Valid.{IsKnown, IsValidPair}
 use Rattle.stats_reading.proofs.Counts.{agrees_after, agrees_whole}
 use Rattle.stats_reading.proofs.NextFacts.{kind_of_pair, like_counts, same_count}
 use Rattle.stats_reading.proofs.Replaced.{all_replaced, length_replaced, map_replaced, still_all, still_differ}
 use Rattle.stats_reading.proofs.RuleFacts.{pair_rules, with_pair, without_pair, PairRules}
-use Rattle.stats_reading.proofs.Seams.{all_left, all_more, get_map, map_get, pairs_front, same_some}
+use Rattle.stats_reading.proofs.AppendedLists.{all_left, all_more, get_map, map_get, pairs_front, same_some}
 
-pub rules_of : (Left : Pair → List (List ℕ) → Type 0) (schema : Schema) (s : Draft) (v : IsValidPair Left schema s) → PairRules v.table s.section.rows s.section.pairs v.pair
+pub rules_of : (Left : PairStats → List (List ℕ) → Type 0) (schema : Schema) (s : Draft) (v : IsValidPair Left schema s) → PairRules v.table s.section.rows s.section.pairs v.pair
 rules_of Left schema s v = pair_rules schema v.table s v.pair [] [] v.exists v.keeps
 
-pub kept : (Left : Pair → List (List ℕ) → Type 0) (schema : Schema) (s : Draft) (v : IsValidPair Left schema s) (p : Pair) → PairRules v.table s.section.rows s.section.pairs p
+pub kept : (Left : PairStats → List (List ℕ) → Type 0) (schema : Schema) (s : Draft) (v : IsValidPair Left schema s) (p : PairStats) → PairRules v.table s.section.rows s.section.pairs p
     → KeepsRules schema (file_of_draft s (section_of s (p ∷ []) ∷ []))
 kept Left schema s v p rules = with_pair schema v.table s p v.exists (without_pair schema s (v.pair ∷ []) [] v.keeps) rules
 
 -- ---- the list of all rows
 
-pub whole_grown : (schema : Schema) (s : Draft) (list : List ℕ) → IsValidPair (WholeLeft s.pair) schema s → MayBeWhole s list
-    → IsValidPair (FrequentLeft (with_whole s list).pair) schema (with_whole s list)
+pub whole_grown : (schema : Schema) (s : Draft) (list : List ℕ) → IsValidPair (WholeRemaining s.pair) schema s → MayBeWhole s list
+    → IsValidPair (FrequentRemaining (with_whole s list).pair) schema (with_whole s list)
 whole_grown schema s list v may =
-    let rules = rules_of (WholeLeft s.pair) schema s v in
+    let rules = rules_of (WholeRemaining s.pair) schema s v in
     let is = rules.is in
     let own = v.left in
     let p = record v.pair { whole = list } in
@@ -68,7 +68,7 @@ whole_grown schema s list v may =
         whole = refl;
         all = refl;
       };
-      keeps = kept (WholeLeft s.pair) schema s v p new;
+      keeps = kept (WholeRemaining s.pair) schema s v p new;
     }
   where
     known_again : (table : Table) → IsKnown table s → IsKnown table (with_whole s list)
@@ -77,12 +77,12 @@ whole_grown schema s list v may =
 -- ---- frequent values
 
 -- these frequent values may come after the next one
-record Next (s : Draft) (p : Pair) (f : Datum × List ℕ) (kind : Kind) : Type 0 where
+record Next (s : Draft) (p : PairStats) (f : Datum × List ℕ) (kind : Kind) : Type 0 where
   rest : List (Datum × List ℕ)
   are : AreFrequent kind s.section.rows (s.pair.frequent ++ f ∷ rest)
-  counts : (q : Pair) → IsLike s q → HaveSameFilterCounts p (record p { frequent = s.pair.frequent ++ f ∷ rest })
+  counts : (q : PairStats) → HasSameFilter s q → HaveSameFilterCounts p (record p { frequent = s.pair.frequent ++ f ∷ rest })
 
-next_alone : (s : Draft) (p : Pair) (f : Datum × List ℕ) (old : List (Datum × List ℕ)) (kind : Kind) → kind ≡ s.kind → AreFrequent kind s.section.rows p.frequent
+next_alone : (s : Draft) (p : PairStats) (f : Datum × List ℕ) (old : List (Datum × List ℕ)) (kind : Kind) → kind ≡ s.kind → AreFrequent kind s.section.rows p.frequent
     → p.frequent ≡ s.pair.frequent ++ old → MayBeFrequent s f → slice_get s.section.pairs s.same_filter_at ≡ None → Next s p f kind
 next_alone s p f old kind same are is may none =
     let front = s.pair.frequent in
@@ -108,8 +108,8 @@ at_front [] [] x is = absurd (cc)
 at_front [] (y ∷ old) x is = let same : y ≡ x = cc in (old, ap (λ z. z ∷ old) same)
 at_front (z ∷ front) old x is = at_front front old x is
 
-next_like : (s : Draft) (p q : Pair) (f : Datum × List ℕ) (old : List (Datum × List ℕ)) (kind : Kind) → AreFrequent kind s.section.rows p.frequent → p.frequent ≡ s.pair.frequent ++ old
-    → MayBeFrequent s f → IsLike s q → HaveSameFilterCounts q p → Next s p f kind
+next_like : (s : Draft) (p q : PairStats) (f : Datum × List ℕ) (old : List (Datum × List ℕ)) (kind : Kind) → AreFrequent kind s.section.rows p.frequent → p.frequent ≡ s.pair.frequent ++ old
+    → MayBeFrequent s f → HasSameFilter s q → HaveSameFilterCounts q p → Next s p f kind
 next_like s p q f old kind are is may same_filter_at same =
     let front = s.pair.frequent in
     let n = length front in
@@ -144,18 +144,18 @@ next_like s p q f old kind are is may same_filter_at same =
       counts = λ r liked. record { values = values; totals = totals; rest = refl; cuts = refl; nodes = refl };
     }
 
-next_of : (s : Draft) (p : Pair) (f : Datum × List ℕ) (old : List (Datum × List ℕ)) (kind : Kind) → kind ≡ s.kind → AreFrequent kind s.section.rows p.frequent
-    → p.frequent ≡ s.pair.frequent ++ old → MayBeFrequent s f → ((q : Pair) → IsLike s q → HaveSameFilterCounts q p) → Next s p f kind
+next_of : (s : Draft) (p : PairStats) (f : Datum × List ℕ) (old : List (Datum × List ℕ)) (kind : Kind) → kind ≡ s.kind → AreFrequent kind s.section.rows p.frequent
+    → p.frequent ≡ s.pair.frequent ++ old → MayBeFrequent s f → ((q : PairStats) → HasSameFilter s q → HaveSameFilterCounts q p) → Next s p f kind
 next_of s p f old kind same are is may counts = by_like (slice_get s.section.pairs s.same_filter_at) refl
   where
-    by_like : (o : Option Pair) → slice_get s.section.pairs s.same_filter_at ≡ o → Next s p f kind
+    by_like : (o : Option PairStats) → slice_get s.section.pairs s.same_filter_at ≡ o → Next s p f kind
     by_like None none = next_alone s p f old kind same are is may none
     by_like (Some q) same_filter_at = next_like s p q f old kind are is may same_filter_at (counts q same_filter_at)
 
 -- a pair p that keeps the rules still keeps them if its frequent values and its list of the other values are exchanged for ones that keep them
-other_values : (table : Table) (s : Draft) (p : Pair) (frequent : List (Datum × List ℕ)) (rest : List ℕ) → IsKnown table s → PairRules table s.section.rows s.section.pairs p
+other_values : (table : Table) (s : Draft) (p : PairStats) (frequent : List (Datum × List ℕ)) (rest : List ℕ) → IsKnown table s → PairRules table s.section.rows s.section.pairs p
     → p.filter ≡ s.pair.filter → AreFrequent s.kind s.section.rows frequent → IsList s.section.rows rest
-    → ((q : Pair) → IsLike s q → HaveSameFilterCounts p (record p { frequent = frequent; rest = rest }))
+    → ((q : PairStats) → HasSameFilter s q → HaveSameFilterCounts p (record p { frequent = frequent; rest = rest }))
     → PairRules table s.section.rows s.section.pairs (record p { frequent = frequent; rest = rest })
 other_values table s p frequent rest known rules at_filter are is counts =
     let old = rules.is in
@@ -174,10 +174,10 @@ other_values table s p frequent rest known rules at_filter are is counts =
       agree = agrees_after table s p (record p { frequent = frequent; rest = rest }) s.section.rows known rules at_filter refl refl refl counts;
     }
 
-pub frequent_grown : (schema : Schema) (s : Draft) (f : Datum × List ℕ) → IsValidPair (FrequentLeft s.pair) schema s → MayBeFrequent s f
-    → IsValidPair (FrequentLeft (with_frequent s f).pair) schema (with_frequent s f)
+pub frequent_grown : (schema : Schema) (s : Draft) (f : Datum × List ℕ) → IsValidPair (FrequentRemaining s.pair) schema s → MayBeFrequent s f
+    → IsValidPair (FrequentRemaining (with_frequent s f).pair) schema (with_frequent s f)
 frequent_grown schema s f v may =
-    let rules = rules_of (FrequentLeft s.pair) schema s v in
+    let rules = rules_of (FrequentRemaining s.pair) schema s v in
     let own = v.left in
     let g = own.grows in
     let same = kind_of_pair v.table s v.pair s.section.rows v.known rules.is g.filter in
@@ -203,7 +203,7 @@ frequent_grown schema s f v may =
         whole = own.whole;
         all = refl;
       };
-      keeps = kept (FrequentLeft s.pair) schema s v p
+      keeps = kept (FrequentRemaining s.pair) schema s v p
           (other_values v.table s v.pair (s.pair.frequent ++ f ∷ next.rest) v.pair.rest v.known rules g.filter (subst (λ k. AreFrequent k s.section.rows (s.pair.frequent ++ f ∷ next.rest)) same next.are) rules.is.rest next.counts);
     }
   where
@@ -228,10 +228,10 @@ fewer_values kind rows front old are =
       lists = all_left (λ (e : Datum × List ℕ). IsList rows e.1) front old are.lists;
     }
 
-pub rest_grown : (schema : Schema) (s : Draft) (list : List ℕ) → IsValidPair (FrequentLeft s.pair) schema s → MayBeRest s list
-    → IsValidPair (CutsLeft (with_rest s list).pair) schema (with_rest s list)
+pub rest_grown : (schema : Schema) (s : Draft) (list : List ℕ) → IsValidPair (FrequentRemaining s.pair) schema s → MayBeRest s list
+    → IsValidPair (CutsRemaining (with_rest s list).pair) schema (with_rest s list)
 rest_grown schema s list v may =
-    let rules = rules_of (FrequentLeft s.pair) schema s v in
+    let rules = rules_of (FrequentRemaining s.pair) schema s v in
     let own = v.left in
     let g = own.grows in
     let same = kind_of_pair v.table s v.pair s.section.rows v.known rules.is g.filter in
@@ -254,7 +254,7 @@ rest_grown schema s list v may =
           all = refl;
         },
       );
-      keeps = kept (FrequentLeft s.pair) schema s v p
+      keeps = kept (FrequentRemaining s.pair) schema s v p
           (other_values v.table s v.pair front list v.known rules g.filter (subst (λ k. AreFrequent k s.section.rows front) same are) may.0
           (λ q same_filter_at. counted v.pair own.frequent g.frequent_is q same_filter_at (like_counts v.table s v.pair s.section.rows v.known rules g.filter q same_filter_at)));
     }
@@ -262,7 +262,7 @@ rest_grown schema s list v may =
     known_again : (table : Table) → IsKnown table s → IsKnown table (with_rest s list)
     known_again table k = record { column = k.column; column_is = k.column_is; kind_is = k.kind_is; same_filter_at = k.same_filter_at; same_joined_at = k.same_joined_at }
 
-    counted : (p : Pair) (old : List (Datum × List ℕ)) → p.frequent ≡ s.pair.frequent ++ old → (q : Pair) → IsLike s q → HaveSameFilterCounts q p
+    counted : (p : PairStats) (old : List (Datum × List ℕ)) → p.frequent ≡ s.pair.frequent ++ old → (q : PairStats) → HasSameFilter s q → HaveSameFilterCounts q p
         → HaveSameFilterCounts p (record p { frequent = s.pair.frequent; rest = list })
     counted p old is q same_filter_at counts =
         let alike = may.1.alike q same_filter_at in

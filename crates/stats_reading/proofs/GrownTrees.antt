@@ -8,29 +8,29 @@ use Rattle.schema_types.specs.declared.types.Kind.{Kind}
 use Rattle.schema_types.specs.declared.types.Schema.{Schema}
 use Rattle.schema_types.specs.declared.types.Table.{Table}
 use Rattle.stats_file.specs.declared.types.Datum.{Datum}
-use Rattle.stats_file.specs.declared.types.Pair.{Pair}
+use Rattle.stats_file.specs.declared.types.PairStats.{PairStats}
 use Rattle.stats_file.specs.Rules.{datum_cmp, HaveSameFilterCounts, IsList, IsOfKind, IsHistogram, IsHistogramOf}
 use Rattle.stats_reading.specs.declared.draft.Draft.{Draft}
-use Rattle.stats_reading.specs.Drafts.{with_cut, with_node, IsLike, MayBeCut, MayBeNode}
-use Rattle.stats_reading.specs.Left.{histogram_lines, CutsLeft, NodesLeft}
+use Rattle.stats_reading.specs.Drafts.{with_cut, with_node, HasSameFilter, MayBeCut, MayBeNode}
+use Rattle.stats_reading.specs.Remaining.{histogram_lines, CutsRemaining, NodesRemaining}
 use Rattle.stats_reading.specs.Valid.{IsKnown, IsValidPair}
 use Rattle.stats_reading.proofs.Counts.{agrees_after}
 use Rattle.stats_reading.proofs.NextFacts.{kind_of_pair, like_counts}
 use Rattle.stats_reading.proofs.OrderFacts.{all_same, none_above, pairs_padded, value_itself}
 use Rattle.stats_reading.proofs.Replaced.{all_replaced, length_replaced, map_replaced}
 use Rattle.stats_reading.proofs.RuleFacts.{PairRules}
-use Rattle.stats_reading.proofs.Seams.{all_left, get_here, get_map, pairs_front, same_some}
+use Rattle.stats_reading.proofs.AppendedLists.{all_left, get_here, get_map, pairs_front, same_some}
 use Rattle.stats_reading.proofs.Grown.{at_front, kept, no_more, rules_of}
 
 -- ---- cuts
 
 -- these cuts may come after the next one
-record NextCut (s : Draft) (p : Pair) (cut : Datum) (kind : Kind) : Type 0 where
+record NextCut (s : Draft) (p : PairStats) (cut : Datum) (kind : Kind) : Type 0 where
   rest : List Datum
   is : IsHistogram kind s.section.rows (s.pair.cuts ++ cut ∷ rest) p.nodes
-  counts : (q : Pair) → IsLike s q → HaveSameFilterCounts p (record p { cuts = s.pair.cuts ++ cut ∷ rest })
+  counts : (q : PairStats) → HasSameFilter s q → HaveSameFilterCounts p (record p { cuts = s.pair.cuts ++ cut ∷ rest })
 
-next_cut_alone : (s : Draft) (p : Pair) (cut : Datum) (old : List Datum) (kind : Kind) → kind ≡ s.kind → IsHistogram kind s.section.rows p.cuts p.nodes → p.cuts ≡ s.pair.cuts ++ old
+next_cut_alone : (s : Draft) (p : PairStats) (cut : Datum) (old : List Datum) (kind : Kind) → kind ≡ s.kind → IsHistogram kind s.section.rows p.cuts p.nodes → p.cuts ≡ s.pair.cuts ++ old
     → MayBeCut s cut → slice_get s.section.pairs s.same_filter_at ≡ None → NextCut s p cut kind
 next_cut_alone s p cut old kind same tree is may none =
     let front = s.pair.cuts in
@@ -53,8 +53,8 @@ next_cut_alone s p cut old kind same tree is may none =
       counts = λ q same_filter_at. absurd (cc);
     }
 
-next_cut_like : (s : Draft) (p q : Pair) (cut : Datum) (old : List Datum) (kind : Kind) → IsHistogram kind s.section.rows p.cuts p.nodes → p.cuts ≡ s.pair.cuts ++ old
-    → MayBeCut s cut → IsLike s q → HaveSameFilterCounts q p → NextCut s p cut kind
+next_cut_like : (s : Draft) (p q : PairStats) (cut : Datum) (old : List Datum) (kind : Kind) → IsHistogram kind s.section.rows p.cuts p.nodes → p.cuts ≡ s.pair.cuts ++ old
+    → MayBeCut s cut → HasSameFilter s q → HaveSameFilterCounts q p → NextCut s p cut kind
 next_cut_like s p q cut old kind tree is may same_filter_at same =
     let front = s.pair.cuts in
     let there : slice_get (front ++ old) (length front) ≡ Some cut = ap (λ (l : List Datum). slice_get l (length front)) (sym (same.cuts ∙ is)) ∙ may.1.alike q same_filter_at in
@@ -66,11 +66,11 @@ next_cut_like s p q cut old kind tree is may same_filter_at same =
       counts = λ r liked. record { values = refl; totals = refl; rest = refl; cuts = whole; nodes = refl };
     }
 
-next_cut_of : (s : Draft) (p : Pair) (cut : Datum) (old : List Datum) (kind : Kind) → kind ≡ s.kind → IsHistogram kind s.section.rows p.cuts p.nodes → p.cuts ≡ s.pair.cuts ++ old
-    → MayBeCut s cut → ((q : Pair) → IsLike s q → HaveSameFilterCounts q p) → NextCut s p cut kind
+next_cut_of : (s : Draft) (p : PairStats) (cut : Datum) (old : List Datum) (kind : Kind) → kind ≡ s.kind → IsHistogram kind s.section.rows p.cuts p.nodes → p.cuts ≡ s.pair.cuts ++ old
+    → MayBeCut s cut → ((q : PairStats) → HasSameFilter s q → HaveSameFilterCounts q p) → NextCut s p cut kind
 next_cut_of s p cut old kind same tree is may counts = by_like (slice_get s.section.pairs s.same_filter_at) refl
   where
-    by_like : (o : Option Pair) → slice_get s.section.pairs s.same_filter_at ≡ o → NextCut s p cut kind
+    by_like : (o : Option PairStats) → slice_get s.section.pairs s.same_filter_at ≡ o → NextCut s p cut kind
     by_like None none = next_cut_alone s p cut old kind same tree is may none
     by_like (Some q) same_filter_at = next_cut_like s p q cut old kind tree is may same_filter_at (counts q same_filter_at)
 
@@ -83,9 +83,9 @@ tree_back kind zero cuts nodes some is = absurd (omega arith)
 tree_back kind (suc n) cuts nodes some is = is
 
 -- a pair p that keeps the rules still keeps them if its cuts and nodes are exchanged for ones that keep them
-other_tree : (table : Table) (s : Draft) (p : Pair) (cuts : List Datum) (nodes : List (List ℕ)) → IsKnown table s → (rules : PairRules table s.section.rows s.section.pairs p)
+other_tree : (table : Table) (s : Draft) (p : PairStats) (cuts : List Datum) (nodes : List (List ℕ)) → IsKnown table s → (rules : PairRules table s.section.rows s.section.pairs p)
     → p.filter ≡ s.pair.filter → 0 < s.section.rows → IsHistogram rules.is.filter.kind s.section.rows cuts nodes
-    → ((q : Pair) → IsLike s q → HaveSameFilterCounts p (record p { cuts = cuts; nodes = nodes }))
+    → ((q : PairStats) → HasSameFilter s q → HaveSameFilterCounts p (record p { cuts = cuts; nodes = nodes }))
     → PairRules table s.section.rows s.section.pairs (record p { cuts = cuts; nodes = nodes })
 other_tree table s p cuts nodes known rules at_filter some is counts =
     let old = rules.is in
@@ -104,10 +104,10 @@ other_tree table s p cuts nodes known rules at_filter some is counts =
       agree = agrees_after table s p (record p { cuts = cuts; nodes = nodes }) s.section.rows known rules at_filter refl refl refl counts;
     }
 
-pub cut_grown : (schema : Schema) (s : Draft) (cut : Datum) → IsValidPair (CutsLeft s.pair) schema s → MayBeCut s cut
-    → IsValidPair (CutsLeft (with_cut s cut).pair) schema (with_cut s cut)
+pub cut_grown : (schema : Schema) (s : Draft) (cut : Datum) → IsValidPair (CutsRemaining s.pair) schema s → MayBeCut s cut
+    → IsValidPair (CutsRemaining (with_cut s cut).pair) schema (with_cut s cut)
 cut_grown schema s cut v may =
-    let rules = rules_of (CutsLeft s.pair) schema s v in
+    let rules = rules_of (CutsRemaining s.pair) schema s v in
     let own = v.left.1 in
     let g = own.grows in
     let kind = rules.is.filter.kind in
@@ -137,7 +137,7 @@ cut_grown schema s cut v may =
           all = refl;
         },
       );
-      keeps = kept (CutsLeft s.pair) schema s v p (other_tree v.table s v.pair (s.pair.cuts ++ cut ∷ next.rest) v.pair.nodes v.known rules g.filter may.1.some next.is next.counts);
+      keeps = kept (CutsRemaining s.pair) schema s v p (other_tree v.table s v.pair (s.pair.cuts ++ cut ∷ next.rest) v.pair.nodes v.known rules g.filter may.1.some next.is next.counts);
     }
   where
     known_again : (table : Table) → IsKnown table s → IsKnown table (with_cut s cut)
@@ -150,10 +150,10 @@ one_follows [] [] lt = absurd (omega arith)
 one_follows [] (x ∷ old) lt = (x, old, refl)
 one_follows (y ∷ front) old lt = one_follows front old (omega arith)
 
-pub node_grown : (schema : Schema) (s : Draft) (node : List ℕ) → IsValidPair (CutsLeft s.pair) schema s → MayBeNode s node
-    → IsValidPair (NodesLeft (with_node s node).pair) schema (with_node s node)
+pub node_grown : (schema : Schema) (s : Draft) (node : List ℕ) → IsValidPair (CutsRemaining s.pair) schema s → MayBeNode s node
+    → IsValidPair (NodesRemaining (with_node s node).pair) schema (with_node s node)
 node_grown schema s node v may =
-    let rules = rules_of (CutsLeft s.pair) schema s v in
+    let rules = rules_of (CutsRemaining s.pair) schema s v in
     let own = v.left.1 in
     let g = own.grows in
     let kind = rules.is.filter.kind in
@@ -195,14 +195,14 @@ node_grown schema s node v may =
         rest = own.rest;
         all = refl;
       };
-      keeps = kept (CutsLeft s.pair) schema s v p (other_tree v.table s v.pair v.pair.cuts nodes v.known rules g.filter may.1.some is
+      keeps = kept (CutsRemaining s.pair) schema s v p (other_tree v.table s v.pair v.pair.cuts nodes v.known rules g.filter may.1.some is
           (λ q same_filter_at. counted v.pair q old rest whole same_filter_at (like_counts v.table s v.pair s.section.rows v.known rules g.filter q same_filter_at)));
     }
   where
     known_again : (table : Table) → IsKnown table s → IsKnown table (with_node s node)
     known_again table k = record { column = k.column; column_is = k.column_is; kind_is = k.kind_is; same_filter_at = k.same_filter_at; same_joined_at = k.same_joined_at }
 
-    counted : (p q : Pair) (old : List ℕ) (rest : List (List ℕ)) → p.nodes ≡ s.pair.nodes ++ old ∷ rest → IsLike s q → HaveSameFilterCounts q p
+    counted : (p q : PairStats) (old : List ℕ) (rest : List (List ℕ)) → p.nodes ≡ s.pair.nodes ++ old ∷ rest → HasSameFilter s q → HaveSameFilterCounts q p
         → HaveSameFilterCounts p (record p { nodes = s.pair.nodes ++ node ∷ rest })
     counted p q old rest whole same_filter_at counts =
         let alike = may.1.alike q same_filter_at in

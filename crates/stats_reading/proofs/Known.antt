@@ -6,7 +6,7 @@ use Rattle.schema_types.specs.declared.types.Kind.TheVariants as kinds
 use Rattle.schema_types.specs.declared.types.Schema.{Schema}
 use Rattle.stats_file.specs.declared.types.Datum.{Datum}
 use Rattle.stats_file.specs.declared.types.Datum.TheVariants as datum
-use Rattle.stats_file.specs.declared.types.Pair.{Pair}
+use Rattle.stats_file.specs.declared.types.PairStats.{PairStats}
 use Rattle.stats_file.specs.Grammar.{IsListWord, IsValueWord}
 use Rattle.stats_file.specs.Lines.{datum_text}
 use Rattle.stats_file.specs.Rules.{IsList, IsOfKind, KeepsRules}
@@ -19,10 +19,10 @@ use Rattle.stats_reading.specs.declared.line.LineKind.{LineKind}
 use Rattle.stats_reading.specs.declared.line.LineKind.TheVariants as kind
 use Rattle.stats_reading.specs.declared.stages.Stage.{Stage}
 use Rattle.stats_reading.specs.declared.stages.Stage.TheVariants as stage
-use Rattle.stats_reading.specs.Goes.{LineAnswers, WordsAreRead}
-use Rattle.stats_reading.specs.Kinds.{is_tested, AreLineParts, IsAlone, IsFaultOf, IsLineOf, MayBeLineOf}
-use Rattle.stats_reading.specs.Left.{file_of_draft, section_of}
-use Rattle.stats_reading.specs.Stages.{next_stage, TextLeft}
+use Rattle.stats_reading.specs.IsTaken.{LineAnswers, WordsAreRead}
+use Rattle.stats_reading.specs.Kinds.{is_tested, AreLineParts, HasEmptySecond, IsFaultOf, IsLineOf, MayBeLineOf}
+use Rattle.stats_reading.specs.Remaining.{file_of_draft, section_of}
+use Rattle.stats_reading.specs.Stages.{next_stage, TextRemaining}
 use Rattle.stats_reading.specs.Valid.{IsValidDraft}
 use Rattle.stats_reading.proofs.Answering.{no_line}
 use Rattle.stats_reading.proofs.RuleFacts.{section_at}
@@ -31,7 +31,7 @@ use Rattle.stats_words.proofs.TextFacts.{utf8_bytes}
 
 -- ---- words
 
-few_rows : (schema : Schema) (s : Draft) (pair : Pair) → KeepsRules schema (file_of_draft s (section_of s (pair ∷ []) ∷ [])) → s.section.rows ≤ 4000000
+few_rows : (schema : Schema) (s : Draft) (pair : PairStats) → KeepsRules schema (file_of_draft s (section_of s (pair ∷ []) ∷ [])) → s.section.rows ≤ 4000000
 few_rows schema s pair keeps = (section_at schema s (pair ∷ []) [] keeps).rows
 
 list_known : (rows : ℕ) (list word : List ℕ) → rows ≤ 4000000 → IsList rows list → list_text list ≡ word → IsListWord word
@@ -55,7 +55,7 @@ abbrev second_word : List ℕ × List ℕ → List ℕ
 second_word words = words.1
 
 pub known : (at : Stage) (k : LineKind) (next : Stage) (schema : Schema) (s t : Draft) (a b : List ℕ) (done : Unit {0}) → next_stage at k ≡ Some next → is_tested k ≡ false
-    → IsAlone k b → IsValidDraft at schema s → WordsAreRead at schema k s t (a, b) (Ok done) → AreLineParts k a b
+    → HasEmptySecond k b → IsValidDraft at schema s → WordsAreRead at schema k s t (a, b) (Ok done) → AreLineParts k a b
 known stage.Start kind.First next schema s t a b done to untested alone v h = absurd (cc)
 known stage.Tables kind.Table next schema s t a b done to untested alone v h = absurd (cc)
 known stage.Tables kind.End next schema s t a b done to untested alone v h = absurd (cc)
@@ -78,7 +78,7 @@ known _ _ next schema s t a b done to untested alone v h = absurd (cc)
 -- ---- faults
 
 pub no_words : (schema : Schema) (s : Draft) (k : LineKind) (a b l : List ℕ) → MayBeLineOf k a b l → (AreLineParts k a b → ⊥)
-    → (more : List (List ℕ)) → TextLeft s.stage (ended l ∷ more) → ⊥
+    → (more : List (List ℕ)) → TextRemaining s.stage (ended l ∷ more) → ⊥
 no_words schema s k a b l may none = no_line schema s l (λ j f g is. none (may.only j f g is))
 
 -- a line that isn't one of the grammar has the fault Syntax, even if a rule refused it first

@@ -19,8 +19,8 @@ pub mod PlaceFacts
 pub mod Reading
 pub mod Replaced
 pub mod RuleFacts
-pub mod Seams
+pub mod AppendedLists
 pub mod Stepping
 pub mod Tags
-pub mod Turns
+pub mod BeginsAndEnds
 pub mod WordFacts

@@ -10,7 +10,7 @@ use Rattle.schema_types.specs.declared.types.Schema.{Schema}
 use Rattle.schema_types.specs.declared.types.Table.{Table}
 use Rattle.stats_file.specs.declared.types.Datum.{Datum}
 use Rattle.stats_file.specs.declared.types.Datum.TheVariants as datum
-use Rattle.stats_file.specs.declared.types.Pair.{Pair}
+use Rattle.stats_file.specs.declared.types.PairStats.{PairStats}
 use Rattle.stats_file.specs.declared.types.StatsFile.{StatsFile}
 use Rattle.stats_file.specs.declared.types.TableStats.{TableStats}
 use Rattle.stats_file.specs.FileText.{file_lines, name_at, histogram_node_line, pair_lines, section_lines, table_lines, value_line}
@@ -21,10 +21,10 @@ use Rattle.stats_file.proofs.WordFacts.{numeral}
 use Rattle.stats_words.specs.Runs.{list_text}
 use Rattle.stats_words.specs.Splits.{Without}
 use Rattle.stats_words.proofs.ListWordFacts.{numeral_without}
-use Rattle.stats_words.proofs.RunTexts.{expanded_runs, runs_fall, small_runs, IsSmall, next}
+use Rattle.stats_words.proofs.RunTexts.{expanded_runs, runs_fall, small_runs, IsSmall, with_blank_before}
 use Rattle.stats_words.proofs.SplitFacts.{both_without, front_without, split_same}
 use Rattle.stats_file.proofs.GrammarFacts.{cuts_are_of, nodes_are_lists}
-use Rattle.stats_reading.specs.Left.{rest_line}
+use Rattle.stats_reading.specs.Remaining.{rest_line}
 use Rattle.stats_reading.proofs.WordFacts.{pairs_without, signed_without}
 
 -- ---- words without line ends
@@ -60,14 +60,14 @@ run_free most run fits small =
     both_without 10 (decimal run.value) (codes "*" ++ decimal run.count) (number_free run.value (omega arith))
     (front_without 10 42 (decimal run.count) (λ e. omega (arith, e)) (number_free run.count (omega arith)))
 
-others_free : (most : ℕ) (runs : List Piece) → most < 2 ^ 64 → AllByRecursion (IsSmall most) runs → Without 10 (flat_map next runs)
+others_free : (most : ℕ) (runs : List Piece) → most < 2 ^ 64 → AllByRecursion (IsSmall most) runs → Without 10 (flat_map with_blank_before runs)
 others_free most [] fits small = λ k d lt. absurd (omega arith)
 others_free most (r ∷ rs) fits small =
-    both_without 10 (next r) (flat_map next rs) (front_without 10 32 (run_text r) (λ e. omega (arith, e)) (run_free most r fits small.0)) (others_free most rs fits small.1)
+    both_without 10 (with_blank_before r) (flat_map with_blank_before rs) (front_without 10 32 (run_text r) (λ e. omega (arith, e)) (run_free most r fits small.0)) (others_free most rs fits small.1)
 
 runs_free : (most : ℕ) (runs : List Piece) → most < 2 ^ 64 → AllByRecursion (IsSmall most) runs → Without 10 (runs_text runs)
 runs_free most [] fits small = front_without 10 45 [] (λ e. omega (arith, e)) (λ k d lt. absurd (omega arith))
-runs_free most (r ∷ rs) fits small = both_without 10 (run_text r) (flat_map next rs) (run_free most r fits small.0) (others_free most rs fits small.1)
+runs_free most (r ∷ rs) fits small = both_without 10 (run_text r) (flat_map with_blank_before rs) (run_free most r fits small.0) (others_free most rs fits small.1)
 
 list_free : (rows : ℕ) (list : List ℕ) → rows ≤ 4000000 → IsList rows list → Without 10 (list_text list)
 list_free rows list few is =
@@ -105,7 +105,7 @@ each_part : {X : Type 0} (f : X → List (List ℕ)) (xs : List X) → ((k : ℕ
 each_part f [] each = tt
 each_part f (x ∷ xs) each = joined (f x) (flat_map f xs) (each 0 x (omega arith)) (each_part f xs (λ k d lt. each (suc k) d (omega arith)))
 
-pair_ended : (table : Table) (rows : ℕ) (p : Pair) → rows ≤ 4000000 → IsPair table rows p → AreEnded (pair_lines table p)
+pair_ended : (table : Table) (rows : ℕ) (p : PairStats) → rows ≤ 4000000 → IsPair table rows p → AreEnded (pair_lines table p)
 unfolding pair_lines
 pair_ended table rows p few is = (
   two_ended (codes "pair ") (hex_text (name_at table p.filter)) (hex_text (name_at table p.joined)) (literal (codes "pair ") refl) (hex_free (name_at table p.filter)) (hex_free (name_at table p.joined)),

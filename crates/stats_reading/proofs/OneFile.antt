@@ -11,12 +11,12 @@ use Rattle.schema_types.specs.declared.types.Schema.{Schema}
 use Rattle.schema_types.specs.declared.types.Table.{Table}
 use Rattle.schema_types.specs.Validity.{IsValid, IsValidTable}
 use Rattle.stats_file.specs.declared.types.Datum.{Datum}
-use Rattle.stats_file.specs.declared.types.Pair.{Pair}
+use Rattle.stats_file.specs.declared.types.PairStats.{PairStats}
 use Rattle.stats_file.specs.declared.types.StatsError.{StatsError}
 use Rattle.stats_file.specs.declared.types.StatsError.TheVariants as error
 use Rattle.stats_file.specs.declared.types.StatsFile.{StatsFile}
 use Rattle.stats_file.specs.declared.types.TableStats.{TableStats}
-use Rattle.stats_file.specs.Answers.{Answers, BeginsWithLine, EndsTooEarly, HasNoEnd, IsReadUpTo, LeavesGrammar}
+use Rattle.stats_file.specs.Answers.{Answers, BeginsWithLine, EndsTooEarly, HasNoEnd, IsReadUpTo, BreaksGrammar}
 use Rattle.stats_file.specs.Bytes.{ConsistOfBytes}
 use Rattle.stats_file.specs.FileText.{file_lines, file_text, name_at, histogram_node_line, value_line}
 use Rattle.stats_file.specs.Grammar.{IsText}
@@ -26,12 +26,12 @@ use Rattle.stats_file.proofs.GrammarFacts.{file_is_text, cuts_are_of, nodes_are_
 use Rattle.stats_words.specs.Runs.{list_text}
 use Rattle.stats_words.specs.Splits.{Without}
 use Rattle.stats_words.proofs.SplitFacts.{not_without, split_same}
-use Rattle.stats_reading.specs.Left.{frequent_lines, pairs_left, rest_line, tables_left, histogram_lines, whole_line}
+use Rattle.stats_reading.specs.Remaining.{frequent_lines, pairs_left, rest_line, tables_left, histogram_lines, whole_line}
 use Rattle.stats_reading.proofs.Edges.{same_pair}
 use Rattle.stats_reading.proofs.LineEnds.{front_of, lines_ended, not_empty, IsEnded, IsFront}
-use Rattle.stats_reading.proofs.Seams.{all_at, same_some}
+use Rattle.stats_reading.proofs.AppendedLists.{all_at, same_some}
 use Rattle.stats_reading.proofs.Tags.{after_pair, after_pairs, from_tables, pair_opened, pair_rest, same_tag, tag, to_tables}
-use Rattle.stats_reading.proofs.Turns.{column_place, one_place}
+use Rattle.stats_reading.proofs.BeginsAndEnds.{column_place, one_place}
 use Rattle.stats_reading.proofs.WordFacts.{datum_blank, hex_without, same_datum, same_list}
 
 abbrev Lines : Type 0
@@ -75,7 +75,7 @@ value_and value list = (value, list)
 
 -- ---- one pair
 
-record SamePair (p q : Pair) (A B : Lines) : Type 0 where
+record SamePair (p q : PairStats) (A B : Lines) : Type 0 where
   pairs : p ≡ q
   behind : A ≡ B
 
@@ -86,7 +86,7 @@ no_node_tag : (nodes : List (List ℕ)) (m : Lines) → NoTree m → (line : Lis
 no_node_tag [] m none line more e = (none line more e).0
 no_node_tag (x ∷ nodes) m none line more e = not_head line (histogram_node_line x) more (map histogram_node_line nodes ++ m) (histogram_node_line x ∷ (map histogram_node_line nodes ++ m)) 99 refl (λ f. absurd (omega (arith, f))) e
 
-same_pair_lines : (table : Table) (rows : ℕ) (p q : Pair) (A B : Lines) → rows ≤ 4000000 → (is_p : IsPair table rows p) (is_q : IsPair table rows q) → p.filter ≡ q.filter → p.joined ≡ q.joined
+same_pair_lines : (table : Table) (rows : ℕ) (p q : PairStats) (A B : Lines) → rows ≤ 4000000 → (is_p : IsPair table rows p) (is_q : IsPair table rows q) → p.filter ≡ q.filter → p.joined ≡ q.joined
     → NoTree A → NoTree B → pair_rest p ++ A ≡ pair_rest q ++ B → SamePair p q A B
 same_pair_lines table rows p q A B few is_p is_q filter joined none_a none_b e =
     let kind = is_p.filter.kind in
@@ -132,10 +132,10 @@ same_pair_lines table rows p q A B few is_p is_q filter joined none_a none_b e =
 
 -- ---- pairs of a table
 
-no_tree : (schema : Schema) (table : Table) (pairs : List Pair) (tables : List TableStats) → NoTree (pairs_left schema table pairs tables)
+no_tree : (schema : Schema) (table : Table) (pairs : List PairStats) (tables : List TableStats) → NoTree (pairs_left schema table pairs tables)
 no_tree schema table pairs tables line more e = after_pair schema table pairs tables line more e
 
-same_pairs : (schema : Schema) (table : Table) (rows : ℕ) (ps qs : List Pair) (ts us : List TableStats) → IsValidTable table → rows ≤ 4000000 → All (IsPair table rows) ps → All (IsPair table rows) qs
+same_pairs : (schema : Schema) (table : Table) (rows : ℕ) (ps qs : List PairStats) (ts us : List TableStats) → IsValidTable table → rows ≤ 4000000 → All (IsPair table rows) ps → All (IsPair table rows) qs
     → pairs_left schema table ps ts ≡ pairs_left schema table qs us → (ps ≡ qs) × (tables_left schema ts ≡ tables_left schema us)
 same_pairs schema table rows [] [] ts us good few are_p are_q e = (refl, e)
 same_pairs schema table rows [] (q ∷ qs) ts us good few are_p are_q e =
@@ -263,7 +263,7 @@ answers_file schema file bytes (Err (error.Syntax line)) good bytes_are keeps is
     more_ended : AllEnded f.more
     more_ended = behind_ended h.lines f.more (subst AllEnded f.whole (lines_ended schema file keeps))
 
-    by : LeavesGrammar h.lines h.left ⊎ EndsTooEarly schema h.lines h.left → ⊥
+    by : BreaksGrammar h.lines h.left ⊎ EndsTooEarly schema h.lines h.left → ⊥
     by (inl wrong) =
         let first = first_is wrong.line wrong.rest f.more (line_ended h.left wrong.line wrong.rest wrong.next) more_ended (sym wrong.next.whole ∙ f.rest_is) in
         let whole : file_lines schema file ≡ (h.lines ++ wrong.line ∷ []) ++ first.0 =

@@ -4,21 +4,21 @@ use Rattle.std.specs.Prelude.{slice_get}
 use Rattle.schema_types.specs.declared.types.Schema.{Schema}
 use Rattle.schema_types.specs.declared.types.Table.{Table}
 use Rattle.stats_file.specs.declared.types.Datum.{Datum}
-use Rattle.stats_file.specs.declared.types.Pair.{Pair}
+use Rattle.stats_file.specs.declared.types.PairStats.{PairStats}
 use Rattle.stats_file.specs.declared.types.StatsFile.{StatsFile}
 use Rattle.stats_file.specs.FileText.{histogram_node_line, value_line}
 use Rattle.stats_file.specs.Lines.{cut_line}
 use Rattle.stats_file.specs.Rules.{KeepsRules}
 use Rattle.stats_reading.specs.declared.draft.Draft.{Draft}
 use Rattle.stats_reading.specs.Drafts.{with_cut, with_frequent, with_node, with_rest, with_whole, MayBeCut, MayBeFrequent, MayBeNode, MayBeRest, MayBeWhole}
-use Rattle.stats_reading.specs.Left.{frequent_lines, pairs_left, rest_line, histogram_lines, whole_line, CutsLeft, FrequentLeft, PairGrows, InPair, NodesLeft, WholeLeft}
+use Rattle.stats_reading.specs.Remaining.{frequent_lines, pairs_left, rest_line, histogram_lines, whole_line, CutsRemaining, FrequentRemaining, PairGrows, InPair, NodesRemaining, WholeRemaining}
 use Rattle.stats_reading.specs.Valid.{IsKnown}
 use Rattle.stats_reading.proofs.NextFacts.{may_cut, may_frequent, may_node, may_rest, may_whole}
 use Rattle.stats_reading.proofs.RuleFacts.{pair_rules, PairRules}
-use Rattle.stats_reading.proofs.Seams.{same_some}
+use Rattle.stats_reading.proofs.AppendedLists.{same_some}
 use Rattle.stats_reading.proofs.Tags.{after_pair, frequent_parts, tag, tree_parts, FrequentParts, TreeParts}
 
-pub record Opened {X : Type 0} (line_of : X → List ℕ) (MayBe Rest : X → Type 0) (line : List ℕ) : Type 0 where
+pub record IsLineOfNext {X : Type 0} (line_of : X → List ℕ) (MayBe Rest : X → Type 0) (line : List ℕ) : Type 0 where
   pub value : X
   pub is : line ≡ line_of value
   pub may : MayBe value
@@ -30,13 +30,13 @@ KnownIn schema s = (table : Table) → slice_get schema.tables s.section.table �
 pub known_in : (schema : Schema) (s : Draft) (table : Table) → slice_get schema.tables s.section.table ≡ Some table → IsKnown table s → KnownIn schema s
 known_in schema s table exists known other found = subst (λ t. IsKnown t s) (same_some table other (slice_get schema.tables s.section.table) exists found) known
 
-pub rules_here : (Left : Pair → List (List ℕ) → Type 0) (schema : Schema) (s : Draft) (file : StatsFile) (lines : List (List ℕ)) (h : InPair Left schema s file lines)
+pub rules_here : (Left : PairStats → List (List ℕ) → Type 0) (schema : Schema) (s : Draft) (file : StatsFile) (lines : List (List ℕ)) (h : InPair Left schema s file lines)
     → PairRules h.table s.section.rows s.section.pairs h.pair
 rules_here Left schema s file lines h = pair_rules schema h.table s h.pair h.pairs h.tables h.exists (subst (KeepsRules schema) h.is h.keeps)
 
 -- ---- cuts and nodes
 
-pub weaker : (schema : Schema) (s : Draft) (file : StatsFile) (lines : List (List ℕ)) → InPair (NodesLeft s.pair) schema s file lines → InPair (CutsLeft s.pair) schema s file lines
+pub weaker : (schema : Schema) (s : Draft) (file : StatsFile) (lines : List (List ℕ)) → InPair (NodesRemaining s.pair) schema s file lines → InPair (CutsRemaining s.pair) schema s file lines
 weaker schema s file lines h = record {
   table = h.table;
   exists = h.exists;
@@ -50,14 +50,14 @@ weaker schema s file lines h = record {
   all = h.all;
 }
 
-pub parts_here : (schema : Schema) (s : Draft) (file : StatsFile) (line : List ℕ) (more : List (List ℕ)) (h : InPair (CutsLeft s.pair) schema s file (line ∷ more))
+pub parts_here : (schema : Schema) (s : Draft) (file : StatsFile) (line : List ℕ) (more : List (List ℕ)) (h : InPair (CutsRemaining s.pair) schema s file (line ∷ more))
     → TreeParts h.left.0 h.left.1.nodes line more (pairs_left schema h.table h.pairs h.tables)
 parts_here schema s file line more h =
     let after = pairs_left schema h.table h.pairs h.tables in
     tree_parts h.left.0 h.left.1.nodes line more after (after_pair schema h.table h.pairs h.tables line more) (h.all ∙ ap (λ (own : List (List ℕ)). own ++ after) h.left.1.all)
 
-pub open_cut : (schema : Schema) (s : Draft) → KnownIn schema s → (file : StatsFile) (line : List ℕ) (more : List (List ℕ)) → InPair (CutsLeft s.pair) schema s file (line ∷ more) → tag line ≡ 99
-    → Opened cut_line (MayBeCut s) (λ v. InPair (CutsLeft (with_cut s v).pair) schema (with_cut s v) file more) line
+pub open_cut : (schema : Schema) (s : Draft) → KnownIn schema s → (file : StatsFile) (line : List ℕ) (more : List (List ℕ)) → InPair (CutsRemaining s.pair) schema s file (line ∷ more) → tag line ≡ 99
+    → IsLineOfNext cut_line (MayBeCut s) (λ v. InPair (CutsRemaining (with_cut s v).pair) schema (with_cut s v) file more) line
 open_cut schema s known file line more h t =
     let f = (parts_here schema s file line more h).cut t in
     let tree = h.left.1 in
@@ -66,7 +66,7 @@ open_cut schema s known file line more h t =
     record {
       value = f.head;
       is = f.line_is;
-      may = may_cut h.table s h.pair f.head f.rest (known h.table h.exists) (rules_here (CutsLeft s.pair) schema s file (line ∷ more) h) tree.grows.filter is;
+      may = may_cut h.table s h.pair f.head f.rest (known h.table h.exists) (rules_here (CutsRemaining s.pair) schema s file (line ∷ more) h) tree.grows.filter is;
       rest = record {
         table = h.table;
         exists = h.exists;
@@ -96,8 +96,8 @@ open_cut schema s known file line more h t =
       };
     }
 
-pub close_cut : (schema : Schema) (s : Draft) (cut : Datum) (file : StatsFile) (more : List (List ℕ)) → InPair (CutsLeft (with_cut s cut).pair) schema (with_cut s cut) file more
-    → InPair (CutsLeft s.pair) schema s file (cut_line cut ∷ more)
+pub close_cut : (schema : Schema) (s : Draft) (cut : Datum) (file : StatsFile) (more : List (List ℕ)) → InPair (CutsRemaining (with_cut s cut).pair) schema (with_cut s cut) file more
+    → InPair (CutsRemaining s.pair) schema s file (cut_line cut ∷ more)
 close_cut schema s cut file more h =
     let tree = h.left.1 in
     let cuts = h.left.0 in
@@ -130,8 +130,8 @@ close_cut schema s cut file more h =
       all = ap (λ (ls : List (List ℕ)). cut_line cut ∷ ls) (h.all ∙ ap (λ (own : List (List ℕ)). own ++ after) tree.all);
     }
 
-pub open_node : (schema : Schema) (s : Draft) → KnownIn schema s → (file : StatsFile) (line : List ℕ) (more : List (List ℕ)) → InPair (CutsLeft s.pair) schema s file (line ∷ more) → tag line ≡ 110
-    → Opened histogram_node_line (MayBeNode s) (λ v. InPair (NodesLeft (with_node s v).pair) schema (with_node s v) file more) line
+pub open_node : (schema : Schema) (s : Draft) → KnownIn schema s → (file : StatsFile) (line : List ℕ) (more : List (List ℕ)) → InPair (CutsRemaining s.pair) schema s file (line ∷ more) → tag line ≡ 110
+    → IsLineOfNext histogram_node_line (MayBeNode s) (λ v. InPair (NodesRemaining (with_node s v).pair) schema (with_node s v) file more) line
 open_node schema s known file line more h t =
     let found = (parts_here schema s file line more h).node t in
     let f = found.1 in
@@ -141,7 +141,7 @@ open_node schema s known file line more h t =
     record {
       value = f.head;
       is = f.line_is;
-      may = may_node h.table s h.pair f.head f.rest (known h.table h.exists) (rules_here (CutsLeft s.pair) schema s file (line ∷ more) h) tree.grows.filter
+      may = may_node h.table s h.pair f.head f.rest (known h.table h.exists) (rules_here (CutsRemaining s.pair) schema s file (line ∷ more) h) tree.grows.filter
           (cuts ∙ append-nil s.pair.cuts) is;
       rest = record {
         table = h.table;
@@ -169,8 +169,8 @@ open_node schema s known file line more h t =
       };
     }
 
-pub close_node : (schema : Schema) (s : Draft) (node : List ℕ) (file : StatsFile) (more : List (List ℕ)) → InPair (NodesLeft (with_node s node).pair) schema (with_node s node) file more
-    → InPair (NodesLeft s.pair) schema s file (histogram_node_line node ∷ more)
+pub close_node : (schema : Schema) (s : Draft) (node : List ℕ) (file : StatsFile) (more : List (List ℕ)) → InPair (NodesRemaining (with_node s node).pair) schema (with_node s node) file more
+    → InPair (NodesRemaining s.pair) schema s file (histogram_node_line node ∷ more)
 close_node schema s node file more h =
     let tree = h.left in
     let after = pairs_left schema h.table h.pairs h.tables in
@@ -201,8 +201,8 @@ close_node schema s node file more h =
 
 -- ---- the list of all rows
 
-pub open_whole : (schema : Schema) (s : Draft) → KnownIn schema s → (file : StatsFile) (line : List ℕ) (more : List (List ℕ)) → InPair (WholeLeft s.pair) schema s file (line ∷ more)
-    → Opened whole_line (MayBeWhole s) (λ v. InPair (FrequentLeft (with_whole s v).pair) schema (with_whole s v) file more) line
+pub open_whole : (schema : Schema) (s : Draft) → KnownIn schema s → (file : StatsFile) (line : List ℕ) (more : List (List ℕ)) → InPair (WholeRemaining s.pair) schema s file (line ∷ more)
+    → IsLineOfNext whole_line (MayBeWhole s) (λ v. InPair (FrequentRemaining (with_whole s v).pair) schema (with_whole s v) file more) line
 open_whole schema s known file line more h =
     let own = h.left in
     let after = pairs_left schema h.table h.pairs h.tables in
@@ -210,7 +210,7 @@ open_whole schema s known file line more h =
     record {
       value = h.pair.whole;
       is = cc;
-      may = may_whole h.table s h.pair (known h.table h.exists) (rules_here (WholeLeft s.pair) schema s file (line ∷ more) h) own.grows.joined;
+      may = may_whole h.table s h.pair (known h.table h.exists) (rules_here (WholeRemaining s.pair) schema s file (line ∷ more) h) own.grows.joined;
       rest = record {
         table = h.table;
         exists = h.exists;
@@ -225,11 +225,11 @@ open_whole schema s known file line more h =
       };
     }
   where
-    again : {p : Pair} {fs : List (Datum × List ℕ)} {cs : List Datum} {ns : List (List ℕ)} → PairGrows s.pair p fs cs ns → PairGrows (with_whole s p.whole).pair p fs cs ns
+    again : {p : PairStats} {fs : List (Datum × List ℕ)} {cs : List Datum} {ns : List (List ℕ)} → PairGrows s.pair p fs cs ns → PairGrows (with_whole s p.whole).pair p fs cs ns
     again g = record { filter = g.filter; joined = g.joined; frequent_is = g.frequent_is; cuts_is = g.cuts_is; nodes_is = g.nodes_is }
 
-pub close_whole : (schema : Schema) (s : Draft) (list : List ℕ) (file : StatsFile) (more : List (List ℕ)) → InPair (FrequentLeft (with_whole s list).pair) schema (with_whole s list) file more
-    → InPair (WholeLeft s.pair) schema s file (whole_line list ∷ more)
+pub close_whole : (schema : Schema) (s : Draft) (list : List ℕ) (file : StatsFile) (more : List (List ℕ)) → InPair (FrequentRemaining (with_whole s list).pair) schema (with_whole s list) file more
+    → InPair (WholeRemaining s.pair) schema s file (whole_line list ∷ more)
 close_whole schema s list file more h =
     let own = h.left in
     let g = own.grows in
@@ -257,14 +257,14 @@ close_whole schema s list file more h =
 
 -- ---- frequent values, and the list of the other values
 
-values_here : (schema : Schema) (s : Draft) (file : StatsFile) (line : List ℕ) (more : List (List ℕ)) (h : InPair (FrequentLeft s.pair) schema s file (line ∷ more))
+values_here : (schema : Schema) (s : Draft) (file : StatsFile) (line : List ℕ) (more : List (List ℕ)) (h : InPair (FrequentRemaining s.pair) schema s file (line ∷ more))
     → FrequentParts h.left.frequent h.pair.rest line more (histogram_lines h.left.cuts h.left.nodes) (pairs_left schema h.table h.pairs h.tables)
 values_here schema s file line more h =
     let after = pairs_left schema h.table h.pairs h.tables in
     frequent_parts h.left.frequent h.pair.rest line more (histogram_lines h.left.cuts h.left.nodes) after (h.all ∙ ap (λ (own : List (List ℕ)). own ++ after) h.left.all)
 
-pub open_frequent : (schema : Schema) (s : Draft) → KnownIn schema s → (file : StatsFile) (line : List ℕ) (more : List (List ℕ)) → InPair (FrequentLeft s.pair) schema s file (line ∷ more)
-    → tag line ≡ 102 → Opened value_line (MayBeFrequent s) (λ v. InPair (FrequentLeft (with_frequent s v).pair) schema (with_frequent s v) file more) line
+pub open_frequent : (schema : Schema) (s : Draft) → KnownIn schema s → (file : StatsFile) (line : List ℕ) (more : List (List ℕ)) → InPair (FrequentRemaining s.pair) schema s file (line ∷ more)
+    → tag line ≡ 102 → IsLineOfNext value_line (MayBeFrequent s) (λ v. InPair (FrequentRemaining (with_frequent s v).pair) schema (with_frequent s v) file more) line
 open_frequent schema s known file line more h t =
     let f = (values_here schema s file line more h).value t in
     let own = h.left in
@@ -274,7 +274,7 @@ open_frequent schema s known file line more h t =
     record {
       value = f.head;
       is = f.line_is;
-      may = may_frequent h.table s h.pair f.head f.rest (known h.table h.exists) (rules_here (FrequentLeft s.pair) schema s file (line ∷ more) h) g.filter is;
+      may = may_frequent h.table s h.pair f.head f.rest (known h.table h.exists) (rules_here (FrequentRemaining s.pair) schema s file (line ∷ more) h) g.filter is;
       rest = record {
         table = h.table;
         exists = h.exists;
@@ -303,7 +303,7 @@ open_frequent schema s known file line more h t =
     }
 
 pub close_frequent : (schema : Schema) (s : Draft) (f : Datum × List ℕ) (file : StatsFile) (more : List (List ℕ))
-    → InPair (FrequentLeft (with_frequent s f).pair) schema (with_frequent s f) file more → InPair (FrequentLeft s.pair) schema s file (value_line f ∷ more)
+    → InPair (FrequentRemaining (with_frequent s f).pair) schema (with_frequent s f) file more → InPair (FrequentRemaining s.pair) schema s file (value_line f ∷ more)
 close_frequent schema s f file more h =
     let own = h.left in
     let g = own.grows in
@@ -334,8 +334,8 @@ close_frequent schema s f file more h =
       all = ap (λ (ls : List (List ℕ)). value_line f ∷ ls) (h.all ∙ ap (λ (o : List (List ℕ)). o ++ after) own.all);
     }
 
-pub open_rest : (schema : Schema) (s : Draft) → KnownIn schema s → (file : StatsFile) (line : List ℕ) (more : List (List ℕ)) → InPair (FrequentLeft s.pair) schema s file (line ∷ more)
-    → tag line ≡ 114 → Opened rest_line (MayBeRest s) (λ v. InPair (CutsLeft (with_rest s v).pair) schema (with_rest s v) file more) line
+pub open_rest : (schema : Schema) (s : Draft) → KnownIn schema s → (file : StatsFile) (line : List ℕ) (more : List (List ℕ)) → InPair (FrequentRemaining s.pair) schema s file (line ∷ more)
+    → tag line ≡ 114 → IsLineOfNext rest_line (MayBeRest s) (λ v. InPair (CutsRemaining (with_rest s v).pair) schema (with_rest s v) file more) line
 open_rest schema s known file line more h t =
     let found = (values_here schema s file line more h).others t in
     let own = h.left in
@@ -344,7 +344,7 @@ open_rest schema s known file line more h t =
     record {
       value = h.pair.rest;
       is = found.1;
-      may = may_rest h.table s h.pair (known h.table h.exists) (rules_here (FrequentLeft s.pair) schema s file (line ∷ more) h) g.filter (is ∙ append-nil s.pair.frequent);
+      may = may_rest h.table s h.pair (known h.table h.exists) (rules_here (FrequentRemaining s.pair) schema s file (line ∷ more) h) g.filter (is ∙ append-nil s.pair.frequent);
       rest = record {
         table = h.table;
         exists = h.exists;
@@ -368,8 +368,8 @@ open_rest schema s known file line more h t =
       };
     }
 
-pub close_rest : (schema : Schema) (s : Draft) (list : List ℕ) (file : StatsFile) (more : List (List ℕ)) → InPair (CutsLeft (with_rest s list).pair) schema (with_rest s list) file more
-    → InPair (FrequentLeft s.pair) schema s file (rest_line list ∷ more)
+pub close_rest : (schema : Schema) (s : Draft) (list : List ℕ) (file : StatsFile) (more : List (List ℕ)) → InPair (CutsRemaining (with_rest s list).pair) schema (with_rest s list) file more
+    → InPair (FrequentRemaining s.pair) schema s file (rest_line list ∷ more)
 close_rest schema s list file more h =
     let tree = h.left.1 in
     let cuts = h.left.0 in

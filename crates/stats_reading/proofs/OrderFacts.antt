@@ -12,7 +12,7 @@ use Rattle.stats_file.specs.declared.types.Datum.{Datum}
 use Rattle.stats_file.specs.declared.types.Datum.TheVariants as datum
 use Rattle.stats_file.specs.Rules.{datum_cmp}
 use Rattle.std.proofs.lemmas.Option.{slice_get-get_or}
-use Rattle.stats_reading.proofs.Seams.{all_more}
+use Rattle.stats_reading.proofs.AppendedLists.{all_more}
 
 not_above : {K : Type 0} (R : K → K → Ordering) → IsTotalOrder R → (a b c : K) → R a b ≢ Greater → R b c ≢ Greater → R a c ≢ Greater
 not_above R total a b c below after = at (R a b) (R b c) refl refl

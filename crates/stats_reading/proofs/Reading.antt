@@ -3,7 +3,7 @@ use Rattle.std.proofs.Common.{◌≡◌, ◌↔◌, inl, inr, ℕ, ◌+◌, ◌�
 use Rattle.std.specs.Prelude.{codes, Ok, Err}
 use Rattle.std.specs.List.{concat, flat_map}
 use Rattle.schema_types.specs.declared.types.Schema.{Schema}
-use Rattle.stats_file.specs.declared.types.Pair.{Pair}
+use Rattle.stats_file.specs.declared.types.PairStats.{PairStats}
 use Rattle.stats_file.specs.declared.types.StatsError.TheVariants as error
 use Rattle.stats_file.specs.declared.types.StatsFile.{StatsFile}
 use Rattle.stats_file.specs.Answers.{Answers as FileAnswers, BeginsWithLine, IsReadUpTo}
@@ -17,12 +17,12 @@ use Rattle.stats_reading.specs.declared.fault.Fault.{Fault}
 use Rattle.stats_reading.specs.declared.fault.Fault.TheVariants as fault
 use Rattle.stats_reading.specs.declared.stages.Stage.{Stage}
 use Rattle.stats_reading.specs.declared.stages.Stage.TheVariants as stage
-use Rattle.stats_reading.specs.Goes.{LineAnswers, Goes}
-use Rattle.stats_reading.specs.Left.{file_of_draft, section_of, CutsLeft, FileLeft, FrequentLeft, InPair, NodesLeft, WholeLeft}
+use Rattle.stats_reading.specs.IsTaken.{LineAnswers, IsTaken}
+use Rattle.stats_reading.specs.Remaining.{file_of_draft, section_of, CutsRemaining, FileRemaining, FrequentRemaining, InPair, NodesRemaining, WholeRemaining}
 use Rattle.stats_reading.specs.Refusals.{refusal_of}
-use Rattle.stats_reading.specs.Stages.{TextLeft}
+use Rattle.stats_reading.specs.Stages.{TextRemaining}
 use Rattle.stats_reading.specs.Valid.{IsValidDraft, IsValidPair}
-use Rattle.stats_reading.proofs.Seams.{none_left}
+use Rattle.stats_reading.proofs.AppendedLists.{none_left}
 
 abbrev Lines : Type 0
 Lines = List (List ℕ)
@@ -34,8 +34,8 @@ pub record IsRead (schema : Schema) (bytes rest : List ℕ) (s : Draft) (line : 
   pub here : line ≡ length lines + 1
   pub few : line + length rest ≤ length bytes + 1
   pub valid : IsValidDraft s.stage schema s
-  pub files : (file : StatsFile) (more : Lines) → (KeepsRules schema file × (lines ++ more ≡ file_lines schema file)) ↔ FileLeft s.stage schema s file more
-  pub texts : (more : Lines) → IsText (lines ++ more) ↔ TextLeft s.stage more
+  pub files : (file : StatsFile) (more : Lines) → (KeepsRules schema file × (lines ++ more ≡ file_lines schema file)) ↔ FileRemaining s.stage schema s file more
+  pub texts : (more : Lines) → IsText (lines ++ more) ↔ TextRemaining s.stage more
 
 concat_append : (a b : Lines) → concat (a ++ b) ≡ concat a ++ concat b
 concat_append [] b = refl
@@ -51,7 +51,7 @@ one_more lines line more = append_assoc lines (line ∷ []) more
 with_end : (text others : List ℕ) → text ++ (10 ∷ others) ≡ ended text ++ others
 with_end text others = sym (append_assoc text (codes "\n") others)
 
-pub read_more : (schema : Schema) (bytes rest text others : List ℕ) (s t : Draft) (line : ℕ) → IsRead schema bytes rest s line → IsSplitAt 10 rest text others → Goes schema s t (ended text)
+pub read_more : (schema : Schema) (bytes rest text others : List ℕ) (s t : Draft) (line : ℕ) → IsRead schema bytes rest s line → IsSplitAt 10 rest text others → IsTaken schema s t (ended text)
     → IsRead schema bytes others t (line + 1)
 read_more schema bytes rest text others s t line h split goes =
     let lines = h.lines ++ ended text ∷ [] in
@@ -77,15 +77,15 @@ read_more schema bytes rest text others s t line h split goes =
 
 -- ---- for each valid draft there is a file that extends it
 
-record Begun (at : Stage) (schema : Schema) (s : Draft) : Type 0 where
+record FileExtends (at : Stage) (schema : Schema) (s : Draft) : Type 0 where
   file : StatsFile
   more : Lines
-  left : FileLeft at schema s file more
+  left : FileRemaining at schema s file more
 
 abbrev last : Lines
 last = end_line ∷ []
 
-in_pair : (Left : Pair → Lines → Type 0) (schema : Schema) (s : Draft) (v : IsValidPair Left schema s) → InPair Left schema s (file_of_draft s (section_of s (v.pair ∷ []) ∷ [])) (v.own ++ last)
+in_pair : (Left : PairStats → Lines → Type 0) (schema : Schema) (s : Draft) (v : IsValidPair Left schema s) → InPair Left schema s (file_of_draft s (section_of s (v.pair ∷ []) ∷ [])) (v.own ++ last)
 in_pair Left schema s v = record {
   table = v.table;
   exists = v.exists;
@@ -102,7 +102,7 @@ in_pair Left schema s v = record {
 abbrev smallest : StatsFile
 smallest = record { accuracy = 1; tables = [] }
 
-begun_at : (at : Stage) (schema : Schema) (s : Draft) → IsValidDraft at schema s → Begun at schema s
+begun_at : (at : Stage) (schema : Schema) (s : Draft) → IsValidDraft at schema s → FileExtends at schema s
 begun_at stage.Start schema s v = record {
   file = smallest;
   more = file_lines schema smallest;
@@ -114,10 +114,10 @@ begun_at stage.Pairs schema s v = record {
   more = last;
   left = record { table = v.table; exists = v.exists; pairs = []; tables = []; keeps = v.keeps; is = refl; all = refl };
 }
-begun_at stage.Whole schema s v = record { file = file_of_draft s (section_of s (v.pair ∷ []) ∷ []); more = v.own ++ last; left = in_pair (WholeLeft s.pair) schema s v }
-begun_at stage.Frequent schema s v = record { file = file_of_draft s (section_of s (v.pair ∷ []) ∷ []); more = v.own ++ last; left = in_pair (FrequentLeft s.pair) schema s v }
-begun_at stage.Cuts schema s v = record { file = file_of_draft s (section_of s (v.pair ∷ []) ∷ []); more = v.own ++ last; left = in_pair (CutsLeft s.pair) schema s v }
-begun_at stage.Nodes schema s v = record { file = file_of_draft s (section_of s (v.pair ∷ []) ∷ []); more = v.own ++ last; left = in_pair (NodesLeft s.pair) schema s v }
+begun_at stage.Whole schema s v = record { file = file_of_draft s (section_of s (v.pair ∷ []) ∷ []); more = v.own ++ last; left = in_pair (WholeRemaining s.pair) schema s v }
+begun_at stage.Frequent schema s v = record { file = file_of_draft s (section_of s (v.pair ∷ []) ∷ []); more = v.own ++ last; left = in_pair (FrequentRemaining s.pair) schema s v }
+begun_at stage.Cuts schema s v = record { file = file_of_draft s (section_of s (v.pair ∷ []) ∷ []); more = v.own ++ last; left = in_pair (CutsRemaining s.pair) schema s v }
+begun_at stage.Nodes schema s v = record { file = file_of_draft s (section_of s (v.pair ∷ []) ∷ []); more = v.own ++ last; left = in_pair (NodesRemaining s.pair) schema s v }
 begun_at stage.Done schema s v = record { file = file_of_draft s []; more = []; left = (v, refl, refl) }
 
 read_up_to : (schema : Schema) (bytes rest : List ℕ) (s : Draft) (line : ℕ) (h : IsRead schema bytes rest s line) → IsReadUpTo schema bytes h.lines rest
@@ -168,7 +168,7 @@ not_left own before e = not_nothing before (sym (none_left own (before ++ last) 
 not_behind : (own pairs tables : Lines) → [] ≡ own ++ (pairs ++ (tables ++ last)) → ⊥
 not_behind own pairs tables e = not_left pairs tables (sym (none_left own (pairs ++ (tables ++ last)) e).1)
 
-more_left : (at : Stage) (schema : Schema) (s : Draft) (file : StatsFile) → (at ≡ stage.Done → ⊥) → FileLeft at schema s file [] → ⊥
+more_left : (at : Stage) (schema : Schema) (s : Draft) (file : StatsFile) → (at ≡ stage.Done → ⊥) → FileRemaining at schema s file [] → ⊥
 unfolding file_lines
 more_left stage.Start schema s file other h = let none = h.1 in absurd (cc)
 more_left stage.Tables schema s file other h = not_nothing (flat_map (section_lines schema) h.tables) h.all
@@ -195,7 +195,7 @@ too_early schema bytes rest s line h none other = record {
 
 -- ---- the whole file is read
 
-done_left : (at : Stage) (schema : Schema) (s : Draft) → at ≡ stage.Done → IsValidDraft at schema s → KeepsRules schema (file_of_draft s []) × FileLeft at schema s (file_of_draft s []) []
+done_left : (at : Stage) (schema : Schema) (s : Draft) → at ≡ stage.Done → IsValidDraft at schema s → KeepsRules schema (file_of_draft s []) × FileRemaining at schema s (file_of_draft s []) []
 done_left stage.Start schema s is v = absurd (cc)
 done_left stage.Tables schema s is v = absurd (cc)
 done_left stage.Pairs schema s is v = absurd (cc)

@@ -4,21 +4,21 @@ use Rattle.std.specs.Prelude.{All, AllPairs, slice_get}
 use Rattle.std.proofs.lemmas.List.Quantifiers.{all_pairs_push}
 use Rattle.schema_types.specs.declared.types.Schema.{Schema}
 use Rattle.schema_types.specs.declared.types.Table.{Table}
-use Rattle.stats_file.specs.declared.types.Pair.{Pair}
+use Rattle.stats_file.specs.declared.types.PairStats.{PairStats}
 use Rattle.stats_file.specs.declared.types.TableStats.{TableStats}
-use Rattle.stats_file.specs.Rules.{Agree, IsPair, IsSection, KeepsRules, StandsBefore}
+use Rattle.stats_file.specs.Rules.{Agree, IsPair, IsSection, KeepsRules, ComesBefore}
 use Rattle.stats_reading.specs.declared.draft.Draft.{Draft}
-use Rattle.stats_reading.specs.Left.{file_of_draft, section_of}
-use Rattle.stats_reading.proofs.Seams.{all_here, all_left, all_more, pairs_front, pairs_here, same_some}
+use Rattle.stats_reading.specs.Remaining.{file_of_draft, section_of}
+use Rattle.stats_reading.proofs.AppendedLists.{all_here, all_left, all_more, pairs_front, pairs_here, same_some}
 
-pub record PairRules (table : Table) (rows : ℕ) (pairs : List Pair) (pair : Pair) : Type 0 where
+pub record PairRules (table : Table) (rows : ℕ) (pairs : List PairStats) (pair : PairStats) : Type 0 where
   pub is : IsPair table rows pair
-  pub order : All (λ q. StandsBefore q pair) pairs
+  pub order : All (λ q. ComesBefore q pair) pairs
   pub agree : All (λ q. Agree q pair) pairs
 
 pub record SectionRules (table : Table) (section : TableStats) : Type 0 where
   pub pairs : All (IsPair table section.rows) section.pairs
-  pub order : AllPairs StandsBefore section.pairs
+  pub order : AllPairs ComesBefore section.pairs
   pub agree : AllPairs Agree section.pairs
 
 pub section_rules : (schema : Schema) (table : Table) (section : TableStats) → IsSection schema section → slice_get schema.tables section.table ≡ Some table → SectionRules table section
@@ -26,18 +26,18 @@ section_rules schema table section is exists =
     let same = same_some is.table table (slice_get schema.tables section.table) is.table_is exists in
     record { pairs = subst (λ t. All (IsPair t section.rows) section.pairs) same is.pairs; order = is.order; agree = is.agree }
 
-pub section_at : (schema : Schema) (s : Draft) (pairs : List Pair) (tables : List TableStats) → KeepsRules schema (file_of_draft s (section_of s pairs ∷ tables))
+pub section_at : (schema : Schema) (s : Draft) (pairs : List PairStats) (tables : List TableStats) → KeepsRules schema (file_of_draft s (section_of s pairs ∷ tables))
     → IsSection schema (section_of s pairs)
 section_at schema s pairs tables keeps = all_here (IsSection schema) s.tables (section_of s pairs) tables keeps.tables
 
-pub pair_rules : (schema : Schema) (table : Table) (s : Draft) (pair : Pair) (pairs : List Pair) (tables : List TableStats) → slice_get schema.tables s.section.table ≡ Some table
+pub pair_rules : (schema : Schema) (table : Table) (s : Draft) (pair : PairStats) (pairs : List PairStats) (tables : List TableStats) → slice_get schema.tables s.section.table ≡ Some table
     → KeepsRules schema (file_of_draft s (section_of s (pair ∷ pairs) ∷ tables)) → PairRules table s.section.rows s.section.pairs pair
 pair_rules schema table s pair pairs tables exists keeps =
     let section = section_of s (pair ∷ pairs) in
     let rules = section_rules schema table section (section_at schema s (pair ∷ pairs) tables keeps) exists in
     record {
       is = all_here (IsPair table s.section.rows) s.section.pairs pair pairs rules.pairs;
-      order = pairs_here StandsBefore s.section.pairs pair pairs rules.order;
+      order = pairs_here ComesBefore s.section.pairs pair pairs rules.order;
       agree = pairs_here Agree s.section.pairs pair pairs rules.agree;
     }
 
@@ -51,7 +51,7 @@ fewer_tables schema s tables more keeps =
       tables = all_left (IsSection schema) (s.tables ++ tables) more (subst (All (IsSection schema)) same keeps.tables);
     }
 
-fewer_pairs_section : (schema : Schema) (s : Draft) (pairs more : List Pair) → IsSection schema (section_of s (pairs ++ more)) → IsSection schema (section_of s pairs)
+fewer_pairs_section : (schema : Schema) (s : Draft) (pairs more : List PairStats) → IsSection schema (section_of s (pairs ++ more)) → IsSection schema (section_of s pairs)
 fewer_pairs_section schema s pairs more is =
     let same : s.section.pairs ++ (pairs ++ more) ≡ (s.section.pairs ++ pairs) ++ more = sym (append_assoc s.section.pairs pairs more) in
     record {
@@ -59,7 +59,7 @@ fewer_pairs_section schema s pairs more is =
       table_is = is.table_is;
       rows = is.rows;
       pairs = all_left (IsPair is.table s.section.rows) (s.section.pairs ++ pairs) more (subst (All (IsPair is.table s.section.rows)) same is.pairs);
-      order = pairs_front StandsBefore (s.section.pairs ++ pairs) more (subst (AllPairs StandsBefore) same is.order);
+      order = pairs_front ComesBefore (s.section.pairs ++ pairs) more (subst (AllPairs ComesBefore) same is.order);
       agree = pairs_front Agree (s.section.pairs ++ pairs) more (subst (AllPairs Agree) same is.agree);
     }
 
@@ -74,13 +74,13 @@ other_last schema s a b same is keeps =
       tables = all_more (IsSection schema) s.tables b (all_left (IsSection schema) s.tables (a ∷ []) keeps.tables) is;
     }
 
-pub without_pair : (schema : Schema) (s : Draft) (pairs : List Pair) (tables : List TableStats) → KeepsRules schema (file_of_draft s (section_of s pairs ∷ tables))
+pub without_pair : (schema : Schema) (s : Draft) (pairs : List PairStats) (tables : List TableStats) → KeepsRules schema (file_of_draft s (section_of s pairs ∷ tables))
     → KeepsRules schema (file_of_draft s (section_of s [] ∷ []))
 without_pair schema s pairs tables keeps =
     let one = fewer_tables schema s (section_of s pairs ∷ []) tables keeps in
     other_last schema s (section_of s pairs) (section_of s []) refl (fewer_pairs_section schema s [] pairs (section_at schema s pairs [] one)) one
 
-pub with_pair : (schema : Schema) (table : Table) (s : Draft) (pair : Pair) → slice_get schema.tables s.section.table ≡ Some table
+pub with_pair : (schema : Schema) (table : Table) (s : Draft) (pair : PairStats) → slice_get schema.tables s.section.table ≡ Some table
     → KeepsRules schema (file_of_draft s (section_of s [] ∷ [])) → PairRules table s.section.rows s.section.pairs pair
     → KeepsRules schema (file_of_draft s (section_of s (pair ∷ []) ∷ []))
 with_pair schema table s pair exists keeps rules =
@@ -93,7 +93,7 @@ with_pair schema table s pair exists keeps rules =
       table_is = exists;
       rows = old.rows;
       pairs = all_more (IsPair table s.section.rows) s.section.pairs pair (subst (All (IsPair table s.section.rows)) none of_old.pairs) rules.is;
-      order = all_pairs_push StandsBefore s.section.pairs pair (subst (AllPairs StandsBefore) none of_old.order) rules.order;
+      order = all_pairs_push ComesBefore s.section.pairs pair (subst (AllPairs ComesBefore) none of_old.order) rules.order;
       agree = all_pairs_push Agree s.section.pairs pair (subst (AllPairs Agree) none of_old.agree) rules.agree;
     })
     keeps

@@ -4,7 +4,7 @@ use Rattle.std.specs.Prelude.{codes, Result}
 use Rattle.std.proofs.lemmas.List.{append_cancel_right}
 use Rattle.schema_types.specs.declared.types.Schema.{Schema}
 use Rattle.stats_file.specs.declared.types.Datum.{Datum}
-use Rattle.stats_file.specs.declared.types.Pair.{Pair}
+use Rattle.stats_file.specs.declared.types.PairStats.{PairStats}
 use Rattle.stats_file.specs.declared.types.StatsFile.{StatsFile}
 use Rattle.stats_file.specs.FileText.{histogram_node_line, value_line}
 use Rattle.stats_file.specs.Lines.{cut_line, datum_text}
@@ -16,9 +16,9 @@ use Rattle.stats_reading.specs.declared.line.LineKind.{LineKind}
 use Rattle.stats_reading.specs.declared.line.LineKind.TheVariants as kind
 use Rattle.stats_reading.specs.declared.stages.Stage.{Stage}
 use Rattle.stats_reading.specs.declared.stages.Stage.TheVariants as stage
-use Rattle.stats_reading.specs.Drafts.{frequent_words, list_word, value_word, with_cut, with_frequent, with_node, with_rest, with_whole, MayBeCut, MayBeFrequent, MayBeNode, MayBeRest, MayBeWhole, Takes}
+use Rattle.stats_reading.specs.Drafts.{frequent_words, list_word, value_word, with_cut, with_frequent, with_node, with_rest, with_whole, MayBeCut, MayBeFrequent, MayBeNode, MayBeRest, MayBeWhole, ReadsValue}
 use Rattle.stats_reading.specs.Kinds.{IsLineOf, IsOfKind}
-use Rattle.stats_reading.specs.Left.{rest_line, whole_line, CutsLeft, FileLeft, FrequentLeft, NodesLeft, WholeLeft}
+use Rattle.stats_reading.specs.Remaining.{rest_line, whole_line, CutsRemaining, FileRemaining, FrequentRemaining, NodesRemaining, WholeRemaining}
 use Rattle.stats_reading.specs.Valid.{IsValidDraft, IsValidPair}
 use Rattle.stats_reading.proofs.Going.{step_goes, two, FilesGo, IsStep, Lines}
 use Rattle.stats_reading.proofs.Grammar.{tag_of, tag_of_line}
@@ -89,22 +89,22 @@ spells_two first v w a b l free_v free_a whole =
 
 -- ---- what is known of a valid draft
 
-pub knows : (Left : Pair → Lines → Type 0) (schema : Schema) (s : Draft) → IsValidPair Left schema s → KnownIn schema s
+pub knows : (Left : PairStats → Lines → Type 0) (schema : Schema) (s : Draft) → IsValidPair Left schema s → KnownIn schema s
 knows Left schema s v = known_in schema s v.table v.exists v.known
 
-rows_fit : (Left : Pair → Lines → Type 0) (schema : Schema) (s : Draft) → IsValidPair Left schema s → s.section.rows < 2 ^ 64
+rows_fit : (Left : PairStats → Lines → Type 0) (schema : Schema) (s : Draft) → IsValidPair Left schema s → s.section.rows < 2 ^ 64
 rows_fit Left schema s v =
     let few : s.section.rows ≤ 4000000 = (section_at schema s (v.pair ∷ []) [] v.keeps).rows in
     omega arith
 
-pub weaker_valid : (schema : Schema) (s : Draft) → IsValidPair (NodesLeft s.pair) schema s → IsValidPair (CutsLeft s.pair) schema s
+pub weaker_valid : (schema : Schema) (s : Draft) → IsValidPair (NodesRemaining s.pair) schema s → IsValidPair (CutsRemaining s.pair) schema s
 weaker_valid schema s v = record { table = v.table; exists = v.exists; known = v.known; pair = v.pair; own = v.own; left = ([], v.left); keeps = v.keeps }
 
-along : (at : Stage) (schema : Schema) (a b : Draft) (file : StatsFile) (more : Lines) → b ≡ a → FileLeft at schema a file more → FileLeft at schema b file more
-along at schema a b file more e h = subst (λ (x : Draft). FileLeft at schema x file more) (sym e) h
+along : (at : Stage) (schema : Schema) (a b : Draft) (file : StatsFile) (more : Lines) → b ≡ a → FileRemaining at schema a file more → FileRemaining at schema b file more
+along at schema a b file more e h = subst (λ (x : Draft). FileRemaining at schema x file more) (sym e) h
 
-back_along : (at : Stage) (schema : Schema) (a b : Draft) (file : StatsFile) (more : Lines) → b ≡ a → FileLeft at schema b file more → FileLeft at schema a file more
-back_along at schema a b file more e h = subst (λ (x : Draft). FileLeft at schema x file more) e h
+back_along : (at : Stage) (schema : Schema) (a b : Draft) (file : StatsFile) (more : Lines) → b ≡ a → FileRemaining at schema b file more → FileRemaining at schema a file more
+back_along at schema a b file more e h = subst (λ (x : Draft). FileRemaining at schema x file more) e h
 
 valid_along : (at : Stage) (schema : Schema) (a b : Draft) → b ≡ a → IsValidDraft at schema a → IsValidDraft at schema b
 valid_along at schema a b e h = subst (λ (x : Draft). IsValidDraft at schema x) (sym e) h
@@ -115,63 +115,63 @@ value_and value list = (value, list)
 -- ---- the lines of a pair
 
 pub whole_goes : (schema : Schema) (s t : Draft) (a b l : List ℕ) (r : Result (Unit {0}) Fault) → IsValidDraft stage.Whole schema s → IsLineOf kind.Whole a b l
-    → Takes list_word (MayBeWhole s) (λ v. t ≡ with_whole s v) (a, b) r → FilesGo (FileLeft stage.Whole schema s) (FileLeft stage.Frequent schema t) (IsValidDraft stage.Frequent schema t) (ended l) r
+    → ReadsValue list_word (MayBeWhole s) (λ v. t ≡ with_whole s v) (a, b) r → FilesGo (FileRemaining stage.Whole schema s) (FileRemaining stage.Frequent schema t) (IsValidDraft stage.Frequent schema t) (ended l) r
 whole_goes schema s t a b l r valid is takes =
     step_goes step (IsValidDraft stage.Frequent schema t) r takes (λ v may e. valid_along stage.Frequent schema (with_whole s v) t e (whole_grown schema s v valid may))
   where
-    step : IsStep whole_line list_word (MayBeWhole s) (λ v. t ≡ with_whole s v) (FileLeft stage.Whole schema s) (FileLeft stage.Frequent schema t) (ended l) (a, b)
+    step : IsStep whole_line list_word (MayBeWhole s) (λ v. t ≡ with_whole s v) (FileRemaining stage.Whole schema s) (FileRemaining stage.Frequent schema t) (ended l) (a, b)
     step = record {
       opens = λ file more h.
-          let o = open_whole schema s (knows (WholeLeft s.pair) schema s valid) file (ended l) more h in
+          let o = open_whole schema s (knows (WholeRemaining s.pair) schema s valid) file (ended l) more h in
           record { value = o.value; is = o.is; may = o.may; rest = λ e. along stage.Frequent schema (with_whole s o.value) t file more e o.rest };
       closes = λ v file more e may h. close_whole schema s v file more (back_along stage.Frequent schema (with_whole s v) t file more e h);
-      same = λ x y may_x may_y e. same_list s.section.rows x y (rows_fit (WholeLeft s.pair) schema s valid) may_x.0 may_y.0 (ap (λ (p : List ℕ × List ℕ). p.0) e);
+      same = λ x y may_x may_y e. same_list s.section.rows x y (rows_fit (WholeRemaining s.pair) schema s valid) may_x.0 may_y.0 (ap (λ (p : List ℕ × List ℕ). p.0) e);
       spells = λ v may. spells_one (codes "whole ") (list_text v) a b l is.whole is.parts.1;
     }
 
 pub frequent_goes : (schema : Schema) (s t : Draft) (a b l : List ℕ) (r : Result (Unit {0}) Fault) → IsValidDraft stage.Frequent schema s → IsLineOf kind.Frequent a b l
-    → Takes frequent_words (MayBeFrequent s) (λ f. t ≡ with_frequent s f) (a, b) r
-    → FilesGo (FileLeft stage.Frequent schema s) (FileLeft stage.Frequent schema t) (IsValidDraft stage.Frequent schema t) (ended l) r
+    → ReadsValue frequent_words (MayBeFrequent s) (λ f. t ≡ with_frequent s f) (a, b) r
+    → FilesGo (FileRemaining stage.Frequent schema s) (FileRemaining stage.Frequent schema t) (IsValidDraft stage.Frequent schema t) (ended l) r
 frequent_goes schema s t a b l r valid is takes =
     step_goes step (IsValidDraft stage.Frequent schema t) r takes (λ v may e. valid_along stage.Frequent schema (with_frequent s v) t e (frequent_grown schema s v valid may))
   where
-    step : IsStep value_line frequent_words (MayBeFrequent s) (λ f. t ≡ with_frequent s f) (FileLeft stage.Frequent schema s) (FileLeft stage.Frequent schema t) (ended l) (a, b)
+    step : IsStep value_line frequent_words (MayBeFrequent s) (λ f. t ≡ with_frequent s f) (FileRemaining stage.Frequent schema s) (FileRemaining stage.Frequent schema t) (ended l) (a, b)
     step = record {
       opens = λ file more h.
-          let o = open_frequent schema s (knows (FrequentLeft s.pair) schema s valid) file (ended l) more h (line_tag kind.Frequent a b l is) in
+          let o = open_frequent schema s (knows (FrequentRemaining s.pair) schema s valid) file (ended l) more h (line_tag kind.Frequent a b l is) in
           record { value = o.value; is = o.is; may = o.may; rest = λ e. along stage.Frequent schema (with_frequent s o.value) t file more e o.rest };
       closes = λ v file more e may h. close_frequent schema s v file more (back_along stage.Frequent schema (with_frequent s v) t file more e h);
       same = λ x y may_x may_y e.
           let first : x.0 ≡ y.0 = same_datum s.kind x.0 y.0 may_x.0 may_y.0 (ap (λ (p : List ℕ × List ℕ). p.0) e) in
-          let second : x.1 ≡ y.1 = same_list s.section.rows x.1 y.1 (rows_fit (FrequentLeft s.pair) schema s valid) may_x.1 may_y.1 (ap (λ (p : List ℕ × List ℕ). p.1) e) in
+          let second : x.1 ≡ y.1 = same_list s.section.rows x.1 y.1 (rows_fit (FrequentRemaining s.pair) schema s valid) may_x.1 may_y.1 (ap (λ (p : List ℕ × List ℕ). p.1) e) in
           ap (λ (d : Datum). value_and d x.1) first ∙ ap (λ (list : List ℕ). value_and y.0 list) second;
       spells = λ v may. spells_two (codes "frequent ") (datum_text v.0) (list_text v.1) a b l (datum_blank s.kind v.0 may.0) (value_blank a is.parts.0) is.whole;
     }
 
 pub rest_goes : (schema : Schema) (s t : Draft) (a b l : List ℕ) (r : Result (Unit {0}) Fault) → IsValidDraft stage.Frequent schema s → IsLineOf kind.Rest a b l
-    → Takes list_word (MayBeRest s) (λ v. t ≡ with_rest s v) (a, b) r → FilesGo (FileLeft stage.Frequent schema s) (FileLeft stage.Cuts schema t) (IsValidDraft stage.Cuts schema t) (ended l) r
+    → ReadsValue list_word (MayBeRest s) (λ v. t ≡ with_rest s v) (a, b) r → FilesGo (FileRemaining stage.Frequent schema s) (FileRemaining stage.Cuts schema t) (IsValidDraft stage.Cuts schema t) (ended l) r
 rest_goes schema s t a b l r valid is takes =
     step_goes step (IsValidDraft stage.Cuts schema t) r takes (λ v may e. valid_along stage.Cuts schema (with_rest s v) t e (rest_grown schema s v valid may))
   where
-    step : IsStep rest_line list_word (MayBeRest s) (λ v. t ≡ with_rest s v) (FileLeft stage.Frequent schema s) (FileLeft stage.Cuts schema t) (ended l) (a, b)
+    step : IsStep rest_line list_word (MayBeRest s) (λ v. t ≡ with_rest s v) (FileRemaining stage.Frequent schema s) (FileRemaining stage.Cuts schema t) (ended l) (a, b)
     step = record {
       opens = λ file more h.
-          let o = open_rest schema s (knows (FrequentLeft s.pair) schema s valid) file (ended l) more h (line_tag kind.Rest a b l is) in
+          let o = open_rest schema s (knows (FrequentRemaining s.pair) schema s valid) file (ended l) more h (line_tag kind.Rest a b l is) in
           record { value = o.value; is = o.is; may = o.may; rest = λ e. along stage.Cuts schema (with_rest s o.value) t file more e o.rest };
       closes = λ v file more e may h. close_rest schema s v file more (back_along stage.Cuts schema (with_rest s v) t file more e h);
-      same = λ x y may_x may_y e. same_list s.section.rows x y (rows_fit (FrequentLeft s.pair) schema s valid) may_x.0 may_y.0 (ap (λ (p : List ℕ × List ℕ). p.0) e);
+      same = λ x y may_x may_y e. same_list s.section.rows x y (rows_fit (FrequentRemaining s.pair) schema s valid) may_x.0 may_y.0 (ap (λ (p : List ℕ × List ℕ). p.0) e);
       spells = λ v may. spells_one (codes "rest ") (list_text v) a b l is.whole is.parts.1;
     }
 
 pub cut_goes : (schema : Schema) (s t : Draft) (a b l : List ℕ) (r : Result (Unit {0}) Fault) → IsValidDraft stage.Cuts schema s → IsLineOf kind.Cut a b l
-    → Takes value_word (MayBeCut s) (λ v. t ≡ with_cut s v) (a, b) r → FilesGo (FileLeft stage.Cuts schema s) (FileLeft stage.Cuts schema t) (IsValidDraft stage.Cuts schema t) (ended l) r
+    → ReadsValue value_word (MayBeCut s) (λ v. t ≡ with_cut s v) (a, b) r → FilesGo (FileRemaining stage.Cuts schema s) (FileRemaining stage.Cuts schema t) (IsValidDraft stage.Cuts schema t) (ended l) r
 cut_goes schema s t a b l r valid is takes =
     step_goes step (IsValidDraft stage.Cuts schema t) r takes (λ v may e. valid_along stage.Cuts schema (with_cut s v) t e (cut_grown schema s v valid may))
   where
-    step : IsStep cut_line value_word (MayBeCut s) (λ v. t ≡ with_cut s v) (FileLeft stage.Cuts schema s) (FileLeft stage.Cuts schema t) (ended l) (a, b)
+    step : IsStep cut_line value_word (MayBeCut s) (λ v. t ≡ with_cut s v) (FileRemaining stage.Cuts schema s) (FileRemaining stage.Cuts schema t) (ended l) (a, b)
     step = record {
       opens = λ file more h.
-          let o = open_cut schema s (knows (CutsLeft s.pair) schema s valid) file (ended l) more h (line_tag kind.Cut a b l is) in
+          let o = open_cut schema s (knows (CutsRemaining s.pair) schema s valid) file (ended l) more h (line_tag kind.Cut a b l is) in
           record { value = o.value; is = o.is; may = o.may; rest = λ e. along stage.Cuts schema (with_cut s o.value) t file more e o.rest };
       closes = λ v file more e may h. close_cut schema s v file more (back_along stage.Cuts schema (with_cut s v) t file more e h);
       same = λ x y may_x may_y e. same_datum s.kind x y may_x.0 may_y.0 (ap (λ (p : List ℕ × List ℕ). p.0) e);
@@ -180,32 +180,32 @@ cut_goes schema s t a b l r valid is takes =
 
 -- a node comes after the cuts, or after other nodes
 pub node_goes : (schema : Schema) (s t : Draft) (a b l : List ℕ) (r : Result (Unit {0}) Fault) → IsValidDraft stage.Cuts schema s → IsLineOf kind.Node a b l
-    → Takes list_word (MayBeNode s) (λ v. t ≡ with_node s v) (a, b) r → FilesGo (FileLeft stage.Cuts schema s) (FileLeft stage.Nodes schema t) (IsValidDraft stage.Nodes schema t) (ended l) r
+    → ReadsValue list_word (MayBeNode s) (λ v. t ≡ with_node s v) (a, b) r → FilesGo (FileRemaining stage.Cuts schema s) (FileRemaining stage.Nodes schema t) (IsValidDraft stage.Nodes schema t) (ended l) r
 node_goes schema s t a b l r valid is takes =
     step_goes step (IsValidDraft stage.Nodes schema t) r takes (λ v may e. valid_along stage.Nodes schema (with_node s v) t e (node_grown schema s v valid may))
   where
-    step : IsStep histogram_node_line list_word (MayBeNode s) (λ v. t ≡ with_node s v) (FileLeft stage.Cuts schema s) (FileLeft stage.Nodes schema t) (ended l) (a, b)
+    step : IsStep histogram_node_line list_word (MayBeNode s) (λ v. t ≡ with_node s v) (FileRemaining stage.Cuts schema s) (FileRemaining stage.Nodes schema t) (ended l) (a, b)
     step = record {
       opens = λ file more h.
-          let o = open_node schema s (knows (CutsLeft s.pair) schema s valid) file (ended l) more h (line_tag kind.Node a b l is) in
+          let o = open_node schema s (knows (CutsRemaining s.pair) schema s valid) file (ended l) more h (line_tag kind.Node a b l is) in
           record { value = o.value; is = o.is; may = o.may; rest = λ e. along stage.Nodes schema (with_node s o.value) t file more e o.rest };
       closes = λ v file more e may h.
           weaker schema s file (histogram_node_line v ∷ more) (close_node schema s v file more (back_along stage.Nodes schema (with_node s v) t file more e h));
-      same = λ x y may_x may_y e. same_list s.section.rows x y (rows_fit (CutsLeft s.pair) schema s valid) may_x.0 may_y.0 (ap (λ (p : List ℕ × List ℕ). p.0) e);
+      same = λ x y may_x may_y e. same_list s.section.rows x y (rows_fit (CutsRemaining s.pair) schema s valid) may_x.0 may_y.0 (ap (λ (p : List ℕ × List ℕ). p.0) e);
       spells = λ v may. spells_one (codes "node ") (list_text v) a b l is.whole is.parts.1;
     }
 
 pub next_node_goes : (schema : Schema) (s t : Draft) (a b l : List ℕ) (r : Result (Unit {0}) Fault) → IsValidDraft stage.Nodes schema s → IsLineOf kind.Node a b l
-    → Takes list_word (MayBeNode s) (λ v. t ≡ with_node s v) (a, b) r → FilesGo (FileLeft stage.Nodes schema s) (FileLeft stage.Nodes schema t) (IsValidDraft stage.Nodes schema t) (ended l) r
+    → ReadsValue list_word (MayBeNode s) (λ v. t ≡ with_node s v) (a, b) r → FilesGo (FileRemaining stage.Nodes schema s) (FileRemaining stage.Nodes schema t) (IsValidDraft stage.Nodes schema t) (ended l) r
 next_node_goes schema s t a b l r valid is takes =
     step_goes step (IsValidDraft stage.Nodes schema t) r takes (λ v may e. valid_along stage.Nodes schema (with_node s v) t e (node_grown schema s v (weaker_valid schema s valid) may))
   where
-    step : IsStep histogram_node_line list_word (MayBeNode s) (λ v. t ≡ with_node s v) (FileLeft stage.Nodes schema s) (FileLeft stage.Nodes schema t) (ended l) (a, b)
+    step : IsStep histogram_node_line list_word (MayBeNode s) (λ v. t ≡ with_node s v) (FileRemaining stage.Nodes schema s) (FileRemaining stage.Nodes schema t) (ended l) (a, b)
     step = record {
       opens = λ file more h.
-          let o = open_node schema s (knows (NodesLeft s.pair) schema s valid) file (ended l) more (weaker schema s file (ended l ∷ more) h) (line_tag kind.Node a b l is) in
+          let o = open_node schema s (knows (NodesRemaining s.pair) schema s valid) file (ended l) more (weaker schema s file (ended l ∷ more) h) (line_tag kind.Node a b l is) in
           record { value = o.value; is = o.is; may = o.may; rest = λ e. along stage.Nodes schema (with_node s o.value) t file more e o.rest };
       closes = λ v file more e may h. close_node schema s v file more (back_along stage.Nodes schema (with_node s v) t file more e h);
-      same = λ x y may_x may_y e. same_list s.section.rows x y (rows_fit (NodesLeft s.pair) schema s valid) may_x.0 may_y.0 (ap (λ (p : List ℕ × List ℕ). p.0) e);
+      same = λ x y may_x may_y e. same_list s.section.rows x y (rows_fit (NodesRemaining s.pair) schema s valid) may_x.0 may_y.0 (ap (λ (p : List ℕ × List ℕ). p.0) e);
       spells = λ v may. spells_one (codes "node ") (list_text v) a b l is.whole is.parts.1;
     }

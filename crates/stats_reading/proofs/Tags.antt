@@ -5,12 +5,12 @@ use Rattle.std.specs.List.{flat_map}
 use Rattle.schema_types.specs.declared.types.Schema.{Schema}
 use Rattle.schema_types.specs.declared.types.Table.{Table}
 use Rattle.stats_file.specs.declared.types.Datum.{Datum}
-use Rattle.stats_file.specs.declared.types.Pair.{Pair}
+use Rattle.stats_file.specs.declared.types.PairStats.{PairStats}
 use Rattle.stats_file.specs.declared.types.TableStats.{TableStats}
 use Rattle.stats_file.specs.FileText.{name_at, histogram_node_line, pair_lines, section_lines, table_lines, value_line}
 use Rattle.stats_file.specs.Lines.{cut_line, end_line, pair_line, table_line}
-use Rattle.stats_reading.specs.Left.{frequent_lines, pairs_left, rest_line, tables_left, histogram_lines, whole_line}
-use Rattle.stats_reading.proofs.Seams.{first_line_of, FromMap}
+use Rattle.stats_reading.specs.Remaining.{frequent_lines, pairs_left, rest_line, tables_left, histogram_lines, whole_line}
+use Rattle.stats_reading.proofs.AppendedLists.{first_line_of, FromMap}
 
 abbrev pub tag : List ℕ → ℕ
 tag line = get_or line 0 0
@@ -52,15 +52,15 @@ to_tables schema section rest table exists =
 -- ---- the lines of further pairs
 
 -- the first line of a pair names its columns; these are the lines after it
-abbrev pub pair_rest : Pair → List (List ℕ)
+abbrev pub pair_rest : PairStats → List (List ℕ)
 pair_rest pair = whole_line pair.whole ∷ frequent_lines pair.frequent pair.rest pair.cuts pair.nodes
 
-pub pair_opened : (schema : Schema) (table : Table) (pair : Pair) (rest : List Pair) (tables : List TableStats)
+pub pair_opened : (schema : Schema) (table : Table) (pair : PairStats) (rest : List PairStats) (tables : List TableStats)
     → pairs_left schema table (pair ∷ rest) tables ≡ pair_line (name_at table pair.filter) (name_at table pair.joined) ∷ (pair_rest pair ++ pairs_left schema table rest tables)
 unfolding pair_lines
 pair_opened schema table pair rest tables = append_assoc (pair_lines table pair) (flat_map (pair_lines table) rest) (tables_left schema tables)
 
-pairs_tag : (schema : Schema) (table : Table) (pairs : List Pair) (tables : List TableStats) (line : List ℕ) (more : List (List ℕ)) → line ∷ more ≡ pairs_left schema table pairs tables
+pairs_tag : (schema : Schema) (table : Table) (pairs : List PairStats) (tables : List TableStats) (line : List ℕ) (more : List (List ℕ)) → line ∷ more ≡ pairs_left schema table pairs tables
     → (tag line ≡ 112) ⊎ ((tag line ≡ 116) ⊎ (tag line ≡ 101))
 pairs_tag schema table [] tables line more e = inr (tables_tag schema tables line more e)
 pairs_tag schema table (pair ∷ rest) tables line more e =
@@ -69,7 +69,7 @@ pairs_tag schema table (pair ∷ rest) tables line more e =
     inl (same_tag line (pair_line (name_at table pair.filter) (name_at table pair.joined)) same)
 
 -- 99 and 110 are the tags of a cut and a node
-pub after_pair : (schema : Schema) (table : Table) (pairs : List Pair) (tables : List TableStats) (line : List ℕ) (more : List (List ℕ)) → line ∷ more ≡ pairs_left schema table pairs tables
+pub after_pair : (schema : Schema) (table : Table) (pairs : List PairStats) (tables : List TableStats) (line : List ℕ) (more : List (List ℕ)) → line ∷ more ≡ pairs_left schema table pairs tables
     → (tag line ≢ 99) × (tag line ≢ 110)
 after_pair schema table pairs tables line more e = at (pairs_tag schema table pairs tables line more e)
   where

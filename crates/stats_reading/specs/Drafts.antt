@@ -7,11 +7,11 @@ use Rattle.schema_types.specs.declared.types.Kind.TheVariants as kind
 use Rattle.schema_types.specs.declared.types.Schema.{Schema}
 use Rattle.schema_types.specs.declared.types.Table.{Table}
 use Rattle.stats_file.specs.declared.types.Datum.{Datum}
-use Rattle.stats_file.specs.declared.types.Pair.{Pair}
+use Rattle.stats_file.specs.declared.types.PairStats.{PairStats}
 use Rattle.stats_file.specs.declared.types.TableStats.{TableStats}
 use Rattle.stats_file.specs.FileText.{name_at}
 use Rattle.stats_file.specs.Lines.{datum_text, hex_text}
-use Rattle.stats_file.specs.Rules.{datum_cmp, IsList, IsOfKind, StandsBefore}
+use Rattle.stats_file.specs.Rules.{datum_cmp, IsList, IsOfKind, ComesBefore}
 use Rattle.stats_words.specs.Runs.{list_text}
 use Rattle.stats_reading.specs.declared.draft.Draft.{Draft}
 use Rattle.stats_reading.specs.declared.fault.Fault.{Fault}
@@ -20,7 +20,7 @@ use Rattle.stats_reading.specs.declared.stages.Stage.TheVariants as stage
 
 -- ---- drafts and how they change
 
-abbrev pub empty_pair : ℕ → ℕ → Pair
+abbrev pub empty_pair : ℕ → ℕ → PairStats
 empty_pair filter joined = record { filter = filter; joined = joined; whole = []; frequent = []; rest = []; cuts = []; nodes = [] }
 
 abbrev pub empty_section : ℕ → ℕ → TableStats
@@ -67,8 +67,8 @@ abbrev pub HasAllNodes : Draft → Type 0
 HasAllNodes s = 0 < s.section.rows → (length s.pair.cuts ≡ 32) × (length s.pair.nodes ≡ 63)
 
 -- `place` is the index of a pair whose column is `wanted`, or is beyond the end of `pairs` if no pair has this column
-pub record IsPlaceOf (column : Pair → ℕ) (wanted : ℕ) (pairs : List Pair) (place : ℕ) : Type 0 where
-  pub found : (q : Pair) → slice_get pairs place ≡ Some q → column q ≡ wanted
+pub record IsPlaceOf (column : PairStats → ℕ) (wanted : ℕ) (pairs : List PairStats) (place : ℕ) : Type 0 where
+  pub found : (q : PairStats) → slice_get pairs place ≡ Some q → column q ≡ wanted
   pub none : slice_get pairs place ≡ None → All (λ q. column q ≢ wanted) pairs
 
 -- draft `new` is `old`, with a new pair of these columns as its current pair
@@ -84,27 +84,27 @@ abbrev pub TablesAscend : Draft → Type 0
 TablesAscend s = AllPairs (λ (a b : TableStats). a.table < b.table) s.tables
 
 abbrev pub PairsAscend : Draft → Type 0
-PairsAscend s = AllPairs StandsBefore s.section.pairs
+PairsAscend s = AllPairs ComesBefore s.section.pairs
 
 -- ---- what may come next
 
 -- q is an earlier pair with the current pair's filter column
-abbrev pub IsLike : Draft → Pair → Type 0
-IsLike s q = slice_get s.section.pairs s.same_filter_at ≡ Some q
+abbrev pub HasSameFilter : Draft → PairStats → Type 0
+HasSameFilter s q = slice_get s.section.pairs s.same_filter_at ≡ Some q
 
-abbrev pub IsTwin : Draft → Pair → Type 0
-IsTwin s q = slice_get s.section.pairs s.same_joined_at ≡ Some q
+abbrev pub HasSameJoined : Draft → PairStats → Type 0
+HasSameJoined s q = slice_get s.section.pairs s.same_joined_at ≡ Some q
 
 abbrev pub MayBeAccuracy : ℕ → Type 0
 MayBeAccuracy k = (least_accuracy ≤ k) × (k ≤ most_accuracy)
 
 -- a table of the schema, its position in the schema, and its number of rows
-pub record Place : Type 0 where
+pub record TableWithRows : Type 0 where
   pub table : Table
   pub place : ℕ
   pub rows : ℕ
 
-pub record MayBeTable (schema : Schema) (s : Draft) (v : Place) : Type 0 where
+pub record MayBeTable (schema : Schema) (s : Draft) (v : TableWithRows) : Type 0 where
   pub exists : slice_get schema.tables v.place ≡ Some v.table
   pub later : All (λ t. t.table < v.place) s.tables
   pub few : v.rows ≤ most_rows
@@ -112,15 +112,15 @@ pub record MayBeTable (schema : Schema) (s : Draft) (v : Place) : Type 0 where
 pub record MayBePair (table : Table) (s : Draft) (filter joined : ℕ) : Type 0 where
   pub filter_is : filter < length table.columns
   pub joined_is : joined < length table.columns
-  pub later : All (λ q. StandsBefore q (empty_pair filter joined)) s.section.pairs
+  pub later : All (λ q. ComesBefore q (empty_pair filter joined)) s.section.pairs
 
 -- a list may be the list of all rows: its sum is the number of rows, and an earlier pair with the same joined column has the same list
 pub record WholeFollows (s : Draft) (list : List ℕ) : Type 0 where
   pub all : sum list ≡ s.section.rows
-  pub alike : (q : Pair) → IsTwin s q → q.whole ≡ list
+  pub alike : (q : PairStats) → HasSameJoined s q → q.whole ≡ list
 
 -- at this index pair q has the same frequent value, with a list of the same sum
-pub record IsSameValue (place : ℕ) (f : Datum × List ℕ) (q : Pair) : Type 0 where
+pub record IsSameValue (place : ℕ) (f : Datum × List ℕ) (q : PairStats) : Type 0 where
   pub other : Datum × List ℕ
   pub there : slice_get q.frequent place ≡ Some other
   pub value : other.0 ≡ f.0
@@ -130,25 +130,25 @@ pub record IsSameValue (place : ℕ) (f : Datum × List ℕ) (q : Pair) : Type 0
 pub record FrequentFollows (s : Draft) (f : Datum × List ℕ) : Type 0 where
   pub few : length s.pair.frequent < 32
   pub differs : All (λ (e : Datum × List ℕ). e.0 ≢ f.0) s.pair.frequent
-  pub alike : (q : Pair) → IsLike s q → IsSameValue (length s.pair.frequent) f q
+  pub alike : (q : PairStats) → HasSameFilter s q → IsSameValue (length s.pair.frequent) f q
 
 -- pair q has `count` frequent values, and its list of the other values has the same sum
-pub record IsSameRest (count : ℕ) (list : List ℕ) (q : Pair) : Type 0 where
+pub record IsSameRest (count : ℕ) (list : List ℕ) (q : PairStats) : Type 0 where
   pub count_is : length q.frequent ≡ count
   pub total : sum q.rest ≡ sum list
 
 pub record RestFollows (s : Draft) (list : List ℕ) : Type 0 where
-  pub alike : (q : Pair) → IsLike s q → IsSameRest (length s.pair.frequent) list q
+  pub alike : (q : PairStats) → HasSameFilter s q → IsSameRest (length s.pair.frequent) list q
 
 -- a cut may be the next one
 pub record CutFollows (s : Draft) (cut : Datum) : Type 0 where
   pub some : 0 < s.section.rows
   pub few : length s.pair.cuts < 32
   pub order : (last : Datum) → slice_get s.pair.cuts (length s.pair.cuts - 1) ≡ Some last → datum_cmp last cut ≢ Greater
-  pub alike : (q : Pair) → IsLike s q → slice_get q.cuts (length s.pair.cuts) ≡ Some cut
+  pub alike : (q : PairStats) → HasSameFilter s q → slice_get q.cuts (length s.pair.cuts) ≡ Some cut
 
 -- at this index pair q has a node whose list has the same sum
-pub record IsSameTotal (place : ℕ) (node : List ℕ) (q : Pair) : Type 0 where
+pub record IsSameTotal (place : ℕ) (node : List ℕ) (q : PairStats) : Type 0 where
   pub other : List ℕ
   pub there : slice_get q.nodes place ≡ Some other
   pub total : sum other ≡ sum node
@@ -158,7 +158,7 @@ pub record NodeFollows (s : Draft) (node : List ℕ) : Type 0 where
   pub some : 0 < s.section.rows
   pub all_cuts : length s.pair.cuts ≡ 32
   pub few : length s.pair.nodes < 63
-  pub alike : (q : Pair) → IsLike s q → IsSameTotal (length s.pair.nodes) node q
+  pub alike : (q : PairStats) → HasSameFilter s q → IsSameTotal (length s.pair.nodes) node q
 
 abbrev pub MayBeWhole : Draft → List ℕ → Type 0
 MayBeWhole s list = IsList s.section.rows list × WholeFollows s list
@@ -177,18 +177,18 @@ MayBeNode s node = IsList s.section.rows node × NodeFollows s node
 
 -- ---- a step: the words of a line are read
 
--- a value that may come next has these words, and was taken. `Takes` also allows a fault: no value that may come next has these words
-pub record WasTaken {X : Type 0} (text : X → List ℕ × List ℕ) (MayBe After : X → Type 0) (words : List ℕ × List ℕ) : Type 0 where
+-- a value that may come next has these words, and was taken. `ReadsValue` also allows a fault: no value that may come next has these words
+pub record WasRead {X : Type 0} (text : X → List ℕ × List ℕ) (MayBe After : X → Type 0) (words : List ℕ × List ℕ) : Type 0 where
   pub value : X
   pub may : MayBe value
   pub spelled : text value ≡ words
   pub after : After value
 
-abbrev pub Takes : {X : Type 0} → (X → List ℕ × List ℕ) → (X → Type 0) → (X → Type 0) → List ℕ × List ℕ → Result (Unit {0}) Fault → Type 0
-Takes {X} text MayBe After words (Ok done) = WasTaken text MayBe After words
-Takes {X} text MayBe After words (Err fault.Syntax) = ⊥
-Takes {X} text MayBe After words (Err fault.Rule) = (x : X) → MayBe x → text x ≢ words
-Takes {X} text MayBe After words (Err fault.NoMemory) = ⊤
+abbrev pub ReadsValue : {X : Type 0} → (X → List ℕ × List ℕ) → (X → Type 0) → (X → Type 0) → List ℕ × List ℕ → Result (Unit {0}) Fault → Type 0
+ReadsValue {X} text MayBe After words (Ok done) = WasRead text MayBe After words
+ReadsValue {X} text MayBe After words (Err fault.Syntax) = ⊥
+ReadsValue {X} text MayBe After words (Err fault.Rule) = (x : X) → MayBe x → text x ≢ words
+ReadsValue {X} text MayBe After words (Err fault.NoMemory) = ⊤
 
 -- the words of a line for each kind of value
 abbrev pub number_word : ℕ → List ℕ × List ℕ
@@ -206,7 +206,7 @@ frequent_words f = (datum_text f.0, list_text f.1)
 abbrev pub pair_words : Table → ℕ × ℕ → List ℕ × List ℕ
 pair_words table columns = (hex_text (name_at table columns.0), hex_text (name_at table columns.1))
 
-abbrev pub table_words : Place → List ℕ × List ℕ
+abbrev pub table_words : TableWithRows → List ℕ × List ℕ
 table_words v = (hex_text v.table.name, decimal v.rows)
 
 -- the index of an element with the name that `word` spells, or `None` if no element has it
@@ -215,7 +215,7 @@ IsNamed {X} name xs word None = All (λ x. word ≢ hex_text (name x)) xs
 IsNamed {X} name xs word (Some place) = (x : X) × (slice_get xs place ≡ Some x) × (word ≡ hex_text (name x))
 
 -- the sums of the pair's lists fit into a `u64`
-pub record AreSmall (q : Pair) : Type 0 where
+pub record AreSmall (q : PairStats) : Type 0 where
   pub rest : sum q.rest < 2 ^ 64
   pub frequent : All (λ (f : Datum × List ℕ). sum f.1 < 2 ^ 64) q.frequent
   pub nodes : All (λ node. sum node < 2 ^ 64) q.nodes

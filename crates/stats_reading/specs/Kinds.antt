@@ -51,13 +51,13 @@ pub record IsLineOf (kind : LineKind) (first second line : List ℕ) : Type 0 wh
   pub whole : line ≡ front kind ++ words_text kind first second
 
 -- if lines of this kind have one word, the second word is empty
-abbrev pub IsAlone : LineKind → List ℕ → Type 0
-IsAlone kind second = has_two kind ≡ false → second ≡ []
+abbrev pub HasEmptySecond : LineKind → List ℕ → Type 0
+HasEmptySecond kind second = has_two kind ≡ false → second ≡ []
 
 -- a line has this kind's first part and these words; if the line is one of the grammar, the grammar allows these words
 pub record MayBeLineOf (kind : LineKind) (first second line : List ℕ) : Type 0 where
   pub whole : line ≡ front kind ++ words_text kind first second
-  pub alone : IsAlone kind second
+  pub alone : HasEmptySecond kind second
   pub only : (k : LineKind) (a b : List ℕ) → IsLineOf k a b line → AreLineParts kind first second
 
 -- a line that the grammar doesn't have
@@ -65,9 +65,9 @@ abbrev pub IsNoLine : List ℕ → Type 0
 IsNoLine line = (kind : LineKind) (first second : List ℕ) → IsLineOf kind first second line → ⊥
 
 -- a text splits into these words; if any split of the text gives words of the grammar, this split does
-pub record MayStandBehind (kind : LineKind) (words first second : List ℕ) : Type 0 where
+pub record SplitsInto (kind : LineKind) (words first second : List ℕ) : Type 0 where
   pub whole : words ≡ words_text kind first second
-  pub alone : IsAlone kind second
+  pub alone : HasEmptySecond kind second
   pub only : (a b : List ℕ) → AreLineParts kind a b → words ≡ words_text kind a b → AreLineParts kind first second
 
 -- no words of the grammar for this kind have this text

@@ -1,7 +1,7 @@
 pub mod Drafts
-pub mod Goes
+pub mod IsTaken
 pub mod Kinds
-pub mod Left
+pub mod Remaining
 pub mod Names
 pub mod Refusals
 pub mod Stages

@@ -55,32 +55,32 @@ pub record Parts (ArePart : List (List ℕ) → Type 0) (Next : List (List ℕ) 
 abbrev pub MayEnd : List (List ℕ) → Type 0
 MayEnd lines = lines ≡ codes "end\n" ∷ []
 
-abbrev pub TablesLeft : List (List ℕ) → Type 0
-TablesLeft = Parts AreTableLines MayEnd
+abbrev pub TablesRemaining : List (List ℕ) → Type 0
+TablesRemaining = Parts AreTableLines MayEnd
 
-abbrev pub PairsLeft : List (List ℕ) → Type 0
-PairsLeft = Parts ArePairLines TablesLeft
+abbrev pub PairsRemaining : List (List ℕ) → Type 0
+PairsRemaining = Parts ArePairLines TablesRemaining
 
-abbrev pub NodesLeft : List (List ℕ) → Type 0
-NodesLeft = Many IsNodeLine PairsLeft
+abbrev pub NodesRemaining : List (List ℕ) → Type 0
+NodesRemaining = Many IsNodeLine PairsRemaining
 
-abbrev pub CutsLeft : List (List ℕ) → Type 0
-CutsLeft = Many IsCutLine NodesLeft
+abbrev pub CutsRemaining : List (List ℕ) → Type 0
+CutsRemaining = Many IsCutLine NodesRemaining
 
-abbrev pub FrequentLeft : List (List ℕ) → Type 0
-FrequentLeft = Many IsFrequentLine (One IsRestLine CutsLeft)
+abbrev pub FrequentRemaining : List (List ℕ) → Type 0
+FrequentRemaining = Many IsFrequentLine (One IsRestLine CutsRemaining)
 
 -- at this stage a text of the grammar may go on with these lines, to its end
-abbrev pub TextLeft : Stage → List (List ℕ) → Type 0
-TextLeft stage.Start lines = IsText lines
-TextLeft stage.Tables lines = TablesLeft lines
-TextLeft stage.Pairs lines = PairsLeft lines
-TextLeft stage.Whole lines = One IsWholeLine FrequentLeft lines
-TextLeft stage.Frequent lines = FrequentLeft lines
-TextLeft stage.Cuts lines = CutsLeft lines
-TextLeft stage.Nodes lines = NodesLeft lines
-TextLeft stage.Done lines = lines ≡ []
+abbrev pub TextRemaining : Stage → List (List ℕ) → Type 0
+TextRemaining stage.Start lines = IsText lines
+TextRemaining stage.Tables lines = TablesRemaining lines
+TextRemaining stage.Pairs lines = PairsRemaining lines
+TextRemaining stage.Whole lines = One IsWholeLine FrequentRemaining lines
+TextRemaining stage.Frequent lines = FrequentRemaining lines
+TextRemaining stage.Cuts lines = CutsRemaining lines
+TextRemaining stage.Nodes lines = NodesRemaining lines
+TextRemaining stage.Done lines = lines ≡ []
 
 abbrev pub TextLeftAt : Option Stage → List (List ℕ) → Type 0
 TextLeftAt None lines = ⊥
-TextLeftAt (Some at) lines = TextLeft at lines
+TextLeftAt (Some at) lines = TextRemaining at lines

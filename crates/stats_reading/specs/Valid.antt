@@ -3,13 +3,13 @@ use Rattle.std.specs.Prelude.{ℕ, ◌≡◌, List, [], ◌∷◌, Some, slice_g
 use Rattle.schema_types.specs.declared.types.Column.{Column}
 use Rattle.schema_types.specs.declared.types.Schema.{Schema}
 use Rattle.schema_types.specs.declared.types.Table.{Table}
-use Rattle.stats_file.specs.declared.types.Pair.{Pair}
+use Rattle.stats_file.specs.declared.types.PairStats.{PairStats}
 use Rattle.stats_file.specs.Rules.{KeepsRules}
 use Rattle.stats_reading.specs.declared.draft.Draft.{Draft}
 use Rattle.stats_reading.specs.declared.stages.Stage.{Stage}
 use Rattle.stats_reading.specs.declared.stages.Stage.TheVariants as stage
 use Rattle.stats_reading.specs.Drafts.{empty_draft, IsPlaceOf}
-use Rattle.stats_reading.specs.Left.{file_of_draft, section_of, CutsLeft, FrequentLeft, NodesLeft, WholeLeft}
+use Rattle.stats_reading.specs.Remaining.{file_of_draft, section_of, CutsRemaining, FrequentRemaining, NodesRemaining, WholeRemaining}
 
 -- the draft's `kind` and its two indexes of earlier pairs are right for the current pair
 pub record IsKnown (table : Table) (s : Draft) : Type 0 where
@@ -26,11 +26,11 @@ pub record IsValidTable (schema : Schema) (s : Draft) : Type 0 where
   pub keeps : KeepsRules schema (file_of_draft s (section_of s [] ∷ []))
 
 -- some pair that extends the current one keeps the rules in this table
-pub record IsValidPair (Left : Pair → List (List ℕ) → Type 0) (schema : Schema) (s : Draft) : Type 0 where
+pub record IsValidPair (Left : PairStats → List (List ℕ) → Type 0) (schema : Schema) (s : Draft) : Type 0 where
   pub table : Table
   pub exists : slice_get schema.tables s.section.table ≡ Some table
   pub known : IsKnown table s
-  pub pair : Pair
+  pub pair : PairStats
   pub own : List (List ℕ)
   pub left : Left pair own
   pub keeps : KeepsRules schema (file_of_draft s (section_of s (pair ∷ []) ∷ []))
@@ -39,8 +39,8 @@ abbrev pub IsValidDraft : Stage → Schema → Draft → Type 0
 IsValidDraft stage.Start schema s = s ≡ empty_draft
 IsValidDraft stage.Tables schema s = KeepsRules schema (file_of_draft s [])
 IsValidDraft stage.Pairs schema s = IsValidTable schema s
-IsValidDraft stage.Whole schema s = IsValidPair (WholeLeft s.pair) schema s
-IsValidDraft stage.Frequent schema s = IsValidPair (FrequentLeft s.pair) schema s
-IsValidDraft stage.Cuts schema s = IsValidPair (CutsLeft s.pair) schema s
-IsValidDraft stage.Nodes schema s = IsValidPair (NodesLeft s.pair) schema s
+IsValidDraft stage.Whole schema s = IsValidPair (WholeRemaining s.pair) schema s
+IsValidDraft stage.Frequent schema s = IsValidPair (FrequentRemaining s.pair) schema s
+IsValidDraft stage.Cuts schema s = IsValidPair (CutsRemaining s.pair) schema s
+IsValidDraft stage.Nodes schema s = IsValidPair (NodesRemaining s.pair) schema s
 IsValidDraft stage.Done schema s = KeepsRules schema (file_of_draft s [])

@@ -4,14 +4,14 @@ ghost use Rattle.schema_types.specs.declared.types.Table.{Table as Declared};
 ghost use Rattle.schema_types.specs.Validity.{IsValid, IsValidTable};
 ghost use Rattle.stats_file.specs.declared.types.TableStats.{TableStats as Section};
 ghost use Rattle.stats_file.specs.Lines.{hex_text};
-ghost use Rattle.stats_file.specs.Rules.{StandsBefore};
-ghost use Rattle.stats_reading.specs.Drafts.{empty_pair, empty_section, pair_words, table_words, BeginsPair, IsNamed, IsPlaceOf, MayBePair, MayBeTable, PairsAscend, TablesAscend, Takes};
+ghost use Rattle.stats_file.specs.Rules.{ComesBefore};
+ghost use Rattle.stats_reading.specs.Drafts.{empty_pair, empty_section, pair_words, table_words, BeginsPair, IsNamed, IsPlaceOf, MayBePair, MayBeTable, PairsAscend, TablesAscend, ReadsValue};
 
 use crate::draft::{Draft, new_pair, new_section};
 use crate::fault::Fault;
 use limits::MOST_ROWS;
 use schema_types::{Schema, Table};
-use stats_file::{Pair, TableStats};
+use stats_file::{PairStats, TableStats};
 use stats_words::{is_hex_of, number};
 use std::alloc::Global;
 
@@ -43,16 +43,16 @@ fn column_place(table: &Table, word: &[u8]) -> Option<usize>
     None
 }
 
-fn stands_before(earlier: &Pair, filter: u32, joined: u32) -> bool
-    ensures { IsTrue result ↔ StandsBefore earlier.now (empty_pair filter joined) }
+fn stands_before(earlier: &PairStats, filter: u32, joined: u32) -> bool
+    ensures { IsTrue result ↔ ComesBefore earlier.now (empty_pair filter joined) }
 {
     earlier.filter < filter || (earlier.filter == filter && earlier.joined < joined)
 }
 
 // Whether a pair of these columns comes after all pairs of `pairs`. As pairs ascend, comparing with the last pair is enough.
-fn is_later(pairs: &[Pair], filter: u32, joined: u32) -> bool
-    requires { AllPairs StandsBefore pairs.now }
-    ensures { IsTrue result ↔ All (λ q. StandsBefore q (empty_pair filter joined)) pairs.now }
+fn is_later(pairs: &[PairStats], filter: u32, joined: u32) -> bool
+    requires { AllPairs ComesBefore pairs.now }
+    ensures { IsTrue result ↔ All (λ q. ComesBefore q (empty_pair filter joined)) pairs.now }
 {
     if pairs.is_empty() {
         return true;
@@ -72,8 +72,8 @@ fn is_later_table(tables: &[TableStats], place: u32) -> bool
 
 // The index of a pair with this filter column, or the length of `pairs` if there is none. No pair has a later filter column, so only the last pair is
 // looked at.
-fn place_of_filter(pairs: &[Pair], filter: u32) -> usize
-    requires ascend { AllPairs StandsBefore pairs.now }
+fn place_of_filter(pairs: &[PairStats], filter: u32) -> usize
+    requires ascend { AllPairs ComesBefore pairs.now }
     requires none_later { All (λ q. q.filter ≤ filter) pairs.now }
     ensures { IsPlaceOf (λ q. q.filter) filter pairs.now result }
 {
@@ -88,7 +88,7 @@ fn place_of_filter(pairs: &[Pair], filter: u32) -> usize
     }
 }
 
-fn place_of_joined(pairs: &[Pair], joined: u32) -> usize
+fn place_of_joined(pairs: &[PairStats], joined: u32) -> usize
     ensures { IsPlaceOf (λ q. q.joined) joined pairs.now result }
 {
     for i in 0..pairs.len() {
@@ -115,7 +115,7 @@ pub fn take_table(
 ) -> Result<(), Fault>
     requires valid { IsValid schema.now }
     requires ascend { TablesAscend draft.old }
-    ensures { Takes table_words (MayBeTable schema.now draft.old)
+    ensures { ReadsValue table_words (MayBeTable schema.now draft.old)
         (λ v. draft.new ≡ record draft.old { section = empty_section v.place v.rows }) (name.now, rows.now) result }
 {
     let Some(place) = table_place(schema, name) else {
@@ -153,7 +153,7 @@ pub fn take_pair(
 ) -> Result<(), Fault>
     requires valid { IsValidTable table.now }
     requires ascend { PairsAscend draft.old }
-    ensures { Takes (pair_words table.now) (λ c. MayBePair table.now draft.old c.0 c.1)
+    ensures { ReadsValue (pair_words table.now) (λ c. MayBePair table.now draft.old c.0 c.1)
         (λ c. BeginsPair table.now draft.old draft.new c.0 c.1) (filter.now, joined.now) result }
 {
     let Some(filter) = column_place(table, filter) else {

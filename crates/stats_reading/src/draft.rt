@@ -6,7 +6,7 @@ use crate::stages::Stage;
 use base_io::Seq;
 use piece_math::Pieces;
 use schema_types::Kind;
-use stats_file::{Pair, TableStats};
+use stats_file::{PairStats, TableStats};
 use std::alloc::Global;
 
 /// The part of a file that is read so far: the complete tables, the table that is being read (without the pair that is being read), and this pair.
@@ -19,17 +19,17 @@ pub struct Draft {
     pub accuracy: u8,
     pub tables: Seq<TableStats>,
     pub section: TableStats,
-    pub pair: Pair,
+    pub pair: PairStats,
     pub kind: Kind,
     pub same_filter_at: usize,
     pub same_joined_at: usize,
 }
 
 /// A pair of these columns without lists.
-pub fn new_pair(alloc: Global, filter: u32, joined: u32) -> Pair
+pub fn new_pair(alloc: Global, filter: u32, joined: u32) -> PairStats
     ensures { result ≡ empty_pair filter joined }
 {
-    Pair {
+    PairStats {
         filter,
         joined,
         whole: Pieces::empty(alloc),

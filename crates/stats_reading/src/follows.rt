@@ -2,18 +2,18 @@
 ghost use Rattle.std.specs.Prelude.{◌≡◌, ◌≢◌, ◌-◌, ◌<◌, ◌^◌, ◌↔◌, ℕ, length, sum, slice_get, All, None, Some, IsTrue, MatchOption};
 ghost use Rattle.std.specs.declared.cmp.Ordering.TheVariants.{Greater};
 ghost use Rattle.stats_file.specs.declared.types.Datum.{Datum as Value};
-ghost use Rattle.stats_file.specs.declared.types.Pair.{Pair as Statistics};
+ghost use Rattle.stats_file.specs.declared.types.PairStats.{PairStats as Statistics};
 ghost use Rattle.stats_file.specs.Rules.{datum_cmp};
-ghost use Rattle.stats_reading.specs.Drafts.{AreSmall, CutFollows, FrequentFollows, IsLike, IsSameRest, IsSameTotal, IsSameValue, IsTwin, NodeFollows, RestFollows, WholeFollows};
+ghost use Rattle.stats_reading.specs.Drafts.{AreSmall, CutFollows, FrequentFollows, HasSameFilter, IsSameRest, IsSameTotal, IsSameValue, HasSameJoined, NodeFollows, RestFollows, WholeFollows};
 
 use crate::compare::{compare, same_list, same_total, same_value};
 use crate::draft::Draft;
 use piece_math::Pieces;
-use stats_file::{Datum, Pair};
+use stats_file::{Datum, PairStats};
 use std::cmp::Ordering;
 
 // The table's pair at this index, if there is one.
-fn pair_at(draft: &Draft, place: usize) -> Option<&Pair>
+fn pair_at(draft: &Draft, place: usize) -> Option<&PairStats>
     ensures { MatchOption result (slice_get draft.now.section.pairs place ≡ None)
         (λ q. slice_get draft.now.section.pairs place ≡ Some q.now) }
 {
@@ -25,7 +25,7 @@ fn pair_at(draft: &Draft, place: usize) -> Option<&Pair>
 }
 
 fn is_whole_of_twin(draft: &Draft, list: &Pieces) -> bool
-    ensures { IsTrue result ↔ ((q : Statistics) → IsTwin draft.now q → q.whole ≡ list.now) }
+    ensures { IsTrue result ↔ ((q : Statistics) → HasSameJoined draft.now q → q.whole ≡ list.now) }
 {
     match pair_at(draft, draft.same_joined_at) {
         None => true,
@@ -62,7 +62,7 @@ fn is_same_value(earlier: &(Datum, Pieces), value: &Datum, list: &Pieces) -> boo
 }
 
 // Whether `pair`, an earlier pair, has this frequent value at this index, with a list of the same sum.
-fn has_value(pair: &Pair, place: usize, value: &Datum, list: &Pieces) -> bool
+fn has_value(pair: &PairStats, place: usize, value: &Datum, list: &Pieces) -> bool
     requires left { AreSmall pair.now }
     requires right { sum list.now < 2 ^ 64 }
     ensures { IsTrue result ↔ IsSameValue place (value.now, list.now) pair.now }
@@ -77,7 +77,7 @@ fn is_alike_frequent(draft: &Draft, value: &Datum, list: &Pieces) -> bool
     requires small { All AreSmall draft.now.section.pairs }
     requires right { sum list.now < 2 ^ 64 }
     ensures { IsTrue result
-        ↔ ((q : Statistics) → IsLike draft.now q → IsSameValue (length draft.now.pair.frequent) (value.now, list.now) q) }
+        ↔ ((q : Statistics) → HasSameFilter draft.now q → IsSameValue (length draft.now.pair.frequent) (value.now, list.now) q) }
 {
     match pair_at(draft, draft.same_filter_at) {
         None => true,
@@ -96,7 +96,7 @@ pub fn frequent_follows(draft: &Draft, value: &Datum, list: &Pieces) -> bool
         && is_alike_frequent(draft, value, list)
 }
 
-fn has_rest(pair: &Pair, count: usize, list: &Pieces) -> bool
+fn has_rest(pair: &PairStats, count: usize, list: &Pieces) -> bool
     requires left { AreSmall pair.now }
     requires right { sum list.now < 2 ^ 64 }
     ensures { IsTrue result ↔ IsSameRest count list.now pair.now }
@@ -127,7 +127,7 @@ fn is_in_order(cuts: &[Datum], value: &Datum) -> bool
     !matches!(compare(&cuts[cuts.len() - 1], value), Ordering::Greater)
 }
 
-fn has_cut(pair: &Pair, place: usize, value: &Datum) -> bool
+fn has_cut(pair: &PairStats, place: usize, value: &Datum) -> bool
     ensures { IsTrue result ↔ (slice_get pair.now.cuts place ≡ Some value.now) }
 {
     if place >= pair.cuts.len() {
@@ -138,7 +138,7 @@ fn has_cut(pair: &Pair, place: usize, value: &Datum) -> bool
 
 fn is_alike_cut(draft: &Draft, value: &Datum) -> bool
     ensures { IsTrue result
-        ↔ ((q : Statistics) → IsLike draft.now q → slice_get q.cuts (length draft.now.pair.cuts) ≡ Some value.now) }
+        ↔ ((q : Statistics) → HasSameFilter draft.now q → slice_get q.cuts (length draft.now.pair.cuts) ≡ Some value.now) }
 {
     match pair_at(draft, draft.same_filter_at) {
         None => true,
@@ -156,7 +156,7 @@ pub fn cut_follows(draft: &Draft, value: &Datum) -> bool
         && is_alike_cut(draft, value)
 }
 
-fn has_node(pair: &Pair, place: usize, node: &Pieces) -> bool
+fn has_node(pair: &PairStats, place: usize, node: &Pieces) -> bool
     requires left { AreSmall pair.now }
     requires right { sum node.now < 2 ^ 64 }
     ensures { IsTrue result ↔ IsSameTotal place node.now pair.now }
@@ -170,7 +170,7 @@ fn has_node(pair: &Pair, place: usize, node: &Pieces) -> bool
 fn is_alike_node(draft: &Draft, node: &Pieces) -> bool
     requires small { All AreSmall draft.now.section.pairs }
     requires right { sum node.now < 2 ^ 64 }
-    ensures { IsTrue result ↔ ((q : Statistics) → IsLike draft.now q → IsSameTotal (length draft.now.pair.nodes) node.now q) }
+    ensures { IsTrue result ↔ ((q : Statistics) → HasSameFilter draft.now q → IsSameTotal (length draft.now.pair.nodes) node.now q) }
 {
     match pair_at(draft, draft.same_filter_at) {
         None => true,

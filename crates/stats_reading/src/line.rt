@@ -1,6 +1,6 @@
 //! The kinds of lines, and the words of a line.
 ghost use Rattle.std.specs.Prelude.{◌≡◌, ◌≢◌, ◌↔◌, ◌++◌, [], ℕ, List, true, false, Some, IsTrue, MatchOption};
-ghost use Rattle.stats_reading.specs.Kinds.{front, has_two, is_tested as tested, AreLineParts, CanBe, HasNoLineWords, IsFaultOf, IsNoLine, MayBeLineOf, MayStandBehind};
+ghost use Rattle.stats_reading.specs.Kinds.{front, has_two, is_tested as tested, AreLineParts, CanBe, HasNoLineWords, IsFaultOf, IsNoLine, MayBeLineOf, SplitsInto};
 
 use crate::fault::Fault;
 use stats_words::{is_hex_word, is_list_word, is_numeral, is_value_word, split_at_byte};
@@ -64,26 +64,26 @@ const NODE: &[u8] = b"node ";
 const END: &[u8] = b"end";
 
 // What comes after `front` in a line.
-fn behind<'a>(line: &'a [u8], front: &[u8]) -> Option<&'a [u8]>
+fn after_front<'a>(line: &'a [u8], front: &[u8]) -> Option<&'a [u8]>
     ensures { MatchOption result ((rest : List ℕ) → line.now ≢ front.now ++ rest) (λ rest. line.now ≡ front.now ++ rest.now) }
 {
     line.strip_prefix(front)
 }
 
 // What comes after the fixed first part that lines of this kind have.
-fn behind_front(kind: LineKind, line: &[u8]) -> Option<&[u8]>
+fn after_kind(kind: LineKind, line: &[u8]) -> Option<&[u8]>
     ensures { MatchOption result ((rest : List ℕ) → line.now ≢ front kind ++ rest) (λ rest. line.now ≡ front kind ++ rest.now) }
 {
     match kind {
-        LineKind::First => behind(line, FIRST),
-        LineKind::Table => behind(line, TABLE),
-        LineKind::Pair => behind(line, PAIR),
-        LineKind::Whole => behind(line, WHOLE),
-        LineKind::Frequent => behind(line, FREQUENT),
-        LineKind::Rest => behind(line, REST),
-        LineKind::Cut => behind(line, CUT),
-        LineKind::Node => behind(line, NODE),
-        LineKind::End => behind(line, END),
+        LineKind::First => after_front(line, FIRST),
+        LineKind::Table => after_front(line, TABLE),
+        LineKind::Pair => after_front(line, PAIR),
+        LineKind::Whole => after_front(line, WHOLE),
+        LineKind::Frequent => after_front(line, FREQUENT),
+        LineKind::Rest => after_front(line, REST),
+        LineKind::Cut => after_front(line, CUT),
+        LineKind::Node => after_front(line, NODE),
+        LineKind::End => after_front(line, END),
     }
 }
 
@@ -120,7 +120,7 @@ fn has_two_words(kind: LineKind) -> bool
 
 fn two(kind: LineKind, words: &[u8]) -> Option<(&[u8], &[u8])>
     requires { has_two kind ≡ true }
-    ensures { MatchOption result (HasNoLineWords kind words.now) (λ w. MayStandBehind kind words.now w.0.now w.1.now) }
+    ensures { MatchOption result (HasNoLineWords kind words.now) (λ w. SplitsInto kind words.now w.0.now w.1.now) }
 {
     match split_at_byte(words, b' ') {
         None => None,
@@ -130,7 +130,7 @@ fn two(kind: LineKind, words: &[u8]) -> Option<(&[u8], &[u8])>
 
 // The words of a line of this kind. `words` is the line after its fixed first part.
 fn words_of(kind: LineKind, words: &[u8]) -> Option<(&[u8], &[u8])>
-    ensures { MatchOption result (HasNoLineWords kind words.now) (λ w. MayStandBehind kind words.now w.0.now w.1.now) }
+    ensures { MatchOption result (HasNoLineWords kind words.now) (λ w. SplitsInto kind words.now w.0.now w.1.now) }
 {
     if has_two_words(kind) {
         two(kind, words)
@@ -145,7 +145,7 @@ pub fn words_in(kind: LineKind, line: &[u8]) -> Option<(&[u8], &[u8])>
     requires { CanBe line.now (Some kind) }
     ensures { MatchOption result (IsNoLine line.now) (λ w. MayBeLineOf kind w.0.now w.1.now line.now) }
 {
-    let words = behind_front(kind, line)?;
+    let words = after_kind(kind, line)?;
     words_of(kind, words)
 }
 

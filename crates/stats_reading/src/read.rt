@@ -4,8 +4,8 @@ ghost use Rattle.limits.specs.Profile.{most_file};
 ghost use Rattle.schema_types.specs.Validity.{IsValid};
 ghost use Rattle.stats_file.specs.Answers.{Answers as FileAnswers};
 ghost use Rattle.stats_reading.specs.declared.stages.Stage.TheVariants as stages;
-ghost use Rattle.stats_reading.specs.Goes.{LineAnswers};
-ghost use Rattle.stats_reading.specs.Left.{file_of_draft};
+ghost use Rattle.stats_reading.specs.IsTaken.{LineAnswers};
+ghost use Rattle.stats_reading.specs.Remaining.{file_of_draft};
 ghost use Rattle.stats_reading.specs.Refusals.{refusal_of};
 ghost use Rattle.stats_reading.specs.Valid.{IsValidDraft};
 

@@ -3,8 +3,8 @@ ghost use Rattle.std.specs.Prelude.{◌≡◌, ◌<◌, ◌++◌, ℕ, List, fal
 ghost use Rattle.schema_types.specs.Validity.{IsValid};
 ghost use Rattle.stats_reading.specs.declared.draft.Draft.{Draft as State};
 ghost use Rattle.stats_reading.specs.Drafts.{PairsAscend, TablesAscend};
-ghost use Rattle.stats_reading.specs.Goes.{LineAnswers, BeginsPairOf, BeginsTable, IsReady, LineIsRead};
-ghost use Rattle.stats_reading.specs.Kinds.{is_tested, AreLineParts, IsAlone, IsLineOf};
+ghost use Rattle.stats_reading.specs.IsTaken.{LineAnswers, BeginsPairOf, BeginsTable, IsReady, LineIsRead};
+ghost use Rattle.stats_reading.specs.Kinds.{is_tested, AreLineParts, HasEmptySecond, IsLineOf};
 ghost use Rattle.stats_reading.specs.Steps.{EndsAnd, PairEnds, TableEnds};
 ghost use Rattle.stats_reading.specs.Valid.{IsValidDraft};
 
@@ -82,7 +82,7 @@ fn take_words(alloc: Global, schema: &Schema, draft: &mut Draft, line: Line) -> 
 pub fn take(alloc: Global, schema: &Schema, draft: &mut Draft, line: Line) -> Result<(), Fault>
     requires schema { IsValid schema.now }
     requires valid { IsValidDraft draft.old.stage schema.now draft.old }
-    requires alone { IsAlone line.kind line.second.now }
+    requires alone { HasEmptySecond line.kind line.second.now }
     ensures answers { (l : List ℕ) → IsLineOf line.entry.kind line.entry.first.now line.entry.second.now l
         → LineAnswers schema.now draft.old draft.new (l ++ codes "\n") result }
     ensures known { is_tested line.entry.kind ≡ false

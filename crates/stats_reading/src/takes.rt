@@ -1,7 +1,7 @@
 //! Reads the words of a line into a draft.
 ghost use Rattle.std.specs.Prelude.{◌≡◌, [], All, length, ◌∷◌};
 ghost use Rattle.schema_types.specs.declared.types.Schema.{Schema as Tables};
-ghost use Rattle.stats_reading.specs.Drafts.{frequent_words, list_word, number_word, value_word, with_cut, with_frequent, with_node, with_rest, with_whole, AreSmall, MayBeAccuracy, MayBeCut, MayBeFrequent, MayBeNode, MayBeRest, MayBeWhole, Takes};
+ghost use Rattle.stats_reading.specs.Drafts.{frequent_words, list_word, number_word, value_word, with_cut, with_frequent, with_node, with_rest, with_whole, AreSmall, MayBeAccuracy, MayBeCut, MayBeFrequent, MayBeNode, MayBeRest, MayBeWhole, ReadsValue};
 
 use crate::draft::Draft;
 use crate::fault::Fault;
@@ -12,7 +12,7 @@ use std::alloc::Global;
 
 /// Reads the accuracy.
 pub fn take_accuracy(draft: &mut Draft, word: &[u8]) -> Result<(), Fault>
-    ensures { Takes number_word MayBeAccuracy (λ k. draft.new ≡ record draft.old { accuracy = k }) (word.now, []) result }
+    ensures { ReadsValue number_word MayBeAccuracy (λ k. draft.new ≡ record draft.old { accuracy = k }) (word.now, []) result }
 {
     match number(word, u64::from(MOST_ACCURACY)) {
         Some(accuracy) if accuracy >= u64::from(LEAST_ACCURACY) => {
@@ -25,7 +25,7 @@ pub fn take_accuracy(draft: &mut Draft, word: &[u8]) -> Result<(), Fault>
 
 /// Reads the list of all rows.
 pub fn take_whole(alloc: Global, draft: &mut Draft, word: &[u8]) -> Result<(), Fault>
-    ensures { Takes list_word (MayBeWhole draft.old) (λ l. draft.new ≡ with_whole draft.old l) (word.now, []) result }
+    ensures { ReadsValue list_word (MayBeWhole draft.old) (λ l. draft.new ≡ with_whole draft.old l) (word.now, []) result }
 {
     let Some(whole) = list(alloc, word, draft.section.rows)? else {
         return Err(Fault::Rule);
@@ -45,7 +45,7 @@ pub fn take_frequent(
     word: &[u8],
 ) -> Result<(), Fault>
     requires { All AreSmall draft.old.section.pairs }
-    ensures { Takes frequent_words (MayBeFrequent draft.old) (λ f. draft.new ≡ with_frequent draft.old f) (value.now, word.now) result }
+    ensures { ReadsValue frequent_words (MayBeFrequent draft.old) (λ f. draft.new ≡ with_frequent draft.old f) (value.now, word.now) result }
 {
     let Some(value) = datum(alloc, draft.kind, value)? else {
         return Err(Fault::Rule);
@@ -63,7 +63,7 @@ pub fn take_frequent(
 /// Reads the list of the other values (those that aren't frequent).
 pub fn take_rest(alloc: Global, draft: &mut Draft, word: &[u8]) -> Result<(), Fault>
     requires { All AreSmall draft.old.section.pairs }
-    ensures { Takes list_word (MayBeRest draft.old) (λ l. draft.new ≡ with_rest draft.old l) (word.now, []) result }
+    ensures { ReadsValue list_word (MayBeRest draft.old) (λ l. draft.new ≡ with_rest draft.old l) (word.now, []) result }
 {
     let Some(rest) = list(alloc, word, draft.section.rows)? else {
         return Err(Fault::Rule);
@@ -77,7 +77,7 @@ pub fn take_rest(alloc: Global, draft: &mut Draft, word: &[u8]) -> Result<(), Fa
 
 /// Reads a cut.
 pub fn take_cut(alloc: Global, draft: &mut Draft, word: &[u8]) -> Result<(), Fault>
-    ensures { Takes value_word (MayBeCut draft.old) (λ v. draft.new ≡ with_cut draft.old v) (word.now, []) result }
+    ensures { ReadsValue value_word (MayBeCut draft.old) (λ v. draft.new ≡ with_cut draft.old v) (word.now, []) result }
 {
     let Some(value) = datum(alloc, draft.kind, word)? else {
         return Err(Fault::Rule);
@@ -92,7 +92,7 @@ pub fn take_cut(alloc: Global, draft: &mut Draft, word: &[u8]) -> Result<(), Fau
 /// Reads a node.
 pub fn take_node(alloc: Global, draft: &mut Draft, word: &[u8]) -> Result<(), Fault>
     requires { All AreSmall draft.old.section.pairs }
-    ensures { Takes list_word (MayBeNode draft.old) (λ l. draft.new ≡ with_node draft.old l) (word.now, []) result }
+    ensures { ReadsValue list_word (MayBeNode draft.old) (λ l. draft.new ≡ with_node draft.old l) (word.now, []) result }
 {
     let Some(node) = list(alloc, word, draft.section.rows)? else {
         return Err(Fault::Rule);

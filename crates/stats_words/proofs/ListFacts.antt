@@ -5,10 +5,10 @@ use Rattle.std.specs.List.{AllByRecursion, flat_map}
 use Rattle.std.proofs.lemmas.Grind.{flat_map-append}
 use Rattle.std.proofs.lemmas.List.{length-replicate}
 use Rattle.std.proofs.lemmas.List.Elements.{All-from_recursion}
-use Rattle.degree_sequences.specs.Falling.{IsFalling}
+use Rattle.degree_sequences.specs.Descending.{IsDescending}
 use Rattle.piece_math.specs.declared.pieces.Piece.{Piece}
 use Rattle.piece_math.specs.Expanded.{expanded, AreRuns}
-use Rattle.piece_math.proofs.Expansion.{AreRuns-push, expanded-push, IsFalling-expanded, positive-expanded, sum-expanded-push}
+use Rattle.piece_math.proofs.Expansion.{AreRuns-push, expanded-push, IsDescending-expanded, positive-expanded, sum-expanded-push}
 use Rattle.stats_file.specs.Lines.{run_text, runs_text}
 use Rattle.stats_file.specs.Rules.{IsList}
 use Rattle.stats_file.specs.Runs.{runs_of}
@@ -16,19 +16,19 @@ use Rattle.stats_file.proofs.RunFacts.{runs_found}
 use Rattle.stats_words.specs.Runs.{list_text, RunMayFollow}
 use Rattle.stats_words.specs.Splits.{IsSplitAt, Without}
 use Rattle.stats_words.specs.Words.{Spells}
-use Rattle.stats_words.proofs.RunTexts.{at_least_both, ended, expanded_runs, no_blank_in, runs_fall, small_runs, stripped, Stripped, sum_of_runs, texts_joined}
+use Rattle.stats_words.proofs.RunTexts.{at_least_both, with_blank_after, expanded_runs, no_blank_in, runs_fall, small_runs, stripped, Stripped, sum_of_runs, texts_joined}
 use Rattle.stats_words.proofs.SplitFacts.{not_without, split_same}
 
 -- the value of the last run, or b if there are no runs
-abbrev pub lowest : ℕ → List Piece → ℕ
-lowest b [] = b
-lowest b (r ∷ rs) = lowest r.value rs
+abbrev pub last_value : ℕ → List Piece → ℕ
+last_value b [] = b
+last_value b (r ∷ rs) = last_value r.value rs
 
-lowest_more : (b : ℕ) (rs : List Piece) (run : Piece) → lowest b (rs ++ run ∷ []) ≡ run.value
+lowest_more : (b : ℕ) (rs : List Piece) (run : Piece) → last_value b (rs ++ run ∷ []) ≡ run.value
 lowest_more b [] run = refl
 lowest_more b (r ∷ rs) run = lowest_more r.value rs run
 
-next_lower : (b : ℕ) (rs : List Piece) (m : Piece) (ms : List Piece) → AreRuns (rs ++ (m ∷ ms)) → (length rs ≡ 0 → m.value < b) → m.value < lowest b rs
+next_lower : (b : ℕ) (rs : List Piece) (m : Piece) (ms : List Piece) → AreRuns (rs ++ (m ∷ ms)) → (length rs ≡ 0 → m.value < b) → m.value < last_value b rs
 next_lower b [] m ms runs lt = lt refl
 next_lower b (r ∷ []) m ms runs lt = runs.0
 next_lower b (r ∷ q ∷ rs) m ms runs lt = next_lower r.value (q ∷ rs) m ms runs.2 (λ e. absurd (omega arith))
@@ -51,22 +51,22 @@ elements_above a (r ∷ rs) all = front r.count (elements_above a rs all.1)
 
 -- this is the state of the loop: `word` is the text of `runs`, each with a blank after it, and then `rest`; `list` is the list of these runs. The next value
 -- must be below `below`, and the remaining elements sum to at most `left`
-pub record Listed (rows : ℕ) (word rest list : List ℕ) (below left : ℕ) : Type 0 where
+pub record RunsReadSoFar (rows : ℕ) (word rest list : List ℕ) (below left : ℕ) : Type 0 where
   pub runs : List Piece
-  pub front : word ≡ flat_map ended runs ++ rest
+  pub front : word ≡ flat_map with_blank_after runs ++ rest
   pub list_is : list ≡ expanded runs
   pub falls : AreRuns runs
-  pub below_is : below ≡ lowest (rows + 1) runs
+  pub below_is : below ≡ last_value (rows + 1) runs
   pub above : AllByRecursion (λ (r : Piece). below ≤ r.value) runs
   pub total : sum list + left ≡ rows
   pub few : length list + left ≤ rows
 
-pub may_push : (rows : ℕ) (word rest list : List ℕ) (below left : ℕ) (run : Piece) → Listed rows word rest list below left → RunMayFollow below left run → All (λ x. run.value ≤ x) list
+pub may_push : (rows : ℕ) (word rest list : List ℕ) (below left : ℕ) (run : Piece) → RunsReadSoFar rows word rest list below left → RunMayFollow below left run → All (λ x. run.value ≤ x) list
 may_push rows word rest list below left run h may =
     subst (λ (l : List ℕ). All (λ x. run.value ≤ x) l) (sym h.list_is)
     (All-from_recursion (λ x. run.value ≤ x) (expanded h.runs) (elements_above run.value h.runs (all_above run.value below h.runs may.lower h.above)))
 
-pub room : (rows : ℕ) (word rest list : List ℕ) (below left : ℕ) (run : Piece) → Listed rows word rest list below left → RunMayFollow below left run → length list + run.count ≤ rows
+pub room : (rows : ℕ) (word rest list : List ℕ) (below left : ℕ) (run : Piece) → RunsReadSoFar rows word rest list below left → RunMayFollow below left run → length list + run.count ≤ rows
 room rows word rest list below left run h may =
     let both = at_least_both run.value run.count may.value may.count in
     let within : run.count * run.value ≤ left = may.within in
@@ -77,7 +77,7 @@ record Pushed (rows : ℕ) (runs : List Piece) (run : Piece) (list : List ℕ) :
   pub falls : AreRuns (runs ++ run ∷ [])
   pub total : sum list ≡ sum (expanded runs) + run.count * run.value
 
-pushed : (rows : ℕ) (word rest list new : List ℕ) (below left : ℕ) (run : Piece) (h : Listed rows word rest list below left) → RunMayFollow below left run
+pushed : (rows : ℕ) (word rest list new : List ℕ) (below left : ℕ) (run : Piece) (h : RunsReadSoFar rows word rest list below left) → RunMayFollow below left run
     → new ≡ list ++ replicate run.count run.value → Pushed rows h.runs run new
 pushed rows word rest list new below left run h may is =
     let same : new ≡ expanded (h.runs ++ run ∷ []) = is ∙ ap (λ (l : List ℕ). l ++ replicate run.count run.value) h.list_is ∙ sym (expanded-push h.runs run) in
@@ -87,8 +87,8 @@ pushed rows word rest list new below left run h may is =
       total = ap sum same ∙ sum-expanded-push h.runs run;
     }
 
-pub listed_more : (rows : ℕ) (word rest first others list new : List ℕ) (below left : ℕ) (run : Piece) → Listed rows word rest list below left → IsSplitAt 32 rest first others
-    → Spells run_text (RunMayFollow below left) first (Some run) → new ≡ list ++ replicate run.count run.value → Listed rows word others new run.value (left - run.count * run.value)
+pub listed_more : (rows : ℕ) (word rest first others list new : List ℕ) (below left : ℕ) (run : Piece) → RunsReadSoFar rows word rest list below left → IsSplitAt 32 rest first others
+    → Spells run_text (RunMayFollow below left) first (Some run) → new ≡ list ++ replicate run.count run.value → RunsReadSoFar rows word others new run.value (left - run.count * run.value)
 listed_more rows word rest first others list new below left run h split (may, text) is =
     let more = pushed rows word rest list new below left run h may is in
     let both = at_least_both run.value run.count may.value may.count in
@@ -96,9 +96,9 @@ listed_more rows word rest first others list new below left run h split (may, te
     let len = ap length is ∙ length-append list (replicate run.count run.value) in
     record {
       runs = h.runs ++ run ∷ [];
-      front = h.front ∙ ap (λ (w : List ℕ). flat_map ended h.runs ++ w) (split.whole ∙ ap (λ (w : List ℕ). w ++ (32 ∷ others)) (sym text))
-          ∙ ap (λ (w : List ℕ). flat_map ended h.runs ++ w) (sym (append_assoc (run_text run) (codes " ") others) ∙ ap (λ (w : List ℕ). w ++ others) (sym (append-nil (ended run))))
-          ∙ sym (append_assoc (flat_map ended h.runs) (ended run ++ []) others) ∙ ap (λ (w : List ℕ). w ++ others) (sym (flat_map-append ended h.runs (run ∷ [])));
+      front = h.front ∙ ap (λ (w : List ℕ). flat_map with_blank_after h.runs ++ w) (split.whole ∙ ap (λ (w : List ℕ). w ++ (32 ∷ others)) (sym text))
+          ∙ ap (λ (w : List ℕ). flat_map with_blank_after h.runs ++ w) (sym (append_assoc (run_text run) (codes " ") others) ∙ ap (λ (w : List ℕ). w ++ others) (sym (append-nil (with_blank_after run))))
+          ∙ sym (append_assoc (flat_map with_blank_after h.runs) (with_blank_after run ++ []) others) ∙ ap (λ (w : List ℕ). w ++ others) (sym (flat_map-append with_blank_after h.runs (run ∷ [])));
       list_is = more.list_is;
       falls = more.falls;
       below_is = sym (lowest_more (rows + 1) h.runs run);
@@ -107,7 +107,7 @@ listed_more rows word rest first others list new below left run h split (may, te
       few = omega (arith, len, length-replicate run.count run.value, both.1, h.few);
     }
 
-pub listed_last : (rows : ℕ) (word rest list new : List ℕ) (below left : ℕ) (run : Piece) → rows < 2 ^ 32 → Listed rows word rest list below left
+pub listed_last : (rows : ℕ) (word rest list new : List ℕ) (below left : ℕ) (run : Piece) → rows < 2 ^ 32 → RunsReadSoFar rows word rest list below left
     → Spells run_text (RunMayFollow below left) rest (Some run) → new ≡ list ++ replicate run.count run.value → Spells list_text (IsList rows) word (Some new)
 listed_last rows word rest list new below left run fits h (may, text) is =
     let more = pushed rows word rest list new below left run h may is in
@@ -118,14 +118,14 @@ listed_last rows word rest list new below left run fits h (may, text) is =
     let runs_are : runs_of new ≡ h.runs ++ run ∷ [] =
     runs_found new (h.runs ++ run ∷ []) (record { falls = more.falls; fits = omega (arith, ap length more.list_is) }) more.list_is in (
       record {
-        falls = subst IsFalling (sym more.list_is) (IsFalling-expanded (h.runs ++ run ∷ []) more.falls);
+        falls = subst IsDescending (sym more.list_is) (IsDescending-expanded (h.runs ++ run ∷ []) more.falls);
         positive = subst (λ (l : List ℕ). All (λ x. 0 < x) l) (sym more.list_is) (All-from_recursion (λ x. 0 < x) _ (positive-expanded (h.runs ++ run ∷ []) more.falls));
         within = omega (arith, more.total, h.total, ap sum h.list_is);
       },
-      ap runs_text runs_are ∙ sym (texts_joined h.runs run) ∙ ap (λ (w : List ℕ). flat_map ended h.runs ++ w) text ∙ sym h.front,
+      ap runs_text runs_are ∙ sym (texts_joined h.runs run) ∙ ap (λ (w : List ℕ). flat_map with_blank_after h.runs ++ w) text ∙ sym h.front,
     )
 
-others_text : (rows : ℕ) (word rest list : List ℕ) (below left : ℕ) → rows < 2 ^ 32 → word ≢ codes "-" → (h : Listed rows word rest list below left)
+others_text : (rows : ℕ) (word rest list : List ℕ) (below left : ℕ) → rows < 2 ^ 32 → word ≢ codes "-" → (h : RunsReadSoFar rows word rest list below left)
     → (l : List ℕ) → IsList rows l → list_text l ≡ word → Stripped h.runs (runs_of l) rest
 others_text rows word rest list below left fits dash h l is e =
     let runs = runs_fall l is.falls is.positive in
@@ -146,7 +146,7 @@ runs_at : (rs : List Piece) (m : Piece) (ms : List Piece) → AreRuns (rs ++ (m 
 runs_at [] m ms runs = runs
 runs_at (r ∷ rs) m ms runs = runs_at rs m ms runs.2
 
-may_be_next : (rows : ℕ) (word rest list : List ℕ) (below left : ℕ) (h : Listed rows word rest list below left) (l : List ℕ) → IsList rows l
+may_be_next : (rows : ℕ) (word rest list : List ℕ) (below left : ℕ) (h : RunsReadSoFar rows word rest list below left) (l : List ℕ) → IsList rows l
     → (s : Stripped h.runs (runs_of l) rest) → RunMayFollow below left s.run
 may_be_next rows word rest list below left h l is s =
     let runs = subst AreRuns s.whole (runs_fall l is.falls is.positive) in
@@ -163,7 +163,7 @@ may_be_next rows word rest list below left h l is s =
       within = omega (arith, h.total, ap sum h.list_is);
     }
 
-pub listed_none : (rows : ℕ) (word rest first others list : List ℕ) (below left : ℕ) → rows < 2 ^ 32 → word ≢ codes "-" → Listed rows word rest list below left
+pub listed_none : (rows : ℕ) (word rest first others list : List ℕ) (below left : ℕ) → rows < 2 ^ 32 → word ≢ codes "-" → RunsReadSoFar rows word rest list below left
     → IsSplitAt 32 rest first others → Spells run_text (RunMayFollow below left) first None → Spells list_text (IsList rows) word None
 listed_none rows word rest first others list below left fits dash h split no' l is e =
     let s = others_text rows word rest list below left fits dash h l is e in
@@ -180,7 +180,7 @@ listed_none rows word rest first others list below left fits dash h split no' l 
     first_run m (n ∷ ms) text free may =
         no' m may (split_same 32 (run_text m) first (runs_text (n ∷ ms)) others free split.first (text ∙ split.whole)).0
 
-pub listed_none_last : (rows : ℕ) (word rest list : List ℕ) (below left : ℕ) → rows < 2 ^ 32 → word ≢ codes "-" → Listed rows word rest list below left
+pub listed_none_last : (rows : ℕ) (word rest list : List ℕ) (below left : ℕ) → rows < 2 ^ 32 → word ≢ codes "-" → RunsReadSoFar rows word rest list below left
     → Without 32 rest → Spells run_text (RunMayFollow below left) rest None → Spells list_text (IsList rows) word None
 listed_none_last rows word rest list below left fits dash h none no' l is e =
     let s = others_text rows word rest list below left fits dash h l is e in

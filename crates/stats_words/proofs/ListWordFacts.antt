@@ -35,15 +35,15 @@ run_is word value count split = (to, from)
     from : IsNumeral value × IsNumeral count → IsRunWord word
     from two = record { value = value; count = count; value_is = two.0; count_is = two.1; whole = split.whole }
 
-abbrev next : List ℕ → List ℕ
-next run = codes " " ++ run
+abbrev with_blank_before : List ℕ → List ℕ
+with_blank_before run = codes " " ++ run
 
 run_first : (rest run others first : List ℕ) (more : List (List ℕ)) → IsSplitAt 32 rest run others → IsRunWord first → AllByRecursion IsRunWord more
-    → rest ≡ first ++ flat_map next more → IsRunWord run × AreRunWords others
+    → rest ≡ first ++ flat_map with_blank_before more → IsRunWord run × AreRunWords others
 run_first rest run others first [] split first_is more_are whole =
     absurd (not_without 32 run others (subst (λ (w : List ℕ). Without 32 w) (sym (append-nil first) ∙ sym whole ∙ split.whole) (run_without first first_is)))
 run_first rest run others first (o ∷ os) split first_is more_are whole =
-    let same = split_same 32 first run (o ++ flat_map next os) others (run_without first first_is) split.first (sym whole ∙ split.whole) in (
+    let same = split_same 32 first run (o ++ flat_map with_blank_before os) others (run_without first first_is) split.first (sym whole ∙ split.whole) in (
       subst (λ (w : List ℕ). IsRunWord w) same.0 first_is,
       record { first = o; others = os; first_is = more_are.0; others_are = more_are.1; whole = sym same.1 },
     )
@@ -64,9 +64,9 @@ run_more rest run others split = (to, from)
       whole = split.whole ∙ ap (λ (w : List ℕ). run ++ (32 ∷ w)) are.whole;
     }
 
-lone : (rest first : List ℕ) (more : List (List ℕ)) → Without 32 rest → IsRunWord first → rest ≡ first ++ flat_map next more → IsRunWord rest
+lone : (rest first : List ℕ) (more : List (List ℕ)) → Without 32 rest → IsRunWord first → rest ≡ first ++ flat_map with_blank_before more → IsRunWord rest
 lone rest first [] none first_is whole = subst (λ (w : List ℕ). IsRunWord w) (sym (append-nil first) ∙ sym whole) first_is
-lone rest first (o ∷ os) none first_is whole = absurd (not_without 32 first (o ++ flat_map next os) (subst (λ (w : List ℕ). Without 32 w) whole none))
+lone rest first (o ∷ os) none first_is whole = absurd (not_without 32 first (o ++ flat_map with_blank_before os) (subst (λ (w : List ℕ). Without 32 w) whole none))
 
 pub last_run : (rest : List ℕ) → Without 32 rest → AreRunWords rest ↔ IsRunWord rest
 last_run rest none = (

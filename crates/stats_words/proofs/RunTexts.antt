@@ -6,7 +6,7 @@ use Rattle.std.proofs.lemmas.Bool.{eqb-true, eq-eqb}
 use Rattle.std.proofs.lemmas.Fmt.{decimal_injective}
 use Rattle.std.proofs.lemmas.List.Folds.{sum_by-replicate}
 use Rattle.std.proofs.lemmas.List.Sums.{sum_by-append}
-use Rattle.degree_sequences.specs.Falling.{IsFalling}
+use Rattle.degree_sequences.specs.Descending.{IsDescending}
 use Rattle.piece_math.specs.declared.pieces.Piece.{Piece}
 use Rattle.piece_math.specs.Expanded.{expanded, first_value, AreRuns}
 use Rattle.stats_file.specs.Grammar.{IsRunWord}
@@ -108,20 +108,20 @@ pub starless : (below left : ℕ) (word : List ℕ) → Without 42 word → Spel
 starless below left word none run may e = not_without 42 (decimal run.value) (decimal run.count) (subst (λ (w : List ℕ). Without 42 w) (sym e) none)
 
 -- a blank comes after a run that another run follows
-abbrev pub ended : Piece → List ℕ
-ended run = run_text run ++ codes " "
+abbrev pub with_blank_after : Piece → List ℕ
+with_blank_after run = run_text run ++ codes " "
 
-abbrev pub next : Piece → List ℕ
-next run = codes " " ++ run_text run
+abbrev pub with_blank_before : Piece → List ℕ
+with_blank_before run = codes " " ++ run_text run
 
-next_text : (rs : List Piece) (m : Piece) → codes " " ++ runs_text (rs ++ m ∷ []) ≡ flat_map next (rs ++ m ∷ [])
+next_text : (rs : List Piece) (m : Piece) → codes " " ++ runs_text (rs ++ m ∷ []) ≡ flat_map with_blank_before (rs ++ m ∷ [])
 next_text [] m = refl
 next_text (q ∷ qs) m = refl
 
-pub texts_joined : (rs : List Piece) (m : Piece) → flat_map ended rs ++ run_text m ≡ runs_text (rs ++ m ∷ [])
+pub texts_joined : (rs : List Piece) (m : Piece) → flat_map with_blank_after rs ++ run_text m ≡ runs_text (rs ++ m ∷ [])
 texts_joined [] m = sym (append-nil (run_text m))
 texts_joined (r ∷ rs) m =
-    append_assoc (ended r) (flat_map ended rs) (run_text m) ∙ append_assoc (run_text r) (codes " ") (flat_map ended rs ++ run_text m)
+    append_assoc (with_blank_after r) (flat_map with_blank_after rs) (run_text m) ∙ append_assoc (run_text r) (codes " ") (flat_map with_blank_after rs ++ run_text m)
     ∙ ap (λ (w : List ℕ). run_text r ++ (codes " " ++ w)) (texts_joined rs m) ∙ ap (λ (w : List ℕ). run_text r ++ w) (next_text rs m)
 
 pub record Stripped (runs all : List Piece) (rest : List ℕ) : Type 0 where
@@ -131,16 +131,16 @@ pub record Stripped (runs all : List Piece) (rest : List ℕ) : Type 0 where
   pub text : runs_text (run ∷ more) ≡ rest
 
 pub stripped : (most : ℕ) (runs all : List Piece) (rest : List ℕ) → most < 2 ^ 64 → AllByRecursion (IsSmall most) runs → AllByRecursion (IsSmall most) all → 0 < length all
-    → runs_text all ≡ flat_map ended runs ++ rest → Stripped runs all rest
+    → runs_text all ≡ flat_map with_blank_after runs ++ rest → Stripped runs all rest
 stripped most runs [] rest fits small all_small some e = absurd (omega arith)
 stripped most [] (m ∷ ms) rest fits small all_small some e = record { run = m; more = ms; whole = refl; text = e }
 stripped most (r ∷ runs) (m ∷ []) rest fits small all_small some e =
-    let whole : run_text m ≡ run_text r ++ (32 ∷ (flat_map ended runs ++ rest)) =
-    sym (append-nil (run_text m)) ∙ e ∙ append_assoc (ended r) (flat_map ended runs) rest ∙ append_assoc (run_text r) (codes " ") (flat_map ended runs ++ rest) in
-    absurd (not_without 32 (run_text r) (flat_map ended runs ++ rest) (subst (λ (w : List ℕ). Without 32 w) whole (no_blank_in most m fits all_small.0)))
+    let whole : run_text m ≡ run_text r ++ (32 ∷ (flat_map with_blank_after runs ++ rest)) =
+    sym (append-nil (run_text m)) ∙ e ∙ append_assoc (with_blank_after r) (flat_map with_blank_after runs) rest ∙ append_assoc (run_text r) (codes " ") (flat_map with_blank_after runs ++ rest) in
+    absurd (not_without 32 (run_text r) (flat_map with_blank_after runs ++ rest) (subst (λ (w : List ℕ). Without 32 w) whole (no_blank_in most m fits all_small.0)))
 stripped most (r ∷ runs) (m ∷ n ∷ ms) rest fits small all_small some e =
-    let same = split_same 32 (run_text m) (run_text r) (runs_text (n ∷ ms)) (flat_map ended runs ++ rest) (no_blank_in most m fits all_small.0) (no_blank_in most r fits small.0)
-    (e ∙ append_assoc (ended r) (flat_map ended runs) rest ∙ append_assoc (run_text r) (codes " ") (flat_map ended runs ++ rest)) in
+    let same = split_same 32 (run_text m) (run_text r) (runs_text (n ∷ ms)) (flat_map with_blank_after runs ++ rest) (no_blank_in most m fits all_small.0) (no_blank_in most r fits small.0)
+    (e ∙ append_assoc (with_blank_after r) (flat_map with_blank_after runs) rest ∙ append_assoc (run_text r) (codes " ") (flat_map with_blank_after runs ++ rest)) in
     let first : m ≡ r = same_run_of most m r fits all_small.0 small.0 same.0 in
     let others = stripped most runs (n ∷ ms) rest fits small.1 all_small.1 (omega arith) same.1 in
     record { run = others.run; more = others.more; whole = ap (λ (x : Piece). x ∷ (n ∷ ms)) first ∙ ap (λ (x : List Piece). r ∷ x) others.whole; text = others.text }
@@ -195,7 +195,7 @@ in_front_runs x (p ∷ ps) some le runs = at (x == p.value) refl
     at true e = let same : x ≡ p.value = eqb-true x p.value e in (omega (arith, runs.0), omega arith, runs.2)
     at false e = let other : x ≢ p.value = (λ same. let yes' = eq-eqb x p.value same in cc) in (omega (arith, le), omega arith, runs)
 
-pub runs_fall : (list : List ℕ) → IsFalling list → All (λ x. 0 < x) list → AreRuns (runs_of list)
+pub runs_fall : (list : List ℕ) → IsDescending list → All (λ x. 0 < x) list → AreRuns (runs_of list)
 unfolding runs_of
 runs_fall [] falls positive = tt
 runs_fall (x ∷ list) falls positive =

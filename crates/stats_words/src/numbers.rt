@@ -33,7 +33,7 @@ pub fn is_numeral(word: &[u8]) -> bool
 }
 
 // Whether a word that consists of digits is a numeral: it has at least one digit, and no leading zero unless it is 0 alone.
-fn may_lead(word: &[u8]) -> bool
+fn may_begin_numeral(word: &[u8]) -> bool
     ensures { numeral_test word.now ≡ (list_all digit_test word.now && result) }
 {
     match word {
@@ -75,7 +75,7 @@ fn value_within(word: &[u8], most: u64) -> Option<u64>
 pub fn number(word: &[u8], most: u64) -> Option<u64>
     ensures { Spells decimal (λ n. n ≤ most) word.now result }
 {
-    if !may_lead(word) {
+    if !may_begin_numeral(word) {
         return None;
     }
     value_within(word, most)
@@ -118,13 +118,13 @@ pub fn is_signed_numeral(word: &[u8]) -> bool
     ensures { IsTrue result ↔ IsSignedNumeral word.now }
 {
     match word {
-        [b'-', digits @ ..] => is_size(digits),
+        [b'-', digits @ ..] => is_positive_numeral(digits),
         _ => is_numeral(word),
     }
 }
 
 // Whether digits are a numeral other than zero.
-fn is_size(digits: &[u8]) -> bool
+fn is_positive_numeral(digits: &[u8]) -> bool
     ensures { IsTrue result ↔ (IsNumeral digits.now × (digits.now ≢ codes "0")) }
 {
     match digits {

@@ -14,7 +14,7 @@ use Rattle.csv_tables.specs.declared.types.Cells.{Cells}
 use Rattle.csv_tables.proofs.TableFacts.{columns-grown, rows_of_columns-grown}
 use Rattle.base_io.specs.Devices.{Reading}
 use Rattle.outcomes.specs.Reads.{◌>>=◌, AtFile, Reads}
-use Rattle.outcomes.specs.declared.ending.Ending.{Ending}
+use Rattle.outcomes.specs.declared.failure.Failure.{Failure}
 use Rattle.outcomes.specs.declared.names.FileId.{FileId}
 use Rattle.outcomes.specs.declared.names.FileId.TheVariants as file
 use Rattle.outcomes.specs.declared.refusal.Refusal.{Refusal}
@@ -56,34 +56,34 @@ parted schema (m ∷ before) n after files =
 -- ---- reading one more table, number n: its refusal ends the reading, its rows are appended
 
 -- `Reads` asks at which file a reading may have ended. For a reading that succeeds any condition will do, so this one holds of every file
-abbrev pub Anywhere : Files → FileId → Type 0
-Anywhere files id = ⊤
+abbrev pub AnyFile : Files → FileId → Type 0
+AnyFile files id = ⊤
 
 module _ (schema : Schema) (first second : Reading) (meets : Meets first second) (before : List ℕ) (n : ℕ) (rs : List (List Row))
-    (h : Reads first (rows_of_each schema before) Anywhere (Ok rs)) where
+    (h : Reads first (rows_of_each schema before) AnyFile (Ok rs)) where
   abbrev AtThis : Files → FileId → Type 0
   AtThis = AtFile (file.Table n)
 
-  ends_there : (after numbers : List ℕ) (e : Ending) → before ++ (n ∷ after) ≡ numbers → Reads second (onward schema n after rs) AtThis (Err e)
+  ends_there : (after numbers : List ℕ) (e : Failure) → before ++ (n ∷ after) ≡ numbers → Reads second (onward schema n after rs) AtThis (Err e)
       → Reads (joined first second) (rows_of_each schema numbers) (IsReached schema numbers) (Err e)
   ends_there after numbers e order k =
       reads_as (joined first second) (λ files. rows_of_each schema before files >>= (λ x. onward schema n after x files)) (rows_of_each schema numbers)
       (IsReached schema numbers) (IsReached schema numbers) (Err e)
       (λ files. ap (λ (l : List ℕ). rows_of_each schema l files) (sym order) ∙ parted schema before n after files) (λ files id reached. reached)
-      (then_reads (rows_of_each schema before) (onward schema n after) first second Anywhere AtThis (IsReached schema numbers) rs (Err e) meets
+      (then_reads (rows_of_each schema before) (onward schema n after) first second AnyFile AtThis (IsReached schema numbers) rs (Err e) meets
       (λ files id is at. record { before = before; number = n; after = after; order = order; file = at; sound = rw is refl }) h k)
 
-  pub each_stops : (after numbers : List ℕ) (e : Ending) → before ++ (n ∷ after) ≡ numbers → Reads second (table_rows schema n) AtThis (Err e)
+  pub each_stops : (after numbers : List ℕ) (e : Failure) → before ++ (n ∷ after) ≡ numbers → Reads second (table_rows schema n) AtThis (Err e)
       → Reads (joined first second) (rows_of_each schema numbers) (IsReached schema numbers) (Err e)
   each_stops after numbers e order k = ends_there after numbers e order
       (then_stops (table_rows schema n) (λ r files. rows_of_each schema after files >>= (λ others. Ok (rs ++ (r ∷ others)))) second AtThis AtThis e (λ files id at. at) k)
 
   each_more : (r : List Row) → Reads second (table_rows schema n) AtThis (Ok r)
-      → Reads (joined first second) (rows_of_each schema (before ++ n ∷ [])) Anywhere (Ok (rs ++ r ∷ []))
+      → Reads (joined first second) (rows_of_each schema (before ++ n ∷ [])) AnyFile (Ok (rs ++ r ∷ []))
   each_more r k =
       reads_as (joined first second) (λ files. rows_of_each schema before files >>= (λ x. onward schema n [] x files)) (rows_of_each schema (before ++ n ∷ []))
-      Anywhere Anywhere (Ok (rs ++ r ∷ [])) (parted schema before n []) (λ files id at. tt)
-      (then_reads (rows_of_each schema before) (onward schema n []) first second Anywhere AtThis Anywhere rs (Ok (rs ++ r ∷ [])) meets (λ files id is at. tt) h
+      AnyFile AnyFile (Ok (rs ++ r ∷ [])) (parted schema before n []) (λ files id at. tt)
+      (then_reads (rows_of_each schema before) (onward schema n []) first second AnyFile AtThis AnyFile rs (Ok (rs ++ r ∷ [])) meets (λ files id is at. tt) h
       (then_gives second (table_rows schema n) (λ r. Ok (rs ++ r ∷ [])) AtThis AtThis r (rs ++ r ∷ []) refl k))
 
 -- ---- cells keep their meaning when texts are added to the pool
@@ -127,7 +127,7 @@ files-push schema (m ∷ ms) (s ∷ rows) n r h k = (h.0, files-push schema ms r
 -- this is the state of the loop: the first i tables are read
 pub record SoFar (schema : Schema) (numbers : List ℕ) (store : Reading) (i : ℕ) (texts : List (List ℕ)) (found : List Cells) : Type 0 where
   pub cells : AreCellsOfEach schema texts (take i numbers) found
-  pub reads : Reads store (rows_of_each schema (take i numbers)) Anywhere (Ok (rows_of_tables texts found))
+  pub reads : Reads store (rows_of_each schema (take i numbers)) AnyFile (Ok (rows_of_tables texts found))
   pub files : AreOfFilesEach schema (take i numbers) (rows_of_tables texts found)
   pub few : length texts ≤ i * 256000000
 
@@ -140,11 +140,11 @@ module _ (schema : Schema) (n : ℕ) (t : Table) (declared : slice_get schema.ta
   same_table : t ≡ table_at schema n
   same_table = sym (get_or_from_slice_get schema.tables n t no_table declared)
 
-  named_rows : (store : Reading) (answer : Result (List Row) Ending) → Reads store (file_rows n t) (AtFile (file.Table n)) answer
+  named_rows : (store : Reading) (answer : Result (List Row) Failure) → Reads store (file_rows n t) (AtFile (file.Table n)) answer
       → Reads store (table_rows schema n) (AtFile (file.Table n)) answer
   named_rows store answer k = subst (λ (u : Table). Reads store (file_rows n u) (AtFile (file.Table n)) answer) same_table k
 
-  pub rows_named : (name : List ℕ) (store : Reading) (answer : Result (List Row) Ending) → Reads store (rows_in n t name) (AtFile (file.Table n)) answer
+  pub rows_named : (name : List ℕ) (store : Reading) (answer : Result (List Row) Failure) → Reads store (rows_in n t name) (AtFile (file.Table n)) answer
       → Reads store (rows_in n (table_at schema n) name) (AtFile (file.Table n)) answer
   rows_named name store answer k = subst (λ (u : Table). Reads store (rows_in n u name) (AtFile (file.Table n)) answer) same_table k
 
@@ -156,7 +156,7 @@ module _ (schema : Schema) (n : ℕ) (t : Table) (declared : slice_get schema.ta
 
 module _ (schema : Schema) (numbers : List ℕ) (first second : Reading) (meets : Meets first second) (i n : ℕ) (a : List (List ℕ)) (found : List Cells)
     (lt : i < length numbers) (is : n ≡ get_or numbers i 0) (t : Table) (declared : slice_get schema.tables n ≡ Some t) (so_far : SoFar schema numbers first i a found) where
-  pub next_stops : (e : Ending) → Reads second (file_rows n t) (AtFile (file.Table n)) (Err e)
+  pub next_stops : (e : Failure) → Reads second (file_rows n t) (AtFile (file.Table n)) (Err e)
       → Reads (joined first second) (rows_of_each schema numbers) (IsReached schema numbers) (Err e)
   next_stops e k = each_stops schema first second meets (take i numbers) n (rows_of_tables a found) so_far.reads (drop (i + 1) numbers) numbers e (parts_at numbers i n lt is)
       (named_rows schema n t declared second (Err e) k)
@@ -172,8 +172,8 @@ module _ (schema : Schema) (numbers : List ℕ) (first second : Reading) (meets 
       record {
         cells = subst (λ (l : List ℕ). AreCellsOfEach schema b l (found ++ c ∷ [])) (sym taken)
             (each-push schema b (take i numbers) found n c (each-grown schema a b begins (take i numbers) found so_far.cells) (named_cells schema n t declared b c cells));
-        reads = subst (λ (l : List ℕ). Reads (joined first second) (rows_of_each schema l) Anywhere (Ok (rows_of_tables b (found ++ c ∷ [])))) (sym taken)
-            (subst (λ (v : List (List Row)). Reads (joined first second) (rows_of_each schema (take i numbers ++ n ∷ [])) Anywhere (Ok v)) rows
+        reads = subst (λ (l : List ℕ). Reads (joined first second) (rows_of_each schema l) AnyFile (Ok (rows_of_tables b (found ++ c ∷ [])))) (sym taken)
+            (subst (λ (v : List (List Row)). Reads (joined first second) (rows_of_each schema (take i numbers ++ n ∷ [])) AnyFile (Ok v)) rows
             (each_more schema first second meets (take i numbers) n (rows_of_tables a found) so_far.reads (rows_of_cells b c) (named_rows schema n t declared second (Ok (rows_of_cells b c)) k)));
         files = subst (λ (l : List ℕ). AreOfFilesEach schema l (rows_of_tables b (found ++ c ∷ []))) (sym taken)
             (subst (λ (v : List (List Row)). AreOfFilesEach schema (take i numbers ++ n ∷ []) v) rows

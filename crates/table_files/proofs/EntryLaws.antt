@@ -9,8 +9,8 @@ use Rattle.csv_tables.specs.Rows.{Row}
 use Rattle.query_types.specs.declared.types.Source.{Source}
 use Rattle.outcomes.specs.Reads.{◌>>=◌}
 use Rattle.outcomes.specs.declared.refusal.Refusal.{Refusal}
-use Rattle.table_files.specs.Stage.{numbers_of, place_of, rows_by_entry, rows_of_each, table_rows, tables_of_query, tables_stage}
-use Rattle.table_files.proofs.PlaceFacts.{at_place, has_different, has_each, has_place}
+use Rattle.table_files.specs.Stage.{numbers_of, index_of, rows_by_entry, rows_of_each, table_rows, tables_of_query, tables_stage}
+use Rattle.table_files.proofs.IndexFacts.{at_place, has_different, has_each, has_place}
 
 pub two_steps : {A B : Type 0} (r : Result A Refusal) (f : A → Result B Refusal) (y : B) → (r >>= f) ≡ Ok y → (x : A) × (r ≡ Ok x) × (f x ≡ Ok y)
 two_steps (Ok x) f y h = (x, refl, h)
@@ -41,18 +41,18 @@ module _ (schema : Schema) (from : List Source) (files : Files) (rows : List (Li
       let Numbers : List ℕ = tables_of_query from in
       let number : ℕ = get_or (numbers_of from) entry 0 in
       let low : entry < length (numbers_of from) = omega (arith, length-map from (λ (source : Source). source.table)) in
-      let place : place_of Numbers number < length Numbers = has_place Numbers number (has_different (numbers_of from) number (has_each (numbers_of from) entry low)) in
+      let place : index_of Numbers number < length Numbers = has_place Numbers number (has_different (numbers_of from) number (has_each (numbers_of from) entry low)) in
       let read = two_steps (rows_of_each schema Numbers files) (λ all. Ok (rows_by_entry from all)) rows h in
       let picked : rows_by_entry from read.0 ≡ rows = same_ok (rows_by_entry from read.0) rows read.2 in
-      let there : table_rows schema (get_or Numbers (place_of Numbers number) 0) files ≡ Ok (get_or read.0 (place_of Numbers number) []) =
-      each_has schema Numbers files read.0 (place_of Numbers number) read.1 place in
+      let there : table_rows schema (get_or Numbers (index_of Numbers number) 0) files ≡ Ok (get_or read.0 (index_of Numbers number) []) =
+      each_has schema Numbers files read.0 (index_of Numbers number) read.1 place in
       ap (λ (n : ℕ). table_rows schema n files) (sym (at_place Numbers number place)) ∙ there
-      ∙ ap (λ (r : List Row). Ok r) (sym (list.get_or-map (λ n. get_or read.0 (place_of Numbers n) []) (numbers_of from) entry 0 [] low) ∙ ap (λ (l : List (List Row)). get_or l entry []) picked)
+      ∙ ap (λ (r : List Row). Ok r) (sym (list.get_or-map (λ n. get_or read.0 (index_of Numbers n) []) (numbers_of from) entry 0 [] low) ∙ ap (λ (l : List (List Row)). get_or l entry []) picked)
 
-only_place : (n : ℕ) → place_of (n ∷ []) n ≡ 0
+only_place : (n : ℕ) → index_of (n ∷ []) n ≡ 0
 only_place n = rw (eq-eqb n n refl) refl
 
-one_step : (t : Result (List Row) Refusal) (n : ℕ) → ((t >>= (λ r. Ok (r ∷ []))) >>= (λ all. Ok (map (λ number. get_or all (place_of (n ∷ []) number) []) (n ∷ [])))) ≡ (t >>= (λ r. Ok (r ∷ [])))
+one_step : (t : Result (List Row) Refusal) (n : ℕ) → ((t >>= (λ r. Ok (r ∷ []))) >>= (λ all. Ok (map (λ number. get_or all (index_of (n ∷ []) number) []) (n ∷ [])))) ≡ (t >>= (λ r. Ok (r ∷ [])))
 one_step (Err e) n = refl
 one_step (Ok r) n = ap (λ (k : ℕ). Ok (get_or (r ∷ []) k [] ∷ [])) (only_place n)
 

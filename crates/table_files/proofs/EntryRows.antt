@@ -15,8 +15,8 @@ use Rattle.query_types.specs.declared.types.Source.{Source}
 use Rattle.sql_meaning.specs.Databases.{AreCells}
 use Rattle.sql_meaning.specs.Tables.{cells_of, no_cells, tables_of}
 use Rattle.table_files.specs.EntryTables.{AreCellsOfEach, AreOfAFile, AreOfFiles, AreOfFilesEach, HasCells, entry_rows, rows_of_tables}
-use Rattle.table_files.specs.Stage.{different, numbers_of, place_of, rows_by_entry, table_at, tables_of_query}
-use Rattle.table_files.proofs.PlaceFacts.{at_place, has_different, has_each, has_place}
+use Rattle.table_files.specs.Stage.{without_repeats, numbers_of, index_of, rows_by_entry, table_at, tables_of_query}
+use Rattle.table_files.proofs.IndexFacts.{at_place, has_different, has_each, has_place}
 
 map_same : {A B : Type 0} (f g : A → B) → ((x : A) → f x ≡ g x) → (xs : List A) → map f xs ≡ map g xs
 map_same f g e [] = refl
@@ -63,38 +63,38 @@ module _ (schema : Schema) (from : List Source) (texts : List (List ℕ)) (cells
   Numbers = tables_of_query from
 
   abbrev pub db : Database
-  db = record { pool = texts; cells = cells; slots = map (place_of (tables_of_query from)) (numbers_of from) }
+  db = record { pool = texts; cells = cells; slots = map (index_of (tables_of_query from)) (numbers_of from) }
 
   entry_low : (entry : ℕ) → entry < length from → entry < length (numbers_of from)
   entry_low entry lt = omega (arith, length-map from (λ (source : Source). source.table))
 
-  pub slot_is : (entry : ℕ) → entry < length from → get_or db.slots entry 0 ≡ place_of Numbers (get_or (numbers_of from) entry 0)
-  slot_is entry lt = list.get_or-map (place_of Numbers) (numbers_of from) entry 0 0 (entry_low entry lt)
+  pub slot_is : (entry : ℕ) → entry < length from → get_or db.slots entry 0 ≡ index_of Numbers (get_or (numbers_of from) entry 0)
+  slot_is entry lt = list.get_or-map (index_of Numbers) (numbers_of from) entry 0 0 (entry_low entry lt)
 
-  pub place_low : (entry : ℕ) → entry < length from → place_of Numbers (get_or (numbers_of from) entry 0) < length Numbers
+  pub place_low : (entry : ℕ) → entry < length from → index_of Numbers (get_or (numbers_of from) entry 0) < length Numbers
   place_low entry lt = has_place Numbers (get_or (numbers_of from) entry 0)
       (has_different (numbers_of from) (get_or (numbers_of from) entry 0) (has_each (numbers_of from) entry (entry_low entry lt)))
 
   pub has_cells : AreCellsOfEach schema texts Numbers cells → HasCells schema from db
   has_cells are entry lt =
       let number : ℕ = get_or (numbers_of from) entry 0 in
-      let here : AreCellsOf (table_at schema (get_or Numbers (place_of Numbers number) 0)) texts (get_or cells (place_of Numbers number) no_cells) =
-      each_at schema texts Numbers cells (place_of Numbers number) are (place_low entry lt) in
-      let named : AreCellsOf (table_at schema number) texts (get_or cells (place_of Numbers number) no_cells) =
-      subst (λ (m : ℕ). AreCellsOf (table_at schema m) texts (get_or cells (place_of Numbers number) no_cells)) (at_place Numbers number (place_low entry lt)) here in
+      let here : AreCellsOf (table_at schema (get_or Numbers (index_of Numbers number) 0)) texts (get_or cells (index_of Numbers number) no_cells) =
+      each_at schema texts Numbers cells (index_of Numbers number) are (place_low entry lt) in
+      let named : AreCellsOf (table_at schema number) texts (get_or cells (index_of Numbers number) no_cells) =
+      subst (λ (m : ℕ). AreCellsOf (table_at schema m) texts (get_or cells (index_of Numbers number) no_cells)) (at_place Numbers number (place_low entry lt)) here in
       subst (λ (slot : ℕ). AreCellsOf (table_at schema number) texts (get_or cells slot no_cells)) (sym (slot_is entry lt)) named
 
   pub rows_by_place : rows_by_entry from (rows_of_tables texts cells) ≡ entry_rows db
   rows_by_place =
       let rows_at : ℕ → List Row = λ slot. rows_of_cells texts (get_or cells slot no_cells) in
-      map_same (λ number. get_or (rows_of_tables texts cells) (place_of Numbers number) []) (λ number. rows_at (place_of Numbers number))
-      (λ number. listn.get_or-map (rows_of_cells texts) cells (place_of Numbers number) no_cells) (numbers_of from)
-      ∙ sym (map-map rows_at (place_of Numbers) (numbers_of from)) ∙ sym (each_place rows_at db.slots)
+      map_same (λ number. get_or (rows_of_tables texts cells) (index_of Numbers number) []) (λ number. rows_at (index_of Numbers number))
+      (λ number. listn.get_or-map (rows_of_cells texts) cells (index_of Numbers number) no_cells) (numbers_of from)
+      ∙ sym (map-map rows_at (index_of Numbers) (numbers_of from)) ∙ sym (each_place rows_at db.slots)
 
   pub has_files : AreOfFilesEach schema Numbers (rows_of_tables texts cells) → AreOfFiles schema from (tables_of db)
   has_files are entry lt =
       let number : ℕ = get_or (numbers_of from) entry 0 in
-      let place : ℕ = place_of Numbers number in
+      let place : ℕ = index_of Numbers number in
       let here : AreOfAFile (table_at schema (get_or Numbers place 0)) (get_or (rows_of_tables texts cells) place []) =
       file_at schema Numbers (rows_of_tables texts cells) place are (place_low entry lt) in
       let named : AreOfAFile (table_at schema number) (get_or (rows_of_tables texts cells) place []) =

@@ -1,4 +1,4 @@
-pub mod Asked
+pub mod DatabaseOfQuery
 pub mod EachTable
 pub mod EntryLaws
 pub mod EntryRows
@@ -6,7 +6,7 @@ pub mod FewRows
 pub mod FileKeys
 pub mod Loads
 pub mod OneTable
-pub mod PlaceFacts
+pub mod IndexFacts
 pub mod SameTables
 pub mod StageFacts
 pub mod StagedFiles

@@ -13,14 +13,14 @@ use Rattle.csv_tables.specs.declared.types.Database.{Database}
 use Rattle.query_types.specs.declared.types.Source.{Source}
 use Rattle.sql_meaning.specs.Tables.{no_cells, tables_of}
 use Rattle.table_files.specs.EntryTables.{entry_rows, tables_in}
-use Rattle.table_files.specs.Stage.{numbers_of, place_of, tables_of_query}
+use Rattle.table_files.specs.Stage.{numbers_of, index_of, tables_of_query}
 
-pub first_place : (from : List Source) → get_or (map (place_of (tables_of_query from)) (numbers_of from)) 0 0 ≡ 0
+pub first_place : (from : List Source) → get_or (map (index_of (tables_of_query from)) (numbers_of from)) 0 0 ≡ 0
 first_place [] = refl
 first_place (source ∷ sources) = rw (eq-eqb source.table source.table refl) refl
 
-pub some_slot : (from : List Source) (slots : List ℕ) → slots ≡ map (place_of (tables_of_query from)) (numbers_of from) → 0 < length from → 0 < length slots
-some_slot from slots is some = omega (arith, ap length is, length-map (numbers_of from) (place_of (tables_of_query from)), length-map from (λ (source : Source). source.table), some)
+pub some_slot : (from : List Source) (slots : List ℕ) → slots ≡ map (index_of (tables_of_query from)) (numbers_of from) → 0 < length from → 0 < length slots
+some_slot from slots is some = omega (arith, ap length is, length-map (numbers_of from) (index_of (tables_of_query from)), length-map from (λ (source : Source). source.table), some)
 
 past_end : {X : Type 0} (xs : List X) (i : ℕ) (d : X) → length xs ≤ i → get_or xs i d ≡ d
 past_end [] i d le = refl

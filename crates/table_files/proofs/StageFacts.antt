@@ -13,14 +13,14 @@ use Rattle.sql_meaning.specs.Databases.{IsDatabaseOf}
 use Rattle.sql_meaning.specs.Tables.{tables_of}
 use Rattle.base_io.specs.Devices.{Reading}
 use Rattle.outcomes.specs.Reads.{Reads}
-use Rattle.outcomes.specs.declared.ending.Ending.{Ending}
+use Rattle.outcomes.specs.declared.failure.Failure.{Failure}
 use Rattle.outcomes.specs.declared.names.FileId.{FileId}
 use Rattle.outcomes.specs.declared.refusal.Refusal.{Refusal}
 use Rattle.outcomes.proofs.ReadFacts.{then_gives, then_stops}
 use Rattle.table_files.specs.EntryTables.{AreCellsOfEach, AreOfFiles, AreOfFilesEach, HasCells, entry_rows, rows_of_tables}
-use Rattle.table_files.specs.Stage.{IsReached, numbers_of, place_of, rows_by_entry, rows_of_each, tables_of_query, tables_stage}
+use Rattle.table_files.specs.Stage.{IsReached, numbers_of, index_of, rows_by_entry, rows_of_each, tables_of_query, tables_stage}
 use Rattle.table_files.proofs.FewRows.{HasFewRows}
-use Rattle.table_files.proofs.Asked.{database_is}
+use Rattle.table_files.proofs.DatabaseOfQuery.{database_is}
 use Rattle.table_files.proofs.EntryRows.{db, has_cells, has_files, rows_by_place}
 
 abbrev pub made : List (List ℕ) → List Cells → List ℕ → Database
@@ -30,16 +30,16 @@ module _ (schema : Schema) (from : List Source) where
   abbrev Reached : Files → FileId → Type 0
   Reached = IsReached schema (tables_of_query from)
 
-  pub stage_stops : (store : Reading) (numbers : List ℕ) (e : Ending) → numbers ≡ tables_of_query from → Reads store (rows_of_each schema numbers) (IsReached schema numbers) (Err e)
+  pub stage_stops : (store : Reading) (numbers : List ℕ) (e : Failure) → numbers ≡ tables_of_query from → Reads store (rows_of_each schema numbers) (IsReached schema numbers) (Err e)
       → Reads store (tables_stage schema from) Reached (Err e)
   unfolding tables_stage
   stage_stops store numbers e named h =
       then_stops (rows_of_each schema (tables_of_query from)) (λ rows files. Ok (rows_by_entry from rows)) store Reached Reached e (λ files id at. at)
       (subst (λ (ns : List ℕ). Reads store (rows_of_each schema ns) (IsReached schema ns) (Err e)) named h)
 
-  module _ (texts : List (List ℕ)) (cells : List Cells) (slots numbers : List ℕ) (named : numbers ≡ tables_of_query from) (placed : slots ≡ map (place_of numbers) (numbers_of from)) where
-    slots_are : slots ≡ map (place_of (tables_of_query from)) (numbers_of from)
-    slots_are = placed ∙ ap (λ (ns : List ℕ). map (place_of ns) (numbers_of from)) named
+  module _ (texts : List (List ℕ)) (cells : List Cells) (slots numbers : List ℕ) (named : numbers ≡ tables_of_query from) (placed : slots ≡ map (index_of numbers) (numbers_of from)) where
+    slots_are : slots ≡ map (index_of (tables_of_query from)) (numbers_of from)
+    slots_are = placed ∙ ap (λ (ns : List ℕ). map (index_of ns) (numbers_of from)) named
 
     pub made_is : db schema from texts cells ≡ made texts cells slots
     made_is = ap (made texts cells) (sym slots_are)
@@ -61,7 +61,7 @@ module _ (schema : Schema) (from : List Source) where
         (has_files schema from texts cells (subst (λ (ns : List ℕ). AreOfFilesEach schema ns (rows_of_tables texts cells)) named are))
 
 pub found_database : (schema : Schema) (query : Query) (texts : List (List ℕ)) (cells : List Cells) (slots numbers : List ℕ) → numbers ≡ tables_of_query query.from
-    → slots ≡ map (place_of numbers) (numbers_of query.from) → IsOf schema query → AreCellsOfEach schema texts numbers cells → All HasFewRows cells → IsDatabaseOf query (made texts cells slots)
+    → slots ≡ map (index_of numbers) (numbers_of query.from) → IsOf schema query → AreCellsOfEach schema texts numbers cells → All HasFewRows cells → IsDatabaseOf query (made texts cells slots)
 found_database schema query texts cells slots numbers named placed is_of are few =
     subst (IsDatabaseOf query) (made_is schema query.from texts cells slots numbers named placed)
     (database_is schema query texts cells is_of (subst (λ (ns : List ℕ). AreCellsOfEach schema texts ns cells) named are) few)

@@ -10,7 +10,7 @@ use Rattle.schema_types.specs.declared.types.Table.{Table}
 use Rattle.csv_tables.specs.Files.{rows_of_file}
 use Rattle.csv_tables.specs.Rows.{Row}
 use Rattle.outcomes.specs.Errors.{table_refusal}
-use Rattle.outcomes.specs.Reads.{told}
+use Rattle.outcomes.specs.Reads.{with_refusal}
 use Rattle.outcomes.specs.declared.names.FileId.{FileId}
 use Rattle.outcomes.specs.declared.names.FileId.TheVariants as file
 use Rattle.outcomes.specs.declared.refusal.Refusal.{Refusal}
@@ -18,11 +18,11 @@ use Rattle.outcomes.specs.declared.refusal.Refusal.TheVariants as refusal
 use Rattle.query_types.specs.declared.types.Source.{Source}
 use Rattle.table_files.specs.EntryTables.{AreOfAFile, AreOfFiles, tables_in}
 use Rattle.table_files.specs.FileNames.{file_name}
-use Rattle.table_files.specs.Stage.{numbers_of, place_of, rows_by_entry, rows_of_each, table_at, table_rows, tables_of_query, tables_stage}
+use Rattle.table_files.specs.Stage.{numbers_of, index_of, rows_by_entry, rows_of_each, table_at, table_rows, tables_of_query, tables_stage}
 use Rattle.table_files.specs.TableFile.{bytes_of, file_rows, read, rows_of_bytes}
 use Rattle.table_files.proofs.EntryLaws.{entries_have, two_steps}
 
-pub told_ok : {A E : Type 0} (refusal_of : E → Refusal) (r : Result A E) (x : A) → told refusal_of r ≡ Ok x → r ≡ Ok x
+pub told_ok : {A E : Type 0} (refusal_of : E → Refusal) (r : Result A E) (x : A) → with_refusal refusal_of r ≡ Ok x → r ≡ Ok x
 told_ok refusal_of (Ok y) x e = (let same : y ≡ x = cc in ap Ok same)
 told_ok refusal_of (Err s) x e = cc
 
@@ -54,7 +54,7 @@ module _ (schema : Schema) (from : List Source) (files : Files) (rows : List (Li
       let steps = two_steps (rows_of_each schema (tables_of_query from) files) (λ all. Ok (rows_by_entry from all)) rows staged in
       let same : rows_by_entry from steps.0 ≡ rows = cc (steps.2) in
       ap (λ (l : List (List Row)). length l) (sym same)
-      ∙ length-map (numbers_of from) (λ number. get_or steps.0 (place_of (tables_of_query from) number) [])
+      ∙ length-map (numbers_of from) (λ number. get_or steps.0 (index_of (tables_of_query from) number) [])
       ∙ length-map from (λ (source : Source). source.table)
 
   tables_are : (entry : ℕ) → entry < length from → get_or rows entry [] ≡ tables_in rows entry

@@ -13,13 +13,13 @@ use Rattle.outcomes.specs.declared.refusal.Refusal.{Refusal}
 use Rattle.table_files.specs.TableFile.{file_rows}
 
 -- each number once, in the order of first occurrences
-abbrev pub different : List ℕ → List ℕ
-different [] = []
-different (number ∷ numbers) = number ∷ filter (λ other. not (other == number)) (different numbers)
+abbrev pub without_repeats : List ℕ → List ℕ
+without_repeats [] = []
+without_repeats (number ∷ numbers) = number ∷ filter (λ other. not (other == number)) (without_repeats numbers)
 
 -- the index of a number in a list, or the list's length if the number isn't in it
-abbrev pub place_of : List ℕ → ℕ → ℕ
-place_of numbers number = position_or_len (nat_eq number) numbers
+abbrev pub index_of : List ℕ → ℕ → ℕ
+index_of numbers number = position_or_len (nat_eq number) numbers
 
 -- the number of each FROM entry's table in the schema
 abbrev pub numbers_of : List Source → List ℕ
@@ -27,7 +27,7 @@ numbers_of from = map (λ source. source.table) from
 
 -- the tables that a query names, each once, in the order in which FROM first names them
 abbrev pub tables_of_query : List Source → List ℕ
-tables_of_query from = different (numbers_of from)
+tables_of_query from = without_repeats (numbers_of from)
 
 -- the default of `table_at`. A query of the schema refers only to tables that the schema has, so `no_table` is never used
 abbrev pub no_table : Table
@@ -50,7 +50,7 @@ rows_of_each schema (number ∷ numbers) files = do
 
 -- for each FROM entry the rows of its table
 abbrev pub rows_by_entry : List Source → List (List Row) → List (List Row)
-rows_by_entry from rows = map (λ number. slice_index_or rows (place_of (tables_of_query from) number) []) (numbers_of from)
+rows_by_entry from rows = map (λ number. slice_index_or rows (index_of (tables_of_query from) number) []) (numbers_of from)
 
 -- the stage: each table of the query is read once, in the order of FROM, and each entry has the rows of its table
 unfoldable pub tables_stage : Schema → List Source → Files → Result (List (List Row)) Refusal

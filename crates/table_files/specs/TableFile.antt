@@ -7,7 +7,7 @@ use Rattle.schema_types.specs.declared.types.Table.{Table}
 use Rattle.csv_tables.specs.Files.{rows_of_file}
 use Rattle.csv_tables.specs.Rows.{Row}
 use Rattle.outcomes.specs.Errors.{table_refusal}
-use Rattle.outcomes.specs.Reads.{◌>>=◌, told}
+use Rattle.outcomes.specs.Reads.{◌>>=◌, with_refusal}
 use Rattle.outcomes.specs.declared.names.FileId.{FileId}
 use Rattle.outcomes.specs.declared.names.FileId.TheVariants as file
 use Rattle.outcomes.specs.declared.refusal.Refusal.{Refusal}
@@ -24,7 +24,7 @@ read id most name files = bytes_of id most (file_of files name)
 
 -- the rows of the table with this number in the schema, read from these bytes
 abbrev pub rows_of_bytes : ℕ → Table → List ℕ → Result (List Row) Refusal
-rows_of_bytes number table bytes = told (table_refusal number) (rows_of_file table bytes)
+rows_of_bytes number table bytes = with_refusal (table_refusal number) (rows_of_file table bytes)
 
 -- the rows of the table with this number, read from the file of this name, or why the file is refused: it is absent, too long, or its content is
 abbrev pub rows_in : ℕ → Table → List ℕ → Files → Result (List Row) Refusal

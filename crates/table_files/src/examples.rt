@@ -3,7 +3,7 @@ ghost use Rattle.std.specs.Prelude.{◌≡◌, ◌∷◌, [], codes, Err};
 ghost use Rattle.outcomes.specs.declared.names.FileId.TheVariants as file;
 ghost use Rattle.outcomes.specs.declared.refusal.Refusal.TheVariants as refusal;
 ghost use Rattle.table_files.specs.Examples.{numbers_table, only_r, s_r_s, two_tables};
-ghost use Rattle.table_files.specs.Stage.{different, rows_by_entry, tables_of_query, tables_stage};
+ghost use Rattle.table_files.specs.Stage.{without_repeats, rows_by_entry, tables_of_query, tables_stage};
 ghost use Rattle.table_files.specs.FileNames.{file_name};
 
 /// For FROM S, R, S the stage reads S and then R, and the third entry has the rows of the first.
@@ -11,7 +11,7 @@ pub fn orders()
     ensures name { file_name (numbers_table (codes "Big_R")) ≡ codes "big_r.csv" }
     ensures once { tables_of_query s_r_s ≡ 1 ∷ 0 ∷ [] }
     ensures shared { rows_by_entry s_r_s (([] ∷ []) ∷ [] ∷ []) ≡ ([] ∷ []) ∷ [] ∷ ([] ∷ []) ∷ [] }
-    ensures first { different (3 ∷ 1 ∷ 3 ∷ 2 ∷ 1 ∷ []) ≡ 3 ∷ 1 ∷ 2 ∷ [] }
+    ensures first { without_repeats (3 ∷ 1 ∷ 3 ∷ 2 ∷ 1 ∷ []) ≡ 3 ∷ 1 ∷ 2 ∷ [] }
 {}
 
 #[tactic(auto, unfolding(crate::specs::TableFile::file_rows, crate::specs::Stage::tables_stage))]

@@ -6,7 +6,7 @@ ghost use Rattle.outcomes.specs.Reads.{AtFile, Reads};
 ghost use Rattle.table_files.specs.TableFile.{read};
 
 use base_io::{ReadError, Seq, Store, read_file};
-use outcomes::{Ending, FileId, Refusal};
+use outcomes::{Failure, FileId, Refusal};
 use schema_types::LimitKind;
 use std::alloc::Global;
 
@@ -17,20 +17,20 @@ pub fn load_file<S: Store>(
     file: FileId,
     name: &str,
     limit: u32,
-) -> Result<Seq<u8>, Ending>
+) -> Result<Seq<u8>, Failure>
     requires { limit ≤ most_file }
     ensures short { IfOk result (λ bytes. length bytes ≤ limit) }
     ensures reads { Reads (reading S.files S.faults S.misses store.old store.new) (read file limit name.now) (AtFile file) result }
 {
     match read_file(alloc, store, name, limit) {
         Ok(bytes) => Ok(bytes),
-        Err(ReadError::Missing) => Err(Ending::Refused(Refusal::Missing { file })),
-        Err(ReadError::Fault) => Err(Ending::Fault { file }),
-        Err(ReadError::TooLong { .. }) => Err(Ending::Refused(Refusal::Limit {
+        Err(ReadError::Missing) => Err(Failure::Refused(Refusal::Missing { file })),
+        Err(ReadError::Fault) => Err(Failure::Fault { file }),
+        Err(ReadError::TooLong { .. }) => Err(Failure::Refused(Refusal::Limit {
             which: LimitKind::FileBytes,
             file,
             found: limit as u64 + 1,
         })),
-        Err(ReadError::NoMemory) => Err(Ending::NoMemory),
+        Err(ReadError::NoMemory) => Err(Failure::NoMemory),
     }
 }

@@ -1,13 +1,13 @@
 //! The tables that FROM names, and the index of each entry's table among them.
 ghost use Rattle.std.specs.Prelude.{◌≡◌, ◌<◌, ◌^◌, ◌==◌, [], ◌∷◌, ◌++◌, if◌then◌else◌, length, map, IfOk, OnOk};
-ghost use Rattle.table_files.specs.Stage.{numbers_of, place_of as place_in, tables_of_query};
+ghost use Rattle.table_files.specs.Stage.{numbers_of, index_of as place_in, tables_of_query};
 
 use base_io::{NoMemory, Seq};
 use query_types::Source;
 use std::alloc::Global;
 
 // The index of a number, or the list's length if the number isn't there. The list has one number for each table of a query, so at most twelve.
-fn place_of(numbers: &[u32], number: u32) -> usize
+fn index_of(numbers: &[u32], number: u32) -> usize
     ensures { result ≡ place_in numbers.now number }
 {
     'numbers: for (at, other) in numbers.iter().enumerate() {
@@ -19,11 +19,11 @@ fn place_of(numbers: &[u32], number: u32) -> usize
 }
 
 // Appends a number to a list, unless the list has it already.
-fn put(numbers: &mut Seq<u32>, number: u32) -> Result<(), NoMemory>
+fn append_if_new(numbers: &mut Seq<u32>, number: u32) -> Result<(), NoMemory>
     ensures { OnOk result (numbers.new
         ≡ (if place_in numbers.old number == length numbers.old then numbers.old ++ number ∷ [] else numbers.old)) }
 {
-    if place_of(numbers.as_slice(), number) < numbers.len() {
+    if index_of(numbers.as_slice(), number) < numbers.len() {
         return Ok(());
     }
     numbers.push(number)
@@ -35,7 +35,7 @@ pub(crate) fn table_numbers(alloc: Global, from: &[Source]) -> Result<Seq<u32>, 
 {
     let mut numbers = Seq::new(alloc);
     'entries: for source in from {
-        put(&mut numbers, source.table)?;
+        append_if_new(&mut numbers, source.table)?;
     }
     Ok(numbers)
 }
@@ -47,7 +47,7 @@ pub(crate) fn slots(alloc: Global, from: &[Source], numbers: &[u32]) -> Result<S
 {
     let mut slots = Seq::new(alloc);
     'entries: for source in from {
-        slots.push(place_of(numbers, source.table) as u32)?;
+        slots.push(index_of(numbers, source.table) as u32)?;
     }
     Ok(slots)
 }

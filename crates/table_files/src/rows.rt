@@ -4,7 +4,7 @@ ghost use Rattle.limits.specs.Profile.{most_rows};
 ghost use Rattle.base_io.specs.Devices.{reading};
 ghost use Rattle.csv_tables.specs.Cells.{AreCellsOf};
 ghost use Rattle.csv_tables.specs.Pools.{TextsAreDifferent};
-ghost use Rattle.outcomes.specs.Reads.{AtFile, Reads, seen};
+ghost use Rattle.outcomes.specs.Reads.{AtFile, Reads, mapped};
 ghost use Rattle.schema_types.specs.Validity.{IsValid};
 ghost use Rattle.table_files.specs.EntryTables.{rows_of_read};
 ghost use Rattle.table_files.specs.Stage.{table_at};
@@ -13,7 +13,7 @@ ghost use Rattle.table_files.specs.TableFile.{rows_in};
 use crate::table::load_rows;
 use base_io::Store;
 use csv_tables::{Cells, Pool};
-use outcomes::{Ending, FileId};
+use outcomes::{Failure, FileId};
 use schema_types::Schema;
 use std::alloc::Global;
 
@@ -32,7 +32,7 @@ pub fn read_rows<S: Store>(
     schema: &Schema,
     number: u32,
     name: &str,
-) -> Result<TableRows, Ending>
+) -> Result<TableRows, Failure>
     requires schema { IsValid schema.now }
     requires number { number < length schema.now.tables }
     ensures cells { IfOk result (λ read. AreCellsOf (table_at schema.now number) read.pool read.cells) }
@@ -42,9 +42,9 @@ pub fn read_rows<S: Store>(
     ensures texts { IfOk result (λ read. All IsUtf8 read.pool) }
     ensures different { IfOk result (λ read. TextsAreDifferent read.pool) }
 
-    // Over a store that tells its files, the rows are those that `rows_in` gives. If the reading ended, the `Ending` says why.
+    // Over a store that tells its files, the rows are those that `rows_in` gives. If the reading ended, the `Failure` says why.
     ensures reads { Reads (reading S.files S.faults S.misses store.old store.new) (rows_in number (table_at schema.now number) name.now)
-        (AtFile (FileId.Table number)) (seen rows_of_read result) }
+        (AtFile (FileId.Table number)) (mapped rows_of_read result) }
 {
     let mut pool = Pool::new(alloc);
     let table = schema.tables.get(number as usize);

@@ -2,7 +2,7 @@
 ghost use Rattle.std.specs.Prelude.{◌≡◌, ◌<◌, All, IfOk, IsUtf8, length};
 ghost use Rattle.csv_tables.specs.Pools.{TextsAreDifferent};
 ghost use Rattle.base_io.specs.Devices.{reading};
-ghost use Rattle.outcomes.specs.Reads.{Reads, seen};
+ghost use Rattle.outcomes.specs.Reads.{Reads, mapped};
 ghost use Rattle.query_types.specs.Validity.{IsOf};
 ghost use Rattle.schema_types.specs.Validity.{IsValid};
 ghost use Rattle.sql_meaning.specs.Databases.{IsDatabaseOf};
@@ -14,7 +14,7 @@ use crate::each::read_each;
 use crate::numbers::{slots, table_numbers};
 use base_io::Store;
 use csv_tables::{Database, Pool};
-use outcomes::Ending;
+use outcomes::Failure;
 use query_types::Query;
 use schema_types::Schema;
 use std::alloc::Global;
@@ -29,7 +29,7 @@ pub fn read_tables<S: Store>(
     store: &mut S,
     schema: &Schema,
     query: &Query,
-) -> Result<Database, Ending>
+) -> Result<Database, Failure>
     requires schema { IsValid schema.now }
     requires query { IsOf schema.now query.now }
 
@@ -50,16 +50,16 @@ pub fn read_tables<S: Store>(
     // The tables made of the entries' rows are those of the database.
     ensures tables { IfOk result (λ db. tables_in (entry_rows db) ≡ tables_of db) }
 
-    // Over a store that tells its files, the entries' rows are those that `tables_stage` gives. If the reading ended, the `Ending` says why.
+    // Over a store that tells its files, the entries' rows are those that `tables_stage` gives. If the reading ended, the `Failure` says why.
     ensures reads { Reads (reading S.files S.faults S.misses store.old store.new) (tables_stage schema.now query.now.from)
-        (IsReached schema.now (tables_of_query query.now.from)) (seen entry_rows result) }
+        (IsReached schema.now (tables_of_query query.now.from)) (mapped entry_rows result) }
 {
     let from = query.from.as_slice();
     let Ok(numbers) = table_numbers(alloc, from) else {
-        return Err(Ending::NoMemory);
+        return Err(Failure::NoMemory);
     };
     let Ok(slots) = slots(alloc, from, numbers.as_slice()) else {
-        return Err(Ending::NoMemory);
+        return Err(Failure::NoMemory);
     };
     let mut pool = Pool::new(alloc);
     let cells = read_each(alloc, store, schema, numbers.as_slice(), &mut pool)?;

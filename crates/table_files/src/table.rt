@@ -4,7 +4,7 @@ ghost use Rattle.limits.specs.Profile.{most_rows};
 ghost use Rattle.csv_tables.specs.Cells.{AreCellsOf, rows_of_cells};
 ghost use Rattle.csv_tables.specs.Pools.{PoolBeginsWith};
 ghost use Rattle.base_io.specs.Devices.{reading};
-ghost use Rattle.outcomes.specs.Reads.{AtFile, Reads, seen};
+ghost use Rattle.outcomes.specs.Reads.{AtFile, Reads, mapped};
 ghost use Rattle.schema_types.specs.Validity.{IsValidTable};
 ghost use Rattle.table_files.specs.EntryTables.{AreOfAFile};
 ghost use Rattle.table_files.specs.FileNames.{file_name};
@@ -14,7 +14,7 @@ use crate::load::load_file;
 use base_io::{NoMemory, Store};
 use csv_tables::{Cells, Pool, read_table};
 use limits::MOST_FILE;
-use outcomes::{Ending, FileId, table_ending};
+use outcomes::{Failure, FileId, table_failure};
 use schema_types::Table;
 use std::alloc::Global;
 
@@ -35,7 +35,7 @@ pub(crate) fn load_rows<S: Store>(
     table: &Table,
     name: &str,
     pool: &mut Pool,
-) -> Result<Cells, Ending>
+) -> Result<Cells, Failure>
     requires valid { IsValidTable table.now }
     requires room { length pool.old ≤ 4000000000 }
     ensures cells { IfOk result (AreCellsOf table.now pool.new) }
@@ -45,13 +45,13 @@ pub(crate) fn load_rows<S: Store>(
     ensures more { IfOk result (λ _. length pool.new ≤ length pool.old + 256000000) }
     ensures reads { Reads (reading S.files S.faults S.misses store.old store.new) (rows_in number table.now name.now)
         (AtFile (FileId.Table number))
-        (seen (rows_of_cells pool.new) result) }
+        (mapped (rows_of_cells pool.new) result) }
 {
     let file = FileId::Table(number);
     let bytes = load_file(alloc, store, file, name, MOST_FILE)?;
     match read_table(alloc, table, bytes.as_slice(), pool) {
         Ok(cells) => Ok(cells),
-        Err(error) => Err(table_ending(number, error)),
+        Err(error) => Err(table_failure(number, error)),
     }
 }
 
@@ -62,7 +62,7 @@ pub(crate) fn load_table<S: Store>(
     number: u32,
     table: &Table,
     pool: &mut Pool,
-) -> Result<Cells, Ending>
+) -> Result<Cells, Failure>
     requires valid { IsValidTable table.now }
     requires room { length pool.old ≤ 4000000000 }
     ensures cells { IfOk result (AreCellsOf table.now pool.new) }
@@ -72,10 +72,10 @@ pub(crate) fn load_table<S: Store>(
     ensures more { IfOk result (λ _. length pool.new ≤ length pool.old + 256000000) }
     ensures reads { Reads (reading S.files S.faults S.misses store.old store.new) (file_rows number table.now)
         (AtFile (FileId.Table number))
-        (seen (rows_of_cells pool.new) result) }
+        (mapped (rows_of_cells pool.new) result) }
 {
     let Ok(name) = table_file_name(alloc, table) else {
-        return Err(Ending::NoMemory);
+        return Err(Failure::NoMemory);
     };
     load_rows(alloc, store, number, table, name.as_str(), pool)
 }

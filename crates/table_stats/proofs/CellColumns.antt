@@ -9,16 +9,16 @@ use Rattle.schema_types.specs.declared.types.Kind.{Kind}
 use Rattle.csv_tables.specs.Cells.{IsCell, value_of_cell}
 use Rattle.csv_tables.specs.Values.{Value, Int}
 use Rattle.cond_stats.specs.Columns.{cell_le, leaf_of_value as leaf_in_cells, list_between as list_of_cells_between, value_le}
-use Rattle.cond_stats.specs.Leaves.{leaf_above}
+use Rattle.cond_stats.specs.Leaves.{last_leaf_where}
 use Rattle.cond_stats.specs.Lists.{compressed_degrees, list_of_range, list_of_value}
 use Rattle.level_bounds.specs.Keys.{HaveDifferentCharacters}
 use Rattle.level_bounds.proofs.CellKeys.{equal_cells}
 use Rattle.level_bounds.proofs.Lists.{map_both}
 use Rattle.relabelling_laws.specs.Relabelling.{IsMissing, IsOneToOne, KeepsOrder, PassAlike}
 use Rattle.relabelling_laws.proofs.Columns.{leaf_is}
-use Rattle.relabelling_laws.proofs.Rows.{absent_is, columns_are, range_is, value_is, whole_is, stands_or_misses as found}
+use Rattle.relabelling_laws.proofs.Rows.{absent_is, columns_are, range_is, value_is, whole_is, is_in_column_or_not as found}
 use Rattle.table_stats.specs.Cells.{IsCellFor}
-use Rattle.table_stats.specs.Columns.{first_row, leaf_of_value, numbered, paired, row_le, value_of_row}
+use Rattle.table_stats.specs.Columns.{first_row, leaf_of_value, as_first_rows, paired, row_le, value_of_row}
 use Rattle.table_stats.specs.Statistics.{end_leaf, list_between, list_with}
 use Rattle.table_stats.proofs.EqualValues.{alike_le, equal_back, equal_chain, equal_itself, is_equal}
 use Rattle.table_stats.proofs.FirstRows.{equal_firsts, first_has, first_there, same_first}
@@ -36,7 +36,7 @@ module _ (texts : List (List ℕ)) (differ : HaveDifferentCharacters texts) (kin
   abbrev pub number_of : ℕ → ℕ
   number_of cell = first_row cell_values (of_cell cell)
 
-  pub numbers_of_cells : numbered cell_values ≡ map number_of cells
+  pub numbers_of_cells : as_first_rows cell_values ≡ map number_of cells
   numbers_of_cells = map_both (first_row cell_values) of_cell number_of (λ cell. refl) cells
 
   is_cell : (cell : ℕ) → Contains cells cell → IsCell texts kind cell
@@ -65,7 +65,7 @@ module _ (texts : List (List ℕ)) (differ : HaveDifferentCharacters texts) (kin
 
   leaf_of_end : (value : Value) → leaf_of_value cell_values value ≡ leaf_in_cells texts kind cells value
   leaf_of_end value =
-      ap (λ (s : List ℕ). leaf_above (row_le cell_values) s (λ cut. value_le (value_of_row cell_values cut) value)) numbers_of_cells
+      ap (λ (s : List ℕ). last_leaf_where (row_le cell_values) s (λ cut. value_le (value_of_row cell_values cut) value)) numbers_of_cells
       ∙ leaf_is (cell_le texts kind) (row_le cell_values) number_of cells (λ cut. value_le (of_cell cut) value) (λ cut. value_le (value_of_row cell_values cut) value) keeps_order
       (pass_alike value)
 
@@ -120,10 +120,10 @@ module _ (texts : List (List ℕ)) (differ : HaveDifferentCharacters texts) (kin
 
   pairs : paired filter_of joined_of ≡ zip (map filter_number filter) (map joined_number joined)
   pairs =
-      ap (λ (s : List ℕ). zip s (numbered joined_of)) (numbers_of_cells texts differ kind filter are_filter)
+      ap (λ (s : List ℕ). zip s (as_first_rows joined_of)) (numbers_of_cells texts differ kind filter are_filter)
       ∙ ap (λ (s : List ℕ). zip (map filter_number filter) s) (numbers_of_cells texts differ other joined are_joined)
 
-  pub same_whole : compressed_degrees accuracy joined ≡ compressed_degrees accuracy (numbered joined_of)
+  pub same_whole : compressed_degrees accuracy joined ≡ compressed_degrees accuracy (as_first_rows joined_of)
   same_whole =
       sym (ap (compressed_degrees accuracy) (numbers_of_cells texts differ other joined are_joined) ∙ whole_is accuracy joined_number joined joined_apart)
 

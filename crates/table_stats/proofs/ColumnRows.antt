@@ -9,8 +9,8 @@ use Rattle.filtered_lists.specs.Standing.{value_in_row}
 use Rattle.level_bounds.proofs.Lists.{map_both}
 use Rattle.relabelling_laws.proofs.Rows.{columns_are}
 use Rattle.sql_meaning.specs.Tables.{Tables, row_counts}
-use Rattle.table_stats.specs.Keys.{TellsListed, TellsValues}
-use Rattle.table_stats.specs.Columns.{column_values, first_row, numbered, paired, value_of_row}
+use Rattle.table_stats.specs.Keys.{TellsListed, SeparatesValues}
+use Rattle.table_stats.specs.Columns.{column_values, first_row, as_first_rows, paired, value_of_row}
 use Rattle.table_stats.proofs.EqualValues.{equal_itself, is_equal}
 use Rattle.table_stats.proofs.FirstRows.{first_has, first_there, same_first}
 
@@ -21,7 +21,7 @@ module _ (values : List Value) where
   abbrev pub listed_number : ℕ → ℕ
   listed_number row = first_row values (value_of_row values row)
 
-  pub listed_numbers : numbered values ≡ map listed_number (range_with_len 0 (length values))
+  pub listed_numbers : as_first_rows values ≡ map listed_number (range_with_len 0 (length values))
   listed_numbers =
       ap (map (first_row values)) (fill_by_all (value_of_row values) values (length values) (Int (pos 0)) refl (λ row low. refl))
       ∙ map_both (first_row values) (value_of_row values) listed_number (λ row. refl) (range_with_len 0 (length values))
@@ -52,7 +52,7 @@ module _ (tables : Tables) (entry : ℕ) where
     pub height : length values ≡ row_count
     height = length-map-range_with_len value_at 0 row_count
 
-    pub numbers_are : numbered values ≡ map number_at rows
+    pub numbers_are : as_first_rows values ≡ map number_at rows
     numbers_are = map_both (first_row values) value_at number_at (λ row. refl) rows
 
     pub there : (row : ℕ) → row < row_count → value_of_row values row ≡ value_at row
@@ -74,17 +74,17 @@ module _ (tables : Tables) (entry : ℕ) where
 
   -- ---- a list `joined` with one value for each row of the table; it needn't be a column of the table
   module _ (joined : List Value) (long : length joined ≡ row_count) where
-    pub listed_numbers_are : numbered joined ≡ map (listed_number joined) rows
+    pub listed_numbers_are : as_first_rows joined ≡ map (listed_number joined) rows
     listed_numbers_are = listed_numbers joined ∙ ap (λ (n : ℕ). map (listed_number joined) (range_with_len 0 n)) long
 
     pub pairs_are : (column : ℕ) → paired (values column) joined ≡ zip (map (number_at column) rows) (map (listed_number joined) rows)
     pairs_are column =
-        ap (λ (s : List ℕ). zip s (numbered joined)) (numbers_are column)
+        ap (λ (s : List ℕ). zip s (as_first_rows joined)) (numbers_are column)
         ∙ ap (λ (s : List ℕ). zip (map (number_at column) rows) s) listed_numbers_are
 
-    pub filter_numbers : (column : ℕ) → filter_values (paired (values column) joined) ≡ numbered (values column)
+    pub filter_numbers : (column : ℕ) → filter_values (paired (values column) joined) ≡ as_first_rows (values column)
     filter_numbers column =
-        (columns_are (numbered (values column)) (numbered joined)
+        (columns_are (as_first_rows (values column)) (as_first_rows joined)
         (omega (
           arith,
           length-map (values column) (first_row (values column)),
@@ -93,7 +93,7 @@ module _ (tables : Tables) (entry : ℕ) where
           long,
         ))).0
 
-  pub listed_tell : (column : ℕ) (key : ℕ → ℕ) → TellsValues tables entry column key → TellsListed (values column) key
+  pub listed_tell : (column : ℕ) (key : ℕ → ℕ) → SeparatesValues tables entry column key → TellsListed (values column) key
   listed_tell column key tells row other low also =
       let below : row < row_count = omega (arith, low, height column) in
       let beside : other < row_count = omega (arith, also, height column) in

@@ -20,7 +20,7 @@ use Rattle.sql_meaning.specs.Tables.{cells_of, no_cells, row_counts, tables_of}
 use Rattle.sql_meaning.proofs.ColumnFacts.{column_at, value_at}
 use Rattle.sql_meaning.proofs.LoopFacts.{rows_are}
 use Rattle.table_stats.specs.Cells.{IsCellFor}
-use Rattle.table_stats.specs.Columns.{column_values, numbered}
+use Rattle.table_stats.specs.Columns.{column_values, as_first_rows}
 use Rattle.table_stats.specs.Statistics.{column_lists, list_between, list_with}
 use Rattle.table_stats.proofs.CellColumns.{same_equal, same_range, same_whole}
 
@@ -59,7 +59,7 @@ module _ (db : Database) (are : AreTables db) (differ : HaveDifferentCharacters 
     pub whole_is_same : compressed_degrees accuracy (column_at_all joined) ≡ (column_lists (tables_of db) accuracy entry joined).whole
     whole_is_same =
         same_whole db.pool differ (kind_at joined) (kind_at joined) (column_at_all joined) (column_at_all joined) (column_is joined has_joined).cells (column_is joined has_joined).cells accuracy
-        ∙ ap (λ (s : List Value). compressed_degrees accuracy (numbered s)) (values_are joined has_joined)
+        ∙ ap (λ (s : List Value). compressed_degrees accuracy (as_first_rows s)) (values_are joined has_joined)
 
     module _ (filter : ℕ) (has_filter : Exists filter) where
       pub equal_is_same : (value : Value) (cell : Option ℕ) → IsCellFor db.pool (kind_at filter) value cell

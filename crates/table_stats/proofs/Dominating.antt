@@ -22,8 +22,8 @@ use Rattle.relabelling_laws.specs.Relabelling.{AreEqualAlike}
 use Rattle.relabelling_laws.proofs.Dominated.{passing_dominated}
 use Rattle.relabelling_laws.proofs.Rows.{of_rows}
 use Rattle.sql_meaning.specs.Tables.{Tables, row_counts}
-use Rattle.table_stats.specs.Columns.{column_values, first_row, numbered, paired, row_le, value_of_row}
-use Rattle.table_stats.specs.Keys.{TellsListed, TellsValues}
+use Rattle.table_stats.specs.Columns.{column_values, first_row, as_first_rows, paired, row_le, value_of_row}
+use Rattle.table_stats.specs.Keys.{TellsListed, SeparatesValues}
 use Rattle.table_stats.specs.Statistics.{column_lists, end_leaf, lists_over}
 use Rattle.table_stats.proofs.ColumnRows.{filter_numbers, height, listed_below, listed_number, listed_numbers_are, listed_tell, number_at, number_has, pairs_are, row_count, rows, value_at, values}
 use Rattle.table_stats.proofs.EqualValues.{alike_le, equal_itself, is_equal, le_from_ge}
@@ -40,15 +40,15 @@ module _ (filter : List Value) where
   last_leaf high = unwrap_or (end_leaf filter high) 31
 
   abbrev pub leaf_at : ℕ → ℕ
-  leaf_at number = leaf_of (row_le filter) (numbered filter) number
+  leaf_at number = leaf_of (row_le filter) (as_first_rows filter) number
 
   first-small : (low : Option Value) → first_leaf low ≤ 31
   first-small None = omega arith
-  first-small (Some low) = leaf-below (row_le filter) (numbered filter) (λ cut. value_le (value_of_row filter cut) low)
+  first-small (Some low) = leaf-below (row_le filter) (as_first_rows filter) (λ cut. value_le (value_of_row filter cut) low)
 
   last-small : (high : Option Value) → last_leaf high ≤ 31
   last-small None = omega arith
-  last-small (Some high) = leaf-below (row_le filter) (numbered filter) (λ cut. value_le (value_of_row filter cut) high)
+  last-small (Some high) = leaf-below (row_le filter) (as_first_rows filter) (λ cut. value_le (value_of_row filter cut) high)
 
   module _ (number : ℕ) (value : Value) (has : is_equal (value_of_row filter number) value ≡ true) where
     from_first : (low : Option Value) → is_from low value ≡ true → first_leaf low ≤ leaf_at number
@@ -56,14 +56,14 @@ module _ (filter : List Value) where
     from_first (Some low) h = last_place-mono (λ cut. value_le (value_of_row filter cut) low) (λ cut. row_le filter cut number)
         (λ cut under. value_le-trans (value_of_row filter cut) low (value_of_row filter number) under
         (alike_le low low (value_of_row filter number) value (equal_itself low) has ∙ le_from_ge value low h))
-        (cuts (row_le filter) (numbered filter))
+        (cuts (row_le filter) (as_first_rows filter))
 
     up_to_last : (high : Option Value) → is_up_to high value ≡ true → leaf_at number ≤ last_leaf high
-    up_to_last None h = leaf-below (row_le filter) (numbered filter) (λ cut. row_le filter cut number)
+    up_to_last None h = leaf-below (row_le filter) (as_first_rows filter) (λ cut. row_le filter cut number)
     up_to_last (Some high) h = last_place-mono (λ cut. row_le filter cut number) (λ cut. value_le (value_of_row filter cut) high)
         (λ cut under. value_le-trans (value_of_row filter cut) (value_of_row filter number) high under
         (alike_le (value_of_row filter number) value high high has (equal_itself high) ∙ h))
-        (cuts (row_le filter) (numbered filter))
+        (cuts (row_le filter) (as_first_rows filter))
 
     pub in_their_node : (low high : Option Value) → is_from low value ≡ true → is_up_to high value ≡ true
         → in_node (node_size (first_leaf low) (last_leaf high)) (first_leaf low) (leaf_at number) ≡ true
@@ -77,11 +77,11 @@ module _ (tables : Tables) (accuracy entry : ℕ) (joined : List Value) (long : 
   abbrev pub joined_rows : (ℕ → Bool) → List ℕ
   joined_rows test = map (listed_number joined) (filter test (rows tables entry))
 
-  whole_dominates : DominatesKeys (compressed_degrees accuracy (numbered joined)) (joined_rows (λ row. true))
+  whole_dominates : DominatesKeys (compressed_degrees accuracy (as_first_rows joined)) (joined_rows (λ row. true))
   whole_dominates =
-      subst (DominatesKeys (compressed_degrees accuracy (numbered joined)))
+      subst (DominatesKeys (compressed_degrees accuracy (as_first_rows joined)))
       (listed_numbers_are tables entry joined long ∙ ap (map (listed_number joined)) (sym (all_pass (λ row. true) (rows tables entry))))
-      (compressed_dominates accuracy (numbered joined))
+      (compressed_dominates accuracy (as_first_rows joined))
 
   pairs_where : (column : ℕ) (passes : ℕ → Bool)
       → keys_where passes (paired (values tables entry column) joined) ≡ joined_rows (λ row. passes (number_at tables entry column row))
@@ -178,6 +178,6 @@ listed_stand tables accuracy entry joined key long tells =
       range = range_for_keys tables accuracy entry joined long key alike;
     }
 
-pub lists_stand : (tables : Tables) (accuracy entry column : ℕ) (key : ℕ → ℕ) → TellsValues tables entry column key → ListsStandFor (column_lists tables accuracy entry column) tables entry key
+pub lists_stand : (tables : Tables) (accuracy entry column : ℕ) (key : ℕ → ℕ) → SeparatesValues tables entry column key → ListsStandFor (column_lists tables accuracy entry column) tables entry key
 lists_stand tables accuracy entry column key tells =
     listed_stand tables accuracy entry (values tables entry column) key (height tables entry column) (listed_tell tables entry column key tells)

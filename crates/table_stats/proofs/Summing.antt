@@ -9,37 +9,37 @@ use Rattle.cond_stats.specs.Leaves.{in_node, leaf_of, node_size}
 use Rattle.cond_stats.specs.Lists.{compressed_degrees, greatest, is_frequent, keys_with, list_of_node, list_of_value, rest}
 use Rattle.cond_stats.specs.Rows.{filter_values, keys_where}
 use Rattle.cond_stats.proofs.Dominating.{rest-is, uncompressed_rest}
-use Rattle.cond_stats.proofs.Sums.{IsFalling-uncompressed_rest, sum-compressed_degrees, sum-list_of_node, sum-list_of_value, sum-rest}
+use Rattle.cond_stats.proofs.Sums.{IsDescending-uncompressed_rest, sum-compressed_degrees, sum-list_of_node, sum-list_of_value, sum-rest}
 use Rattle.degree_sequences.specs.Degrees.{degree, degree_list}
-use Rattle.degree_sequences.specs.Falling.{IsFalling}
-use Rattle.degree_sequences.proofs.CompressedLists.{IsFalling-compressed}
-use Rattle.degree_sequences.proofs.DegreeLists.{IsFalling-degree_list, places_fit}
+use Rattle.degree_sequences.specs.Descending.{IsDescending}
+use Rattle.degree_sequences.proofs.CompressedLists.{IsDescending-compressed}
+use Rattle.degree_sequences.proofs.DegreeLists.{IsDescending-degree_list, places_fit}
 use Rattle.degree_sequences.specs.Domination.{DominatesKeys}
 use Rattle.filtered_lists.specs.Lists.{ColumnLists}
 use Rattle.filtered_lists.specs.Ranges.{Range}
 use Rattle.filtered_lists.specs.Standing.{CountsStandFor, ListsFall, SumTo, has_value, is_in_range, rows_where}
 use Rattle.sql_meaning.specs.Tables.{Tables, row_counts}
-use Rattle.table_stats.specs.Columns.{first_row, numbered, paired, row_le}
+use Rattle.table_stats.specs.Columns.{first_row, as_first_rows, paired, row_le}
 use Rattle.table_stats.specs.Statistics.{column_lists, count_with, entry_counts, lists_over}
 use Rattle.table_stats.proofs.ColumnRows.{filter_numbers, height, listed_number, values}
 use Rattle.table_stats.proofs.Dominating.{equal_for_keys, first_leaf, last_leaf, range_for_keys}
 
 -- ---- lists are in descending order
 
-compressed-falls : (accuracy : ℕ) (keys : List ℕ) → IsFalling (compressed_degrees accuracy keys)
-compressed-falls accuracy keys = IsFalling-compressed accuracy (degree_list keys) (IsFalling-degree_list keys)
+compressed-falls : (accuracy : ℕ) (keys : List ℕ) → IsDescending (compressed_degrees accuracy keys)
+compressed-falls accuracy keys = IsDescending-compressed accuracy (degree_list keys) (IsDescending-degree_list keys)
 
-rest-falls : (accuracy : ℕ) (pairs : List (ℕ × ℕ)) → IsFalling (rest accuracy pairs)
+rest-falls : (accuracy : ℕ) (pairs : List (ℕ × ℕ)) → IsDescending (rest accuracy pairs)
 rest-falls accuracy pairs =
-    subst IsFalling (sym (rest-is accuracy pairs)) (IsFalling-compressed accuracy (uncompressed_rest pairs) (IsFalling-uncompressed_rest pairs))
+    subst IsDescending (sym (rest-is accuracy pairs)) (IsDescending-compressed accuracy (uncompressed_rest pairs) (IsDescending-uncompressed_rest pairs))
 
-value-falls : (accuracy : ℕ) (pairs : List (ℕ × ℕ)) (value : ℕ) → IsFalling (list_of_value accuracy pairs (Some value))
+value-falls : (accuracy : ℕ) (pairs : List (ℕ × ℕ)) (value : ℕ) → IsDescending (list_of_value accuracy pairs (Some value))
 unfolding list_of_value
 value-falls accuracy pairs value =
-    cond_both (is_frequent pairs value) (compressed_degrees accuracy (keys_with value pairs)) (rest accuracy pairs) IsFalling
+    cond_both (is_frequent pairs value) (compressed_degrees accuracy (keys_with value pairs)) (rest accuracy pairs) IsDescending
     (λ e. compressed-falls accuracy (keys_with value pairs)) (λ e. rest-falls accuracy pairs)
 
-node-falls : (at_most : ℕ → ℕ → Bool) (accuracy : ℕ) (pairs : List (ℕ × ℕ)) (size leaf : ℕ) → IsFalling (list_of_node at_most accuracy pairs size leaf)
+node-falls : (at_most : ℕ → ℕ → Bool) (accuracy : ℕ) (pairs : List (ℕ × ℕ)) (size leaf : ℕ) → IsDescending (list_of_node at_most accuracy pairs size leaf)
 unfolding list_of_node
 node-falls at_most accuracy pairs size leaf =
     compressed-falls accuracy (keys_where (λ value. in_node size leaf (leaf_of at_most (filter_values pairs) value)) pairs)
@@ -50,7 +50,7 @@ module _ (tables : Tables) (accuracy entry : ℕ) (joined : List Value) where
 
   pub listed_fall : ListsFall (lists_over accuracy (values tables entry) joined)
   listed_fall = record {
-    whole = compressed-falls accuracy (numbered joined);
+    whole = compressed-falls accuracy (as_first_rows joined);
     equal = λ column value. value-falls accuracy (pairs column) (first_row (values tables entry column) value);
     range = λ range. node-falls (row_le (values tables entry range.column)) accuracy (pairs range.column)
         (node_size (first_leaf (values tables entry range.column) range.low) (last_leaf (values tables entry range.column) range.high))
@@ -83,7 +83,7 @@ module _ (tables : Tables) (accuracy entry : ℕ) (joined : List Value) where
 
     pub listed_sum : SumTo (lists_over accuracy (values tables entry) joined) (entry_counts tables entry)
     listed_sum = record {
-      whole = sum-compressed_degrees accuracy (numbered joined)
+      whole = sum-compressed_degrees accuracy (as_first_rows joined)
           ∙ length-map joined (first_row joined) ∙ long;
       equal = equal_sum;
       range = range_sum;
@@ -91,8 +91,8 @@ module _ (tables : Tables) (accuracy entry : ℕ) (joined : List Value) where
 
 -- ---- the lists of an entry's columns
 
-pub lists_fall : (tables : Tables) (accuracy entry joined : ℕ) → ListsFall (column_lists tables accuracy entry joined)
-lists_fall tables accuracy entry joined = listed_fall tables accuracy entry (values tables entry joined)
+pub lists_descend : (tables : Tables) (accuracy entry joined : ℕ) → ListsFall (column_lists tables accuracy entry joined)
+lists_descend tables accuracy entry joined = listed_fall tables accuracy entry (values tables entry joined)
 
 pub lists_sum : (tables : Tables) (accuracy entry joined : ℕ) → SumTo (column_lists tables accuracy entry joined) (entry_counts tables entry)
 lists_sum tables accuracy entry joined = listed_sum tables accuracy entry (values tables entry joined) (height tables entry joined)

@@ -11,7 +11,7 @@ use Rattle.berge_tree.specs.declared.edges.Edge.{Edge}
 use Rattle.csv_tables.specs.Values.{Value, Int, Text}
 use Rattle.level_bounds.specs.Keys.{AreKeys, Keys, value_at}
 use Rattle.sql_meaning.specs.Tables.{Tables}
-use Rattle.table_stats.specs.Keys.{TellsValues}
+use Rattle.table_stats.specs.Keys.{SeparatesValues}
 use Rattle.table_stats.proofs.EqualValues.{equal_order, is_equal}
 
 -- ---- a number for a list of numbers
@@ -87,7 +87,7 @@ module _ (tables : Tables) where
   value_key : Keys
   value_key entry column row = number_of_value (value_at tables entry column row)
 
-  tells : (entry column : ℕ) → TellsValues tables entry column (value_key entry column)
+  tells : (entry column : ℕ) → SeparatesValues tables entry column (value_key entry column)
   unfolding value_key
   tells entry column row other low also = (
     one_number_equal_values (value_at tables entry column row) (value_at tables entry column other),
@@ -103,5 +103,5 @@ module _ (tables : Tables) where
     are_keys es,
   )
 
-  pub have_keys : (key : Keys) × ((entry column : ℕ) → TellsValues tables entry column (key entry column)) × ((es : List Edge) → AreKeys tables key es)
+  pub have_keys : (key : Keys) × ((entry column : ℕ) → SeparatesValues tables entry column (key entry column)) × ((es : List Edge) → AreKeys tables key es)
   have_keys = (value_key, tells, are_keys)

@@ -4,7 +4,7 @@ use Rattle.std.specs.List.{position_or_len, range_with_len, zip}
 use Rattle.std.specs.Ordering.{is_eq}
 use Rattle.csv_tables.specs.Values.{Value, Int, value_cmp}
 use Rattle.cond_stats.specs.Columns.{value_le}
-use Rattle.cond_stats.specs.Leaves.{leaf_above}
+use Rattle.cond_stats.specs.Leaves.{last_leaf_where}
 use Rattle.filtered_lists.specs.Standing.{value_in_row}
 use Rattle.sql_meaning.specs.Tables.{Tables, row_counts}
 
@@ -17,8 +17,8 @@ abbrev pub first_row : List Value → Value → ℕ
 first_row values value = position_or_len (λ other. is_eq (value_cmp other value)) values
 
 -- the column as the numbers of its values, row by row
-abbrev pub numbered : List Value → List ℕ
-numbered values = map (first_row values) values
+abbrev pub as_first_rows : List Value → List ℕ
+as_first_rows values = map (first_row values) values
 
 -- the value of a row
 abbrev pub value_of_row : List Value → ℕ → Value
@@ -30,8 +30,8 @@ row_le values row other = value_le (value_of_row values row) (value_of_row value
 
 -- the leaf of any value, also of one that no row has: the last leaf whose cut is at most the value, or leaf 0 if there is none
 abbrev pub leaf_of_value : List Value → Value → ℕ
-leaf_of_value values value = leaf_above (row_le values) (numbered values) (λ cut. value_le (value_of_row values cut) value)
+leaf_of_value values value = last_leaf_where (row_le values) (as_first_rows values) (λ cut. value_le (value_of_row values cut) value)
 
 -- the numbers of a filter column and a joined column, as one pair for each row
 abbrev pub paired : List Value → List Value → List (ℕ × ℕ)
-paired filter joined = zip (numbered filter) (numbered joined)
+paired filter joined = zip (as_first_rows filter) (as_first_rows joined)

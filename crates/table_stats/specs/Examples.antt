@@ -17,5 +17,5 @@ abbrev pub column_of_six : List Value
 column_of_six = column_values table_of_six 0 0
 
 -- a table without rows
-abbrev pub table_of_none : Tables
-table_of_none entry = []
+abbrev pub table_without_rows : Tables
+table_without_rows entry = []

@@ -7,8 +7,8 @@ use Rattle.sql_meaning.specs.Tables.{Tables, row_counts}
 use Rattle.table_stats.specs.Columns.{value_of_row}
 
 -- two rows of an entry's table have the same key exactly if their values in the column are equal
-abbrev pub TellsValues : Tables → ℕ → ℕ → (ℕ → ℕ) → Type 0
-TellsValues tables entry column key = (row other : ℕ) → row < row_counts tables entry → other < row_counts tables entry
+abbrev pub SeparatesValues : Tables → ℕ → ℕ → (ℕ → ℕ) → Type 0
+SeparatesValues tables entry column key = (row other : ℕ) → row < row_counts tables entry → other < row_counts tables entry
     → (key row ≡ key other) ↔ (is_eq (value_cmp (value_in_row tables entry column row) (value_in_row tables entry column other)) ≡ true)
 
 -- two rows have the same key exactly if the elements of the list at these rows are equal

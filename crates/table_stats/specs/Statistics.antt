@@ -8,7 +8,7 @@ use Rattle.cond_stats.specs.Lists.{compressed_degrees, greatest, list_of_range, 
 use Rattle.degree_sequences.specs.Degrees.{degree}
 use Rattle.filtered_lists.specs.Lists.{ColumnLists, RowCounts}
 use Rattle.sql_meaning.specs.Tables.{Tables, row_counts}
-use Rattle.table_stats.specs.Columns.{column_values, first_row, leaf_of_value, numbered, paired, row_le}
+use Rattle.table_stats.specs.Columns.{column_values, first_row, leaf_of_value, as_first_rows, paired, row_le}
 
 -- the leaf of a value that ends a range, if the range has an end on this side
 abbrev pub end_leaf : List Value → Option Value → Option ℕ
@@ -29,7 +29,7 @@ list_between accuracy filter joined low high =
 -- the lists of a joined column at an accuracy. `filters` gives the values of each filter column in the same rows
 abbrev pub lists_over : ℕ → (ℕ → List Value) → List Value → ColumnLists
 lists_over accuracy filters joined = record {
-  whole = compressed_degrees accuracy (numbered joined);
+  whole = compressed_degrees accuracy (as_first_rows joined);
   equal = λ column value. list_with accuracy (filters column) joined value;
   range = λ range. list_between accuracy (filters range.column) joined range.low range.high;
 }
@@ -43,14 +43,14 @@ column_lists tables accuracy entry joined = lists_over accuracy (column_values t
 -- the number of rows with this value if the value is frequent, otherwise the number of rows of the most frequent value among the others
 abbrev pub count_with : List Value → Value → ℕ
 count_with filter value =
-    if list_any (λ other. other == first_row filter value) (frequent (numbered filter))
-    then degree (numbered filter) (first_row filter value)
-    else greatest (map (degree (numbered filter)) (remaining (numbered filter)))
+    if list_any (λ other. other == first_row filter value) (frequent (as_first_rows filter))
+    then degree (as_first_rows filter) (first_row filter value)
+    else greatest (map (degree (as_first_rows filter)) (remaining (as_first_rows filter)))
 
 -- the number of rows whose leaf is in the least node that has the leaves `first` and `last`
 abbrev pub count_in_node : List Value → ℕ → ℕ → ℕ
 count_in_node filter first last =
-    count_by (λ number. in_node (node_size first last) first (leaf_of (row_le filter) (numbered filter) number)) (numbered filter)
+    count_by (λ number. in_node (node_size first last) first (leaf_of (row_le filter) (as_first_rows filter) number)) (as_first_rows filter)
 
 -- the number of rows in the node of a range: without a low end the range begins in leaf 0, without a high end it ends in leaf 31
 abbrev pub count_between : List Value → Option Value → Option Value → ℕ

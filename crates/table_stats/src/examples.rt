@@ -1,13 +1,13 @@
 //! The statistics of a small table, as theorems that are proved by computation.
 ghost use Rattle.std.specs.Prelude.{◌≡◌, ◌∷◌, [], map, None, Some};
 ghost use Rattle.filtered_lists.specs.Examples.{range_x, six_rows, value};
-ghost use Rattle.table_stats.specs.Columns.{leaf_of_value, numbered};
-ghost use Rattle.table_stats.specs.Examples.{column_of_six, table_of_none, table_of_six};
+ghost use Rattle.table_stats.specs.Columns.{leaf_of_value, as_first_rows};
+ghost use Rattle.table_stats.specs.Examples.{column_of_six, table_without_rows, table_of_six};
 ghost use Rattle.table_stats.specs.Statistics.{column_lists, entry_counts};
 
 /// The numbers and the leaves of a column X with the values 1, 1, 1, 2, 2, 3. The value 0 is below each cut and has leaf 0.
 pub fn columns()
-    ensures numbers { numbered column_of_six ≡ 0 ∷ 0 ∷ 0 ∷ 3 ∷ 3 ∷ 5 ∷ [] }
+    ensures numbers { as_first_rows column_of_six ≡ 0 ∷ 0 ∷ 0 ∷ 3 ∷ 3 ∷ 5 ∷ [] }
     ensures leaves { map (leaf_of_value column_of_six) (value 1 ∷ value 2 ∷ value 3 ∷ []) ≡ 15 ∷ 26 ∷ 31 ∷ [] }
     ensures others { map (leaf_of_value column_of_six) (value 0 ∷ value 9 ∷ []) ≡ 0 ∷ 31 ∷ [] }
 {}
@@ -24,7 +24,7 @@ pub fn lists()
         ≡ (3 ∷ []) ∷ (1 ∷ []) ∷ (3 ∷ 3 ∷ []) ∷ [] }
     // from 3 to 1: leaves 31 and 15 lie in the node of all leaves
     ensures crossed { (column_lists table_of_six 1 0 0).range (range_x (Some (value 3)) (Some (value 1))) ≡ 3 ∷ 3 ∷ [] }
-    ensures no_rows { let none = column_lists table_of_none 1 0 0 in
+    ensures no_rows { let none = column_lists table_without_rows 1 0 0 in
         none.whole ∷ none.equal 0 (value 1) ∷ none.range (range_x (Some (value 1)) None) ∷ [] ≡ [] ∷ [] ∷ [] ∷ [] }
 {}
 

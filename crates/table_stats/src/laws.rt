@@ -13,12 +13,12 @@ ghost use Rattle.sql_meaning.specs.Databases.{AreTables, IsColumnOf};
 ghost use Rattle.sql_meaning.specs.Tables.{Tables, row_counts, tables_of};
 ghost use Rattle.table_stats.specs.Cells.{IsCellFor, cells_of_column, kind_of_column};
 ghost use Rattle.table_stats.specs.Columns.{column_values};
-ghost use Rattle.table_stats.specs.Keys.{TellsListed, TellsValues};
+ghost use Rattle.table_stats.specs.Keys.{TellsListed, SeparatesValues};
 ghost use Rattle.table_stats.specs.Statistics.{column_lists, entry_counts, lists_over};
 
 /// The lists and the numbers of rows stand for the tables. This is so for any keys that tell which values of the joined column are equal.
 pub fn statistics_stand_for_tables()
-    ensures lists { (tables : Tables) (accuracy entry column : ℕ) (key : ℕ → ℕ) → TellsValues tables entry column key
+    ensures lists { (tables : Tables) (accuracy entry column : ℕ) (key : ℕ → ℕ) → SeparatesValues tables entry column key
         → ListsStandFor (column_lists tables accuracy entry column) tables entry key }
     ensures counts { (tables : Tables) (entry : ℕ) → CountsStandFor (entry_counts tables entry) tables entry }
     // the joined values needn't be a column of the table: any list with one value for each of its rows will do
@@ -40,7 +40,7 @@ pub fn lists_sum_to_counts()
 
 /// Keys exist: a number for each row of each table in each column, and two keys are equal exactly if the values are.
 pub fn tables_have_keys()
-    ensures { (tables : Tables) → (key : Keys) × ((entry column : ℕ) → TellsValues tables entry column (key entry column))
+    ensures { (tables : Tables) → (key : Keys) × ((entry column : ℕ) → SeparatesValues tables entry column (key entry column))
         × ((es : List Edge) → AreKeys tables key es) }
 {}
 

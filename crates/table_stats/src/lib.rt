@@ -5,7 +5,7 @@
 //! that has the value. Two laws say that columns of cells have the same lists, and that the lists stand for the tables.
 //!
 //! In: tables as lists of rows. Out: definitions and laws; nothing here runs. Callers cite `column_lists` and `entry_counts` (in
-//! `specs/Statistics.antt`) for the statistics, and `TellsValues` (in `specs/Keys.antt`) for keys of rows. For the cell of a literal they cite
+//! `specs/Statistics.antt`) for the statistics, and `SeparatesValues` (in `specs/Keys.antt`) for keys of rows. For the cell of a literal they cite
 //! `IsCellFor` (in `specs/Cells.antt`). `laws` has the laws, and `examples` works out a table of six rows.
 #![tactic(auto)]
 

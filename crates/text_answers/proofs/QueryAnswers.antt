@@ -20,24 +20,24 @@ use Rattle.query_names.specs.declared.errors.QueryError.TheVariants as error
 use Rattle.query_names.specs.Names.{entries}
 use Rattle.query_names.specs.Offences.{name_offences, all_kind_offences}
 use Rattle.query_names.specs.Values.{query_of}
-use Rattle.sql_parse.specs.QueryOrRefusal.{refusal, over, first_list, limit_refusals, first_place, name_error, kind_error, long_lists, refusals, unless, query_or_refusal}
+use Rattle.sql_parse.specs.QueryOrRefusal.{refusal, over, first_list, limit_refusals, refusal_at_first, name_error, kind_error, long_lists, refusals, unless, query_or_refusal}
 use Rattle.query_names.specs.Numbers.{number_offences}
 use Rattle.sql_parse.specs.Reading.{lexemes_of, most_nesting, unless_number, IsAnswer}
 use Rattle.sql_parse.proofs.OneAnswer.{one_answer}
 use Rattle.sql_parse.proofs.AnswerOfSchema.{answer_of_schema}
-use Rattle.text_answers.specs.Stages.{after, tokens_of}
+use Rattle.text_answers.specs.Stages.{or_refused_at, tokens_of}
 use Rattle.text_answers.specs.QueryTexts.{syntax, syntax_tree_of, spelled_answer, nested_answer, query_answer}
-use Rattle.text_answers.proofs.Tokens.{AreTold, are_told}
-use Rattle.text_answers.proofs.Spellings.{IsSpelling, is_spelling}
+use Rattle.text_answers.proofs.Tokens.{AreTokensOrPlace, are_told}
+use Rattle.text_answers.proofs.Spellings.{SpellsOrGoesWrong, is_spelling}
 
-trees_told : (text_len : ℕ) (tokens : List Lexeme) → IsSpelling QuerySpecification tokens text_len (syntax_tree_of text_len tokens)
+trees_told : (text_len : ℕ) (tokens : List Lexeme) → SpellsOrGoesWrong QuerySpecification tokens text_len (syntax_tree_of text_len tokens)
 unfolding syntax_tree_of
 trees_told text_len tokens = is_spelling reads_queries tokens text_len
 
 -- ---- the computed answer is allowed
 
 module _ (schema : Schema) (text : List ℕ) where
-  spelled_allowed : (tokens : List Token) (tree : Result QueryNode ℕ) → IsLexed text tokens → nesting (lexemes_of text tokens) ≤ most_nesting → IsSpelling QuerySpecification (lexemes_of text tokens) (length text) tree
+  spelled_allowed : (tokens : List Token) (tree : Result QueryNode ℕ) → IsLexed text tokens → nesting (lexemes_of text tokens) ≤ most_nesting → SpellsOrGoesWrong QuerySpecification (lexemes_of text tokens) (length text) tree
       → IsAnswer schema text (spelled_answer schema text (lexemes_of text tokens) tree)
   spelled_allowed tokens (Ok tree) lexed shallow spelled = inr (inr (inr (inr (record { tokens = tokens; lexed = lexed; shallow = shallow; tree = tree; spelled = spelled; answered = refl }))))
   spelled_allowed tokens (Err at) lexed shallow wrong = inr (inr (inr (inl (record { tokens = tokens; lexed = lexed; shallow = shallow; place = at; wrong = wrong; refused = refl }))))
@@ -51,7 +51,7 @@ module _ (schema : Schema) (text : List ℕ) where
     by false e =
         spelled_allowed tokens (syntax_tree_of (length text) (lexemes_of text tokens)) lexed (ltb-false most_nesting (nesting (lexemes_of text tokens)) e) (trees_told (length text) (lexemes_of text tokens))
 
-  lexed_allowed : (tokens : Result (List Token) ℕ) → AreTold text tokens → IsAnswer schema text (after syntax tokens (λ tokens. nested_answer schema text (lexemes_of text tokens)))
+  lexed_allowed : (tokens : Result (List Token) ℕ) → AreTokensOrPlace text tokens → IsAnswer schema text (or_refused_at syntax tokens (λ tokens. nested_answer schema text (lexemes_of text tokens)))
   lexed_allowed (Ok tokens) lexed = nested_allowed tokens lexed
   lexed_allowed (Err at) bad = inr (inl (record { place = at; bad = bad; refused = refl }))
 
@@ -69,7 +69,7 @@ both_begin : (front rest : List QueryError) → BeginsWell front → BeginsWell 
 both_begin [] rest h k = k
 both_begin (wrong ∷ front) rest h k = h
 
-places_begin : (wrong : ℕ → QueryError) (places : List ℕ) → ((n : ℕ) → wrong n ≢ error.NoMemory) → BeginsWell (first_place wrong places)
+places_begin : (wrong : ℕ → QueryError) (places : List ℕ) → ((n : ℕ) → wrong n ≢ error.NoMemory) → BeginsWell (refusal_at_first wrong places)
 places_begin wrong [] none = tt
 places_begin wrong (place ∷ rest) none = none place
 
@@ -98,8 +98,8 @@ refusals_begin : (schema : Schema) (text : List ℕ) (tree : QueryNode) → Begi
 unfolding refusals
 refusals_begin schema text tree =
     let from = entries schema text tree in
-    let names = first_place name_error (name_offences schema text from tree) in
-    let kinds = first_place kind_error (all_kind_offences schema text from tree) in
+    let names = refusal_at_first name_error (name_offences schema text from tree) in
+    let kinds = refusal_at_first kind_error (all_kind_offences schema text from tree) in
     both_begin (names ++ kinds) (limit_refusals (query_of schema text tree) (long_lists from tree))
     (both_begin names kinds (places_begin name_error (name_offences schema text from tree) (λ n e. cc)) (places_begin kind_error (all_kind_offences schema text from tree) (λ n e. cc)))
     (limits_begin (query_of schema text tree) (long_lists from tree))
@@ -128,7 +128,7 @@ module _ (schema : Schema) (text : List ℕ) where
     by true = λ e. cc
     by false = spelled_not_memory tokens (syntax_tree_of (length text) tokens)
 
-  lexed_not_memory : (tokens : Result (List Token) ℕ) → after syntax tokens (λ tokens. nested_answer schema text (lexemes_of text tokens)) ≢ Err error.NoMemory
+  lexed_not_memory : (tokens : Result (List Token) ℕ) → or_refused_at syntax tokens (λ tokens. nested_answer schema text (lexemes_of text tokens)) ≢ Err error.NoMemory
   lexed_not_memory (Ok tokens) = nested_not_memory (lexemes_of text tokens)
   lexed_not_memory (Err at) = λ e. cc
 

@@ -9,7 +9,7 @@ use Rattle.query_names.specs.declared.errors.QueryError.{QueryError}
 use Rattle.query_names.specs.Names.{entries}
 use Rattle.query_names.specs.Offences.{name_offences, all_kind_offences}
 use Rattle.query_names.specs.Values.{query_of}
-use Rattle.sql_parse.specs.QueryOrRefusal.{over, first_list, limit_refusals, first_place, name_error, kind_error, long_lists, refusals, query_or_refusal}
+use Rattle.sql_parse.specs.QueryOrRefusal.{over, first_list, limit_refusals, refusal_at_first, name_error, kind_error, long_lists, refusals, query_or_refusal}
 use Rattle.query_names.specs.Numbers.{number_offences}
 use Rattle.sql_parse.specs.Reading.{lexemes_of, IsAnswer}
 use Rattle.sql_parse.proofs.AnswerOfSchema.{none_before, none_behind, unless_ok, unless_number_ok}
@@ -37,8 +37,8 @@ kept query lists none =
 bound_keeps : (schema : Schema) (text : List ℕ) (tree : QueryNode) (query : Query) → query_or_refusal schema text tree ≡ Ok query → KeepsLimits query
 unfolding query_or_refusal refusals
 bound_keeps schema text tree query is =
-    let names : List QueryError = first_place name_error (name_offences schema text (entries schema text tree) tree) in
-    let kinds : List QueryError = first_place kind_error (all_kind_offences schema text (entries schema text tree) tree) in
+    let names : List QueryError = refusal_at_first name_error (name_offences schema text (entries schema text tree) tree) in
+    let kinds : List QueryError = refusal_at_first kind_error (all_kind_offences schema text (entries schema text tree) tree) in
     let made : Query = query_of schema text tree in
     let limits : List QueryError = limit_refusals made (long_lists (entries schema text tree) tree) in
     let parts : (refusals schema text tree ≡ []) × (made ≡ query) = unless_ok (refusals schema text tree) made query is in

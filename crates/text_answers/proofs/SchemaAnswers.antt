@@ -14,15 +14,15 @@ use Rattle.schema_types.specs.declared.types.Schema.{Schema}
 use Rattle.schema_types.specs.Meaning.{unless_found, within_limits, schema_or_refusal}
 use Rattle.schema_types.specs.Names.{first}
 use Rattle.schema_types.specs.Offences.{offences}
-use Rattle.schema_types.specs.Refusals.{nullable_places, above, in_64_bits, column_counts, text_lengths}
+use Rattle.schema_types.specs.Refusals.{nullable_offsets, above, in_64_bits, column_counts, text_lengths}
 use Rattle.schema_types.specs.Texts.{Spells, IsSchemaOf}
 use Rattle.schema_types.specs.Validity.{IsValid}
 use Rattle.schema_types.proofs.OneAnswer.{one_answer}
 use Rattle.schema_types.proofs.Valid.{declares_valid}
-use Rattle.text_answers.specs.Stages.{after, tokens_of}
+use Rattle.text_answers.specs.Stages.{or_refused_at, tokens_of}
 use Rattle.text_answers.specs.SchemaTexts.{syntax, tables_of, schema_answer}
-use Rattle.text_answers.proofs.Tokens.{AreTold, are_told}
-use Rattle.text_answers.proofs.Spellings.{IsSpelling, is_spelling}
+use Rattle.text_answers.proofs.Tokens.{AreTokensOrPlace, are_told}
+use Rattle.text_answers.proofs.Spellings.{SpellsOrGoesWrong, is_spelling}
 
 -- ---- the tables of a text give a schema, or a refusal for names, for nullable columns or for limits
 
@@ -49,7 +49,7 @@ bound_declared : (text : List ℕ) (tables : List TableNode) → IsDeclared (sch
 unfolding schema_or_refusal
 bound_declared text tables =
     unless_declared (first (offences text tables)) (λ at. error.Name at) _ (λ n. tt)
-    (unless_declared (first (nullable_places text tables)) (λ at. error.Nullable at) _ (λ n. tt) (within_declared text tables _ tt))
+    (unless_declared (first (nullable_offsets text tables)) (λ at. error.Nullable at) _ (λ n. tt) (within_declared text tables _ tt))
 
 -- ---- the computed answer is allowed
 
@@ -61,16 +61,16 @@ declared_allowed text tables (Err (error.Limit which found)) spells e is = recor
 declared_allowed text tables (Err (error.Syntax at)) spells e is = absurd is
 declared_allowed text tables (Err error.NoMemory) spells e is = absurd is
 
-tables_told : (text : List ℕ) (tokens : List Token) → IsSpelling SchemaText (map (lexeme_of text) tokens) (length text) (tables_of text tokens)
+tables_told : (text : List ℕ) (tokens : List Token) → SpellsOrGoesWrong SchemaText (map (lexeme_of text) tokens) (length text) (tables_of text tokens)
 unfolding tables_of
 tables_told text tokens = is_spelling reads_all_tables (map (lexeme_of text) tokens) (length text)
 
-spelled_allowed : (text : List ℕ) (tokens : List Token) (tables : Result (List TableNode) ℕ) → IsLexed text tokens → IsSpelling SchemaText (map (lexeme_of text) tokens) (length text) tables
-    → IsSchemaOf text (after syntax tables (schema_or_refusal text))
+spelled_allowed : (text : List ℕ) (tokens : List Token) (tables : Result (List TableNode) ℕ) → IsLexed text tokens → SpellsOrGoesWrong SchemaText (map (lexeme_of text) tokens) (length text) tables
+    → IsSchemaOf text (or_refused_at syntax tables (schema_or_refusal text))
 spelled_allowed text tokens (Ok tables) lexed spelled = declared_allowed text tables (schema_or_refusal text tables) (record { tokens = tokens; lexed = lexed; spelled = spelled }) refl (bound_declared text tables)
 spelled_allowed text tokens (Err at) lexed place = inr (record { tokens = tokens; lexed = lexed; place = place })
 
-lexed_allowed : (text : List ℕ) (tokens : Result (List Token) ℕ) → AreTold text tokens → IsSchemaOf text (after syntax tokens (λ tokens. after syntax (tables_of text tokens) (schema_or_refusal text)))
+lexed_allowed : (text : List ℕ) (tokens : Result (List Token) ℕ) → AreTokensOrPlace text tokens → IsSchemaOf text (or_refused_at syntax tokens (λ tokens. or_refused_at syntax (tables_of text tokens) (schema_or_refusal text)))
 lexed_allowed text (Ok tokens) lexed = spelled_allowed text tokens (tables_of text tokens) lexed (tables_told text tokens)
 lexed_allowed text (Err at) bad = inl bad
 
@@ -83,11 +83,11 @@ allowed text = lexed_allowed text (tokens_of text) (are_told text)
 not_memory : (answer : Result Schema SchemaError) → IsDeclared answer → answer ≢ Err error.NoMemory
 not_memory answer is e = subst IsDeclared e is
 
-spelled_not_memory : (text : List ℕ) (tables : Result (List TableNode) ℕ) → after syntax tables (schema_or_refusal text) ≢ Err error.NoMemory
+spelled_not_memory : (text : List ℕ) (tables : Result (List TableNode) ℕ) → or_refused_at syntax tables (schema_or_refusal text) ≢ Err error.NoMemory
 spelled_not_memory text (Ok tables) e = not_memory (schema_or_refusal text tables) (bound_declared text tables) e
 spelled_not_memory text (Err at) e = cc
 
-lexed_not_memory : (text : List ℕ) (tokens : Result (List Token) ℕ) → after syntax tokens (λ tokens. after syntax (tables_of text tokens) (schema_or_refusal text)) ≢ Err error.NoMemory
+lexed_not_memory : (text : List ℕ) (tokens : Result (List Token) ℕ) → or_refused_at syntax tokens (λ tokens. or_refused_at syntax (tables_of text tokens) (schema_or_refusal text)) ≢ Err error.NoMemory
 lexed_not_memory text (Ok tokens) e = spelled_not_memory text (tables_of text tokens) e
 lexed_not_memory text (Err at) e = cc
 
@@ -97,16 +97,16 @@ never_memory text = lexed_not_memory text (tokens_of text)
 
 -- ---- no other answer is allowed
 
-wants_memory : (answer : Result Schema SchemaError) → (answer ≡ Err error.NoMemory) ⊎ (answer ≢ Err error.NoMemory)
-wants_memory (Ok schema) = inr (λ e. cc)
-wants_memory (Err (error.Syntax at)) = inr (λ e. cc)
-wants_memory (Err (error.Name at)) = inr (λ e. cc)
-wants_memory (Err (error.Nullable at)) = inr (λ e. cc)
-wants_memory (Err (error.Limit which found)) = inr (λ e. cc)
-wants_memory (Err error.NoMemory) = inl refl
+no_memory_or_not : (answer : Result Schema SchemaError) → (answer ≡ Err error.NoMemory) ⊎ (answer ≢ Err error.NoMemory)
+no_memory_or_not (Ok schema) = inr (λ e. cc)
+no_memory_or_not (Err (error.Syntax at)) = inr (λ e. cc)
+no_memory_or_not (Err (error.Name at)) = inr (λ e. cc)
+no_memory_or_not (Err (error.Nullable at)) = inr (λ e. cc)
+no_memory_or_not (Err (error.Limit which found)) = inr (λ e. cc)
+no_memory_or_not (Err error.NoMemory) = inl refl
 
 pub only : (text : List ℕ) (answer : Result Schema SchemaError) → IsSchemaOf text answer → (answer ≡ Err error.NoMemory) ⊎ (answer ≡ schema_answer text)
-only text answer is = by (wants_memory answer) where
+only text answer is = by (no_memory_or_not answer) where
   by : (answer ≡ Err error.NoMemory) ⊎ (answer ≢ Err error.NoMemory) → (answer ≡ Err error.NoMemory) ⊎ (answer ≡ schema_answer text)
   by (inl memory) = inl memory
   by (inr some) = inr (one_answer text answer (schema_answer text) is (allowed text) some (never_memory text))

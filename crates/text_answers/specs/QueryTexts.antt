@@ -13,7 +13,7 @@ use Rattle.query_names.specs.declared.errors.QueryError.TheVariants as error
 use Rattle.sql_parse.specs.QueryOrRefusal.{query_or_refusal, refusal}
 use Rattle.query_names.specs.Numbers.{number_offences}
 use Rattle.sql_parse.specs.Reading.{lexemes_of, most_nesting, least, unless_number}
-use Rattle.text_answers.specs.Stages.{after, tokens_of, parsed}
+use Rattle.text_answers.specs.Stages.{or_refused_at, tokens_of, parsed}
 
 abbrev pub syntax : ℕ → QueryError
 syntax at = error.Syntax at
@@ -37,4 +37,4 @@ module _ (schema : Schema) (text : List ℕ) where
 
   -- the query of a text, or its first refusal, tested in this order: Syntax of tokens, nesting, Syntax of the grammar, then Name, Kind and Limit
   unfoldable pub query_answer : Result Query QueryError
-  query_answer = after syntax (tokens_of text) (λ tokens. nested_answer (lexemes_of text tokens))
+  query_answer = or_refused_at syntax (tokens_of text) (λ tokens. nested_answer (lexemes_of text tokens))

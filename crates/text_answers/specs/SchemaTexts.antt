@@ -8,7 +8,7 @@ use Rattle.schema_types.specs.declared.errors.SchemaError.{SchemaError}
 use Rattle.schema_types.specs.declared.errors.SchemaError.TheVariants as error
 use Rattle.schema_types.specs.declared.types.Schema.{Schema}
 use Rattle.schema_types.specs.Meaning.{schema_or_refusal}
-use Rattle.text_answers.specs.Stages.{after, tokens_of, parsed}
+use Rattle.text_answers.specs.Stages.{or_refused_at, tokens_of, parsed}
 
 abbrev pub syntax : ℕ → SchemaError
 syntax at = error.Syntax at
@@ -19,4 +19,4 @@ tables_of text tokens = parsed read_all_tables (length text) (map (lexeme_of tex
 
 -- the schema of a text, or its first refusal, tested in this order: Syntax, Name, Nullable, Limit
 unfoldable pub schema_answer : List ℕ → Result Schema SchemaError
-schema_answer text = after syntax (tokens_of text) (λ tokens. after syntax (tables_of text tokens) (schema_or_refusal text))
+schema_answer text = or_refused_at syntax (tokens_of text) (λ tokens. or_refused_at syntax (tables_of text tokens) (schema_or_refusal text))

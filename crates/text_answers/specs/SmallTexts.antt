@@ -16,8 +16,8 @@ one_column =
     }
 
 -- SELECT X FROM R WHERE X = 1
-abbrev pub ones : Query
-ones = record {
+abbrev pub where_x_is_one : Query
+where_x_is_one = record {
   from = record { table = 0; alias = codes "R" } ∷ [];
   conjuncts = cond.Compare op.Eq (value.Column (record { from = 0; column = 0 })) (value.Int (pos 1)) ∷ [];
   select = record { column = record { from = 0; column = 0 }; name = codes "X" } ∷ [];

@@ -11,9 +11,9 @@ use Rattle.sql_tokens.specs.Lexing.{mark_len}
 use Rattle.sql_tokens.specs.Pieces.{tokens_at}
 
 -- if a stage gives a value, the rest goes on with it; if it gives a byte offset, the text is refused there
-abbrev pub after : {A B E : Type 0} → (ℕ → E) → Result A ℕ → (A → Result B E) → Result B E
-after wrong (Ok value) rest = rest value
-after wrong (Err at) rest = Err (wrong at)
+abbrev pub or_refused_at : {A B E : Type 0} → (ℕ → E) → Result A ℕ → (A → Result B E) → Result B E
+or_refused_at wrong (Ok value) rest = rest value
+or_refused_at wrong (Err at) rest = Err (wrong at)
 
 -- the tokens after the byte order mark; a text that isn't UTF-8 goes wrong at its first bad sequence, whatever else is wrong with it
 unfoldable pub tokens_of : List ℕ → Result (List Token) ℕ

@@ -3,7 +3,7 @@ ghost use Rattle.std.specs.Prelude.{◌≡◌, Ok, Err, [], ◌∷◌, codes};
 ghost use Rattle.schema_types.specs.declared.errors.LimitKind.TheVariants as limit;
 ghost use Rattle.schema_types.specs.declared.errors.SchemaError.TheVariants as schema_error;
 ghost use Rattle.query_names.specs.declared.errors.QueryError.TheVariants as query_error;
-ghost use Rattle.text_answers.specs.SmallTexts.{one_column, ones};
+ghost use Rattle.text_answers.specs.SmallTexts.{one_column, where_x_is_one};
 ghost use Rattle.text_answers.specs.SchemaTexts.{schema_answer};
 ghost use Rattle.text_answers.specs.QueryTexts.{query_answer};
 
@@ -22,7 +22,7 @@ pub fn small_schemas()
 /// The answers to small query texts over a schema with one column. If a number is outside the range and an offence against the grammar comes after it,
 /// the number is refused. FROM is tested before the outputs. A column name without a table must be that of exactly one entry.
 pub fn small_queries()
-    ensures whole { query_answer one_column (codes "SELECT X FROM R WHERE X = 1") ≡ Ok ones }
+    ensures whole { query_answer one_column (codes "SELECT X FROM R WHERE X = 1") ≡ Ok where_x_is_one }
     ensures other_kind { query_answer one_column (codes "SELECT X FROM R WHERE X = 'a'") ≡ Err (query_error.Kind 26) }
     ensures number_first { query_answer one_column (codes "SELECT X FROM R WHERE X = 9223372036854775808 )") ≡ Err (query_error.Syntax 26) }
     ensures from_first { query_answer one_column (codes "SELECT Y FROM R, R") ≡ Err (query_error.Name 17) }

@@ -4,22 +4,22 @@ use Rattle.std.specs.Prelude.{◌⊎◌, ◌&&◌, ◌||◌, not, find, unwrap_o
 use Rattle.std.specs.List.{AllByRecursion as Each, list_all}
 use Rattle.std.proofs.lemmas.Bool.{and_from, and_parts, both_ways, cases_Bool, cases_lt, eq-eqb, eqb-true, false_from_ne_true, lt-ltb, ltb-true, not-true, not_from_false, or_cases, or_left, or_right}
 use Rattle.plan_answers.proofs.AllOrders.{each_so}
-use Rattle.bushy_plan.specs.BestTree.{IsTreeBefore, IsBest, all_of, cost, total}
+use Rattle.bushy_plan.specs.BestTree.{IsTreeBefore, IsBest, full_set, cost, total}
 use Rattle.bushy_plan.specs.PlanTrees.{IsTreeOver, PlanTree, leaf, node, leaf_set}
 use Rattle.bushy_plan.proofs.SomeBest.{some_best}
 use Rattle.tree_answers.specs.AllTrees.{all_trees, best_tree, is_before, is_no_worse, is_same}
-use Rattle.tree_answers.proofs.Listed.{at_tree, listed_are_trees}
+use Rattle.tree_answers.proofs.AllTreesListed.{at_tree, listed_are_trees}
 
 -- ---- tests that compare two trees
 
-told_same : (a b : PlanTree) → is_same a b ≡ true → a ≡ b
-told_same (leaf a) (leaf b) h = ap leaf (eqb-true a b h)
-told_same (leaf a) (node left right) h = absurd (both_ways false refl h)
-told_same (node left right) (leaf b) h = absurd (both_ways false refl h)
-told_same (node left right) (node left' right') h =
+same_is_equal : (a b : PlanTree) → is_same a b ≡ true → a ≡ b
+same_is_equal (leaf a) (leaf b) h = ap leaf (eqb-true a b h)
+same_is_equal (leaf a) (node left right) h = absurd (both_ways false refl h)
+same_is_equal (node left right) (leaf b) h = absurd (both_ways false refl h)
+same_is_equal (node left right) (node left' right') h =
     let parts : (is_same left left' ≡ true) × (is_same right right' ≡ true) = and_parts (is_same left left') (is_same right right') h in
-    let lefts : left ≡ left' = told_same left left' parts.0 in
-    let rights : right ≡ right' = told_same right right' parts.1 in
+    let lefts : left ≡ left' = same_is_equal left left' parts.0 in
+    let rights : right ≡ right' = same_is_equal right right' parts.1 in
     rw (lefts, rights) refl
 
 same_itself : (tree : PlanTree) → is_same tree tree ≡ true
@@ -40,7 +40,7 @@ told_before (node left right) (node left' right') h = elim (or_cases (ltb (leaf_
         elim (or_cases (is_before left left') (is_same left left' && is_before right right') parts.1) [
           | inl first ↦ inl (told_before left left' first)
           | inr second ↦ (let both : (is_same left left' ≡ true) × (is_before right right' ≡ true) = and_parts (is_same left left') (is_before right right') second in
-              inr (told_same left left' both.0, told_before right right' both.1))
+              inr (same_is_equal left left' both.0, told_before right right' both.1))
         ],
       ))
 ]
@@ -115,7 +115,7 @@ module _ (bounds : List ℕ) (n : ℕ) (some : 0 < n) where
   best_passes : (best : PlanTree) → IsBest bounds n best → test best ≡ true
   best_passes best is =
       all_true (λ other. is_no_worse bounds best other) (all_trees n)
-      (each_so (IsTreeOver (all_of n)) (λ other. is_no_worse bounds best other ≡ true)
+      (each_so (IsTreeOver (full_set n)) (λ other. is_no_worse bounds best other ≡ true)
       (λ other over. tells (cost bounds best) (cost bounds other) (total bounds best) (total bounds other) (not (is_before other best))
       (is.none_cheaper other over) (is.none_smaller other over)
       (λ costs totals. not_from_false (is_before other best) (false_from_ne_true (is_before other best) (λ before. is.none_earlier other over costs totals (told_before other best before)))))
@@ -126,14 +126,14 @@ module _ (bounds : List ℕ) (n : ℕ) (some : 0 < n) where
       let best : (tree : PlanTree) × IsBest bounds n tree = some_best bounds n some in
       both_ways (test best.0) (at_tree n (λ tree. test tree ≡ false) best.0 some none best.1.is_tree) (best_passes best.0 best.1)
 
-  by_cost : (x : PlanTree) → test x ≡ true → (other : PlanTree) → IsTreeOver (all_of n) other
+  by_cost : (x : PlanTree) → test x ≡ true → (other : PlanTree) → IsTreeOver (full_set n) other
       → (cost bounds x < cost bounds other) ⊎ ((cost bounds x ≡ cost bounds other)
       × ((total bounds x < total bounds other) ⊎ ((total bounds x ≡ total bounds other) × (not (is_before other x) ≡ true))))
   by_cost x passes other over =
       told (cost bounds x) (cost bounds other) (total bounds x) (total bounds other) (not (is_before other x))
       (at_tree n (λ tree. is_no_worse bounds x tree ≡ true) other some (each_true (λ tree. is_no_worse bounds x tree) (all_trees n) passes) over)
 
-  first_is_best : (x : PlanTree) → IsTreeOver (all_of n) x → test x ≡ true → IsBest bounds n x
+  first_is_best : (x : PlanTree) → IsTreeOver (full_set n) x → test x ≡ true → IsBest bounds n x
   first_is_best x is passes = record {
     is_tree = is;
     none_cheaper = λ other over. elim (by_cost x passes other over) [
@@ -159,5 +159,5 @@ module _ (bounds : List ℕ) (n : ℕ) (some : 0 < n) where
   pub best_computed : IsBest bounds n (best_tree bounds n)
   unfolding best_tree
   best_computed =
-      let first : (x : PlanTree) × IsFirst (IsTreeOver (all_of n)) test (all_trees n) x = first_of (IsTreeOver (all_of n)) test (all_trees n) (listed_are_trees n) some_passes in
+      let first : (x : PlanTree) × IsFirst (IsTreeOver (full_set n)) test (all_trees n) x = first_of (IsTreeOver (full_set n)) test (all_trees n) (listed_are_trees n) some_passes in
       subst (IsBest bounds n) (sym (ap (λ found. unwrap_or found (leaf 0)) first.1.found)) (first_is_best first.0 first.1.is first.1.passes)

@@ -1,4 +1,4 @@
 pub mod BestComputed
-pub mod Listed
-pub mod OneChoice
-pub mod SmallChoices
+pub mod AllTreesListed
+pub mod OneAnswer
+pub mod SmallTrees

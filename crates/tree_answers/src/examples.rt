@@ -9,7 +9,7 @@ ghost use Rattle.tree_answers.specs.TreeAnswer.{tree_answer};
 
 /// The answers of choices among one, two and three entries. If three trees have the same cost and the same total, the best one is the tree whose left
 /// set has the least number.
-pub fn small_choices()
+pub fn small_trees()
     ensures trees { all_trees 3 ≡ node (node (leaf 0) (leaf 1)) (leaf 2) ∷ node (node (leaf 0) (leaf 2)) (leaf 1) ∷ node (leaf 0) (node (leaf 1) (leaf 2)) ∷ [] }
     ensures by_left { is_before (node (leaf 0) (node (leaf 1) (leaf 2))) (node (node (leaf 0) (leaf 1)) (leaf 2)) ≡ true }
     ensures best { best_tree triangle 3 ≡ node (leaf 0) (node (leaf 1) (leaf 2)) }

@@ -8,5 +8,5 @@
 mod examples;
 mod laws;
 
-pub use examples::small_choices;
+pub use examples::small_trees;
 pub use laws::{best_trees, tree_choices};

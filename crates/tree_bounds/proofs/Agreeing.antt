@@ -8,7 +8,7 @@ use Rattle.berge_tree.specs.declared.edges.Edge.{Edge}
 use Rattle.berge_tree.specs.Equalities.{place, places_of, class_of}
 use Rattle.berge_tree.specs.Rooted.{class_columns, member_places, FollowsBelow, FollowsWithin, IsTreeOf, AreAllTreesOf}
 use Rattle.entry_sets.specs.Sets.{entries_of_set}
-use Rattle.berge_tree.specs.Testing.{joined_parts}
+use Rattle.berge_tree.specs.Testing.{merged_components}
 use Rattle.berge_tree.specs.Trees.{Classes, no_class, and_class, Members, one_member, and_member, BergeTree, entries_below, entries_within, entries, entries_of_all}
 use Rattle.berge_tree.proofs.Joining.{joined}
 use Rattle.berge_tree.proofs.Separate.{all_map}
@@ -38,7 +38,7 @@ module _ (P : Edge → Type 0) where
   of_kept name [] h = tt
   of_kept name (e ∷ es) h = elim (cases_Bool (eqb (name e.left.entry) (name e.right.entry))) [
     | inl t ↦ rw t (of_kept name es h.1)
-    | inr n ↦ rw n (h.0, of_kept (joined_parts name e.left.entry e.right.entry) es h.1)
+    | inr n ↦ rw n (h.0, of_kept (merged_components name e.left.entry e.right.entry) es h.1)
   ]
 
   pub of_turn : (subset turn : ℕ) (es : List Edge) → AllByRecursion P (equalities_within subset es) → AllByRecursion P (kept_of subset turn es)

@@ -13,44 +13,44 @@ use Rattle.berge_tree.specs.Trees.{Classes, no_class, and_class, Members, one_me
 use Rattle.tree_bounds.specs.Columns.{EachColumnBelow, EachColumnWithin}
 use Rattle.tree_bounds.specs.TreeBounds.{EntryBounds, TreeHasLists, bound_of_tree, bound_of_trees}
 use Rattle.tree_bounds.specs.Tables.{KeyedTables, key_of, AgreesBelow, AgreesWithin, Agrees, ChoicesAreDifferent, Dominates, TreeDominates}
-use Rattle.tree_bounds.specs.Counting.{with_row, paired, rows_with_key, chosen_below, chosen_within, tree_choices, chosen_rows_of_all}
-use Rattle.tree_bounds.proofs.Counted.{number_within}
-use Rattle.tree_bounds.proofs.Listed.{length-paired, length-chosen_rows}
+use Rattle.tree_bounds.specs.Counting.{with_row, each_followed_by_each, rows_with_key, chosen_below, chosen_within, tree_choices, chosen_rows_of_all}
+use Rattle.tree_bounds.proofs.BoundsSuffice.{number_within}
+use Rattle.tree_bounds.proofs.ChoiceLists.{length-each_followed_by_each, length-chosen_rows}
 
 -- ---- members of lists of rows
 
-abbrev Stands : List ℕ → List (List ℕ) → Type 0
-Stands q [] = ⊥
-Stands q (x ∷ xs) = (q ≡ x) ⊎ Stands q xs
+abbrev IsMember : List ℕ → List (List ℕ) → Type 0
+IsMember q [] = ⊥
+IsMember q (x ∷ xs) = (q ≡ x) ⊎ IsMember q xs
 
-stands_left : (q : List ℕ) (xs ys : List (List ℕ)) → Stands q xs → Stands q (xs ++ ys)
+stands_left : (q : List ℕ) (xs ys : List (List ℕ)) → IsMember q xs → IsMember q (xs ++ ys)
 stands_left q [] ys h = absurd h
 stands_left q (x ∷ xs) ys h = elim h [ inl now ↦ inl now | inr later ↦ inr (stands_left q xs ys later) ]
 
-stands_right : (q : List ℕ) (xs ys : List (List ℕ)) → Stands q ys → Stands q (xs ++ ys)
+stands_right : (q : List ℕ) (xs ys : List (List ℕ)) → IsMember q ys → IsMember q (xs ++ ys)
 stands_right q [] ys h = h
 stands_right q (x ∷ xs) ys h = inr (stands_right q xs ys h)
 
-stands_mapped : (f : List ℕ → List ℕ) (q : List ℕ) (xs : List (List ℕ)) → Stands q xs → Stands (f q) (map f xs)
+stands_mapped : (f : List ℕ → List ℕ) (q : List ℕ) (xs : List (List ℕ)) → IsMember q xs → IsMember (f q) (map f xs)
 stands_mapped f q [] h = absurd h
 stands_mapped f q (x ∷ xs) h = elim h [ inl now ↦ inl (ap f now) | inr later ↦ inr (stands_mapped f q xs later) ]
 
-stands_paired : (p q : List ℕ) (xs ys : List (List ℕ)) → Stands p xs → Stands q ys → Stands (p ++ q) (paired xs ys)
+stands_paired : (p q : List ℕ) (xs ys : List (List ℕ)) → IsMember p xs → IsMember q ys → IsMember (p ++ q) (each_followed_by_each xs ys)
 stands_paired p q [] ys h k = absurd h
 stands_paired p q (x ∷ xs) ys h k = elim h [
-  | inl now ↦ stands_left (p ++ q) (map (λ y. x ++ y) ys) (paired xs ys) (rw now (stands_mapped (λ y. x ++ y) q ys k))
-  | inr later ↦ stands_right (p ++ q) (map (λ y. x ++ y) ys) (paired xs ys) (stands_paired p q xs ys later k)
+  | inl now ↦ stands_left (p ++ q) (map (λ y. x ++ y) ys) (each_followed_by_each xs ys) (rw now (stands_mapped (λ y. x ++ y) q ys k))
+  | inr later ↦ stands_right (p ++ q) (map (λ y. x ++ y) ys) (each_followed_by_each xs ys) (stands_paired p q xs ys later k)
 ]
 
-stands_for_row : (f : ℕ → List (List ℕ)) (q : List ℕ) (n first row : ℕ) → first ≤ row → row < first + n → Stands q (f row) → Stands q (flat_map f (range_with_len first n))
+stands_for_row : (f : ℕ → List (List ℕ)) (q : List ℕ) (n first row : ℕ) → first ≤ row → row < first + n → IsMember q (f row) → IsMember q (flat_map f (range_with_len first n))
 stands_for_row f q zero first row from below h = absurd (omega arith)
 stands_for_row f q (suc n) first row from below h = elim (cases_lt first row) [
   | inl later ↦ stands_right q (f first) (flat_map f (range_with_len (first + 1) n)) (stands_for_row f q n (first + 1) row (omega arith) (omega arith) h)
-  | inr now ↦ (let same : row ≡ first = omega arith in stands_left q (f first) (flat_map f (range_with_len (first + 1) n)) (subst (λ j. Stands q (f j)) same h))
+  | inr now ↦ (let same : row ≡ first = omega arith in stands_left q (f first) (flat_map f (range_with_len (first + 1) n)) (subst (λ j. IsMember q (f j)) same h))
 ]
 
-stands_with_key : (n : ℕ) (keys : List ℕ) (below : ℕ → List (List ℕ)) (key row : ℕ) (rows : List ℕ) → length keys ≡ n → row < n → get_or keys row 0 ≡ key → Stands rows (below row)
-    → Stands (row ∷ rows) (rows_with_key keys below key)
+stands_with_key : (n : ℕ) (keys : List ℕ) (below : ℕ → List (List ℕ)) (key row : ℕ) (rows : List ℕ) → length keys ≡ n → row < n → get_or keys row 0 ≡ key → IsMember rows (below row)
+    → IsMember (row ∷ rows) (rows_with_key keys below key)
 stands_with_key n keys below key row rows per_row h is k =
     stands_for_row (λ row. cond (eqb (get_or keys row 0) key) (with_row row (below row)) []) (row ∷ rows) (length keys) 0 row (omega arith) (omega arith)
     (rw (eq-eqb (get_or keys row 0) key is) (stands_mapped (λ (rows : List ℕ). row ∷ rows) rows (below row) k))
@@ -60,7 +60,7 @@ stands_with_key n keys below key row rows per_row h is k =
 module _ (b : EntryBounds) (tables : KeyedTables) (choice : ℕ → ℕ) where
   mutual
     listed_below : (entry : ℕ) (cs : Classes) → EachColumnBelow (Dominates b tables) entry cs → AgreesBelow tables choice entry cs
-        → Stands (map choice (entries_below cs)) (chosen_below tables entry cs (choice entry))
+        → IsMember (map choice (entries_below cs)) (chosen_below tables entry cs (choice entry))
     listed_below entry no_class d a = inl refl
     listed_below entry (and_class column members rest) d a =
         rw (map-append choice (entries_within members) (entries_below rest))
@@ -69,7 +69,7 @@ module _ (b : EntryBounds) (tables : KeyedTables) (choice : ℕ → ℕ) where
         (listed_within (key_of tables choice entry column) members d.1 a.0) (listed_below entry rest d.2 a.1))
 
     listed_within : (key : ℕ) (ms : Members) → EachColumnWithin (Dominates b tables) ms → AgreesWithin tables choice key ms
-        → Stands (map choice (entries_within ms)) (chosen_within tables ms key)
+        → IsMember (map choice (entries_within ms)) (chosen_within tables ms key)
     listed_within key (one_member entry column below) d a =
         stands_with_key (tables.rows entry) (tables.keys entry column) (chosen_below tables entry below) key (choice entry) (map choice (entries_below below))
         d.0.key_per_row a.0 a.1 (listed_below entry below d.1 a.2)
@@ -81,19 +81,19 @@ module _ (b : EntryBounds) (tables : KeyedTables) (choice : ℕ → ℕ) where
         d.0.key_per_row a.0 a.1 (listed_below entry below d.1 a.2))
         (listed_within key rest d.2 a.3))
 
-  listed : (t : BergeTree) → TreeDominates b tables t → Agrees tables t choice → Stands (map choice (entries t)) (tree_choices tables t)
+  listed : (t : BergeTree) → TreeDominates b tables t → Agrees tables t choice → IsMember (map choice (entries t)) (tree_choices tables t)
   listed t d a =
       stands_for_row (λ row. with_row row (chosen_below tables t.root t.below row)) (map choice (entries t)) (tables.rows t.root) 0 (choice t.root) (omega arith) (omega (arith, a.0))
       (stands_mapped (λ (rows : List ℕ). choice t.root ∷ rows) (map choice (entries_below t.below)) (chosen_below tables t.root t.below (choice t.root)) (listed_below t.root t.below d.columns a.1))
 
   listed_all : (ts : List BergeTree) → AllByRecursion (TreeDominates b tables) ts → AllByRecursion (λ t. Agrees tables t choice) ts
-      → Stands (map choice (entries_of_all ts)) (chosen_rows_of_all tables ts)
+      → IsMember (map choice (entries_of_all ts)) (chosen_rows_of_all tables ts)
   listed_all [] d a = inl refl
   listed_all (t ∷ ts) d a =
       rw (map-append choice (entries t) (entries_of_all ts))
       (stands_paired (map choice (entries t)) (map choice (entries_of_all ts)) (tree_choices tables t) (chosen_rows_of_all tables ts) (listed t d.0 a.0) (listed_all ts d.1 a.1))
 
-contains_from : (q : List ℕ) (xs : List (List ℕ)) → Stands q xs → Contains xs q
+contains_from : (q : List ℕ) (xs : List (List ℕ)) → IsMember q xs → Contains xs q
 contains_from q [] h = absurd h
 contains_from q (x ∷ xs) h = elim h [
   | inl now ↦ (0, omega arith, sym now)
@@ -106,7 +106,7 @@ choice_listed b tables t d choice a = contains_from (map choice (entries t)) (tr
 
 -- ---- different choices are different members
 
-is_member_where : (q : List ℕ) (xs : List (List ℕ)) → Stands q xs → is_member (pointwise nat_eq) xs q ≡ true
+is_member_where : (q : List ℕ) (xs : List (List ℕ)) → IsMember q xs → is_member (pointwise nat_eq) xs q ≡ true
 is_member_where q [] h = absurd h
 is_member_where q (x ∷ xs) h = elim h [
   | inl now ↦ rw (sym now, nat_list_eq_equiv.refl q) refl
@@ -135,15 +135,15 @@ all_unlike set (c ∷ cs) h =
     (unlike_first set c cs (λ j k. h 0 (suc j) c (omega arith) (omega arith)))
     (all_unlike set cs (λ i j d k l. h (suc i) (suc j) d (omega arith) (omega arith)))
 
-all_members : (set : List ℕ) (cs : List (ℕ → ℕ)) (xs : List (List ℕ)) → AllByRecursion (λ c. Stands (map c set) xs) cs
+all_members : (set : List ℕ) (cs : List (ℕ → ℕ)) (xs : List (List ℕ)) → AllByRecursion (λ c. IsMember (map c set) xs) cs
     → (q : List ℕ) → is_member (pointwise nat_eq) (map (λ c. map c set) cs) q ≡ true → is_member (pointwise nat_eq) xs q ≡ true
 all_members set [] xs h q e = absurd (false≢true e)
 all_members set (c ∷ cs) xs h q e = elim (cases_Bool (pointwise nat_eq q (map c set))) [
-  | inl same ↦ is_member_where q xs (subst (λ r. Stands r xs) (sym (same_text q (map c set) (sym same))) h.0)
+  | inl same ↦ is_member_where q xs (subst (λ r. IsMember r xs) (sym (same_text q (map c set) (sym same))) h.0)
   | inr other ↦ all_members set cs xs h.1 q (rw other at e)
 ]
 
-no_more : (set : List ℕ) (cs : List (ℕ → ℕ)) (xs : List (List ℕ)) → ChoicesAreDifferent set cs → AllByRecursion (λ c. Stands (map c set) xs) cs → length cs ≤ length xs
+no_more : (set : List ℕ) (cs : List (ℕ → ℕ)) (xs : List (List ℕ)) → ChoicesAreDifferent set cs → AllByRecursion (λ c. IsMember (map c set) xs) cs → length cs ≤ length xs
 no_more set cs xs differ all =
     omega (arith, length-map cs (λ c. map c set), length-le_from_is_member nat_list_eq_equiv (map (λ c. map c set) cs) xs (all_unlike set cs differ) (all_members set cs xs all))
 
@@ -160,7 +160,7 @@ module _ (b : EntryBounds) (tables : KeyedTables) where
       omega (
         arith,
         no_more (entries t) cs (tree_choices tables t) differ
-            (for_each (Agrees tables t) (λ c. Stands (map c (entries t)) (tree_choices tables t)) (λ c a. listed b tables c t d a) cs agree),
+            (for_each (Agrees tables t) (λ c. IsMember (map c (entries t)) (tree_choices tables t)) (λ c a. listed b tables c t d a) cs agree),
         length-chosen_rows tables t,
         number_within b tables t h d,
       )
@@ -169,7 +169,7 @@ module _ (b : EntryBounds) (tables : KeyedTables) where
   length-all [] h d = omega arith
   length-all (t ∷ ts) h d =
       let one : length (tree_choices tables t) ≤ bound_of_tree b t = omega (arith, length-chosen_rows tables t, number_within b tables t h.0 d.0) in
-      omega (arith, length-paired (tree_choices tables t) (chosen_rows_of_all tables ts), mul-le-mul one (length-all ts h.1 d.1))
+      omega (arith, length-each_followed_by_each (tree_choices tables t) (chosen_rows_of_all tables ts), mul-le-mul one (length-all ts h.1 d.1))
 
   same_there : (es : List ℕ) (e : ℕ) → Contains es e → (x y : ℕ → ℕ) → map x es ≡ map y es → x e ≡ y e
   same_there es e k x y same =
@@ -186,6 +186,6 @@ module _ (b : EntryBounds) (tables : KeyedTables) where
         arith,
         no_more (entries_of_all ts) cs (chosen_rows_of_all tables ts)
             (λ i j e k l same. differ i j e k l (same_on (entries_of_all ts) set inside (get_or cs i e) (get_or cs j e) same))
-            (for_each (λ c. AllByRecursion (λ t. Agrees tables t c) ts) (λ c. Stands (map c (entries_of_all ts)) (chosen_rows_of_all tables ts)) (λ c a. listed_all b tables c ts d a) cs agree),
+            (for_each (λ c. AllByRecursion (λ t. Agrees tables t c) ts) (λ c. IsMember (map c (entries_of_all ts)) (chosen_rows_of_all tables ts)) (λ c a. listed_all b tables c ts d a) cs agree),
         length-all ts h d,
       )

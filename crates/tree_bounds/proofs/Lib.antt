@@ -1,5 +1,5 @@
-pub mod Counted
-pub mod Listed
+pub mod BoundsSuffice
+pub mod ChoiceLists
 pub mod Injected
 pub mod Agreeing
 pub mod OneForest

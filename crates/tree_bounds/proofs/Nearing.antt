@@ -6,16 +6,16 @@ use Rattle.std.proofs.lemmas.Nat.{pow-add}
 use Rattle.std.proofs.lemmas.List.{length-map}
 use Rattle.std.proofs.lemmas.List.FromFn.{length-range_with_len}
 use Rattle.degree_sequences.specs.Composition.{ChildLists, composed, row_weights, root_total, weight_by_rank}
-use Rattle.degree_sequences.specs.Families.{ColumnFalls, IsNear, SumsAreWithin, MatchedChild, factors, scales}
+use Rattle.degree_sequences.specs.ComparedChildren.{ColumnIsDescending, IsNear, SumsAreWithin, MatchedChild, factors, scales}
 use Rattle.degree_sequences.specs.RunningSums.{running_sum}
-use Rattle.degree_sequences.proofs.RowWeights.{IsFalling-composed, running_sum-composition}
+use Rattle.degree_sequences.proofs.RowWeights.{IsDescending-composed, running_sum-composition}
 use Rattle.degree_sequences.proofs.RunningSums.{running_sum-nil, running_sum-whole}
 use Rattle.degree_sequences.proofs.Scaling.{composed-near, rank_product-near}
 use Rattle.berge_tree.specs.Trees.{Classes, no_class, and_class, Members, one_member, and_member, BergeTree, entries_below, entries_within, entries, entries_of_all}
 use Rattle.tree_bounds.specs.Columns.{EachColumnBelow, EachColumnWithin}
 use Rattle.tree_bounds.specs.TreeBounds.{EntryBounds, HasList, TreeHasLists, child_lists, class_list, bound_of_tree, bound_of_trees}
 use Rattle.tree_bounds.specs.Nearness.{ListIsNear, TreeIsNear}
-use Rattle.tree_bounds.proofs.Counted.{children_fall, class_falls}
+use Rattle.tree_bounds.proofs.BoundsSuffice.{children_descend, class_descends}
 
 power-add : (a m n : ℕ) → a ^ m * a ^ n ≡ a ^ (m + n)
 power-add a m n = sym (pow-add a m n)
@@ -60,7 +60,7 @@ module _ (accuracy : ℕ) (b exact : EntryBounds) where
       ap (λ x. high (length (entries_within members)) * x) (factors_are entry rest) ∙ power-add (accuracy + 1) (length (entries_within members)) (length (entries_below rest))
       ∙ ap high (sym (length-append (entries_within members) (entries_below rest)))
 
-  columns_fall : (entry : ℕ) (cs : Classes) → EachColumnBelow (HasList b) entry cs → AllByRecursion ColumnFalls (map (λ m. m.near) (matched entry cs))
+  columns_fall : (entry : ℕ) (cs : Classes) → EachColumnBelow (HasList b) entry cs → AllByRecursion ColumnIsDescending (map (λ m. m.near) (matched entry cs))
   columns_fall entry no_class h = tt
   columns_fall entry (and_class column members rest) h = (h.0.falls, columns_fall entry rest h.2)
 
@@ -72,7 +72,7 @@ module _ (accuracy : ℕ) (b exact : EntryBounds) where
       let n : ℕ = length (entries_below cs) in
       let step : (accuracy * scales ms) * running_sum (composed g (map (λ m. m.near) ms)) r ≤ ((accuracy + 1) * factors ms) * running_sum (composed f (map (λ m. m.exact) ms)) r =
       composed-near accuracy g f ms near each
-      (rw (nears_are entry cs, total) (children_fall b entry cs h)) (rw (exacts_are entry cs, total') (children_fall exact entry cs k)) (columns_fall entry cs h) r in
+      (rw (nears_are entry cs, total) (children_descend b entry cs h)) (rw (exacts_are entry cs, total') (children_descend exact entry cs k)) (columns_fall entry cs h) r in
       let lower : low (suc n) ≡ accuracy * scales ms = pow-succ' accuracy n ∙ ap (λ x. accuracy * x) (sym (scales_are entry cs)) in
       let upper : high (suc n) ≡ (accuracy + 1) * factors ms = pow-succ' (accuracy + 1) n ∙ ap (λ x. (accuracy + 1) * x) (sym (factors_are entry cs)) in
       rw (lower, upper, sym (nears_are entry cs), sym (exacts_are entry cs)) step
@@ -93,9 +93,9 @@ module _ (accuracy : ℕ) (b exact : EntryBounds) where
         let n : ℕ = suc (length (entries_below below)) in
         let m : ℕ = length (entries_within rest) in
         let count : suc (length (entries_below below ++ entries_within rest)) ≡ n + m = omega (arith, length-append (entries_below below) (entries_within rest)) in
-        let falls : (r : ℕ) → get_or g (suc r) 0 ≤ get_or g r 0 = IsFalling-composed (b.list entry column) (child_lists b entry below) h.0.falls (rw h.0.total (children_fall b entry below h.1)) in
+        let falls : (r : ℕ) → get_or g (suc r) 0 ≤ get_or g r 0 = IsDescending-composed (b.list entry column) (child_lists b entry below) h.0.falls (rw h.0.total (children_descend b entry below h.1)) in
         rw (count, sym (power-add accuracy n m), sym (power-add (accuracy + 1) n m))
-        (rank_product-near (low n) (high n) (low m) (high m) f (class_list exact rest) g (class_list b rest) (class_falls exact rest k.2) falls
+        (rank_product-near (low n) (high n) (low m) (high m) f (class_list exact rest) g (class_list b rest) (class_descends exact rest k.2) falls
         (composed_near (b.list entry column) (exact.list entry column) entry below near.0 h.0.total k.0.total h.1 k.1 (below_near entry below h.1 k.1 near.1))
         (within_near rest h.2 k.2 near.2))
 

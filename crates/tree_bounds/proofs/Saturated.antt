@@ -6,7 +6,7 @@ use Rattle.std.proofs.lemmas.Bool.{cases_lt}
 use Rattle.std.proofs.lemmas.List.Sums.{sum_by-cons}
 use Rattle.degree_sequences.specs.ByRank.{rank_product, rank_product_with, rank_product_of}
 use Rattle.degree_sequences.specs.Composition.{ChildLists, weight_by_rank, row_weights, block_sums, composed, root_total}
-use Rattle.degree_sequences.specs.Falling.{trimmed}
+use Rattle.degree_sequences.specs.Descending.{trimmed}
 use Rattle.degree_sequences.specs.Rank.{rank}
 use Rattle.degree_sequences.specs.Saturation.{saturated}
 use Rattle.degree_sequences.proofs.SaturationLaws.{saturated-mul, saturated-block_sums, saturated-rank_product, saturated-trimmed}

@@ -29,8 +29,8 @@ abbrev pub with_row : ℕ → List (List ℕ) → List (List ℕ)
 with_row row below = map (λ (rows : List ℕ). row ∷ rows) below
 
 -- each list of `xs` followed by each list of `ys`
-abbrev pub paired : List (List ℕ) → List (List ℕ) → List (List ℕ)
-paired xs ys = flat_map (λ x. map (λ y. x ++ y) ys) xs
+abbrev pub each_followed_by_each : List (List ℕ) → List (List ℕ) → List (List ℕ)
+each_followed_by_each xs ys = flat_map (λ x. map (λ y. x ++ y) ys) xs
 
 -- the rows that have this key, each followed by each choice below it
 abbrev pub rows_with_key : List ℕ → (ℕ → List (List ℕ)) → ℕ → List (List ℕ)
@@ -40,12 +40,12 @@ rows_with_key keys below key = flat_map (λ row. if slice_index keys row == key 
 abbrev mutual
   pub chosen_below : KeyedTables → ℕ → Classes → ℕ → List (List ℕ)
   chosen_below tables entry no_class = λ row. [] ∷ []
-  chosen_below tables entry (and_class column members rest) = λ row. paired
+  chosen_below tables entry (and_class column members rest) = λ row. each_followed_by_each
       (chosen_within tables members (slice_index (tables.keys entry column) row)) (chosen_below tables entry rest row)
 
   pub chosen_within : KeyedTables → Members → ℕ → List (List ℕ)
   chosen_within tables (one_member entry column below) = rows_with_key (tables.keys entry column) (chosen_below tables entry below)
-  chosen_within tables (and_member entry column below rest) = λ key. paired
+  chosen_within tables (and_member entry column below rest) = λ key. each_followed_by_each
       (rows_with_key (tables.keys entry column) (chosen_below tables entry below) key) (chosen_within tables rest key)
 
 abbrev pub tree_choices : KeyedTables → BergeTree → List (List ℕ)
@@ -53,4 +53,4 @@ tree_choices tables t = flat_map (λ row. with_row row (chosen_below tables t.ro
 
 abbrev pub chosen_rows_of_all : KeyedTables → List BergeTree → List (List ℕ)
 chosen_rows_of_all tables [] = [] ∷ []
-chosen_rows_of_all tables (t ∷ ts) = paired (tree_choices tables t) (chosen_rows_of_all tables ts)
+chosen_rows_of_all tables (t ∷ ts) = each_followed_by_each (tree_choices tables t) (chosen_rows_of_all tables ts)

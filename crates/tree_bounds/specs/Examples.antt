@@ -25,8 +25,8 @@ path_bounds = record { rows = path_rows; list = path_list }
 
 -- ---- R(X) and S(X), where R.X = S.X
 
-abbrev pub two : BergeTree
-two = record { root = 0; below = and_class 0 (one_member 1 0 no_class) no_class }
+abbrev pub r_and_s : BergeTree
+r_and_s = record { root = 0; below = and_class 0 (one_member 1 0 no_class) no_class }
 
 abbrev pub two_rows : ℕ → ℕ
 two_rows zero = 6

@@ -1,7 +1,7 @@
 -- Bounds of entries that are near exact ones: at accuracy K, K times the bound is at most K + 1 times the exact one.
 use Rattle.std.specs.Prelude.{ℕ, ◌+◌, ◌*◌, ◌≤◌, List}
 use Rattle.std.specs.List.{AllByRecursion}
-use Rattle.degree_sequences.specs.Families.{SumsAreWithin}
+use Rattle.degree_sequences.specs.ComparedChildren.{SumsAreWithin}
 use Rattle.berge_tree.specs.declared.edges.Edge.{Edge}
 use Rattle.entry_sets.specs.Sets.{entries_of_set}
 use Rattle.berge_tree.specs.Trees.{BergeTree}

@@ -3,7 +3,7 @@ use Rattle.std.specs.Prelude.{◌≡◌, ℕ, ◌*◌, List, [], ◌∷◌}
 use Rattle.std.specs.List.{sum}
 use Rattle.degree_sequences.specs.ByRank.{rank_product}
 use Rattle.degree_sequences.specs.Composition.{ChildLists, composed, root_total}
-use Rattle.degree_sequences.specs.Falling.{IsFalling}
+use Rattle.degree_sequences.specs.Descending.{IsDescending}
 use Rattle.berge_tree.specs.Trees.{Classes, no_class, and_class, Members, one_member, and_member, BergeTree}
 use Rattle.tree_bounds.specs.Columns.{EachColumn}
 
@@ -14,7 +14,7 @@ pub record EntryBounds : Type 0 where
 
 -- a list of a column: it is in descending order, and its sum is the row bound of the entry
 pub record IsListOf (rows : ℕ) (list : List ℕ) : Type 0 where
-  pub falls : IsFalling list
+  pub falls : IsDescending list
   pub total : sum list ≡ rows
 
 abbrev pub HasList : EntryBounds → ℕ → ℕ → Type 0

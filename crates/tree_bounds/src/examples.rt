@@ -13,15 +13,15 @@ ghost use Rattle.tree_bounds.specs.Nearness.{SetIsNear, TreeIsNear};
 ghost use Rattle.tree_bounds.specs.Tables.{Agrees, ChoicesAreDifferent, Satisfies, SetDominates, TreeDominates};
 ghost use Rattle.tree_bounds.specs.SetBounds.{SetHasLists, bound_of_set, bound_of_turn};
 ghost use Rattle.tree_bounds.specs.Counting.{tree_choices};
-ghost use Rattle.tree_bounds.specs.Examples.{path, path_bounds, two, two_choices, two_keys, two_tables, exact_list, exact_bounds, compressed_bounds, triangle_bounds, pair_bounds, one_class, many_bounds};
+ghost use Rattle.tree_bounds.specs.Examples.{path, path_bounds, r_and_s, two_choices, two_keys, two_tables, exact_list, exact_bounds, compressed_bounds, triangle_bounds, pair_bounds, one_class, many_bounds};
 
 /// The bounds of trees over two and three entries, and of two trees together.
 pub fn trees()
     ensures path { bound_of_tree path_bounds path ≡ 19 }
-    ensures compressed { bound_of_tree compressed_bounds two ≡ 12 }
-    ensures exact { bound_of_tree exact_bounds two ≡ 9 }
+    ensures compressed { bound_of_tree compressed_bounds r_and_s ≡ 12 }
+    ensures exact { bound_of_tree exact_bounds r_and_s ≡ 9 }
     ensures degrees { (degree_list (two_keys 0 0) ≡ exact_list 0 0) × (degree_list (two_keys 1 0) ≡ exact_list 1 0) }
-    ensures six_choices { tree_choices two_tables two
+    ensures six_choices { tree_choices two_tables r_and_s
         ≡ (0 ∷ 0 ∷ []) ∷ (0 ∷ 1 ∷ []) ∷ (1 ∷ 0 ∷ []) ∷ (1 ∷ 1 ∷ []) ∷ (2 ∷ 0 ∷ []) ∷ (2 ∷ 1 ∷ []) ∷ [] }
     ensures components { bound_of_trees path_bounds (path ∷ path ∷ []) ≡ 19 * 19 }
 {}
@@ -55,15 +55,15 @@ pub fn one_class()
 /// The premises of the laws can all be met. The exact lists of two tables dominate the tables, for the tree over the two and for the set of the two.
 /// Two different choices agree in the tree and satisfy the equality. The compressed lists are near the exact ones at accuracy 1.
 pub fn instances()
-    ensures lists { TreeHasLists exact_bounds two }
-    ensures dominates { TreeDominates exact_bounds two_tables two }
+    ensures lists { TreeHasLists exact_bounds r_and_s }
+    ensures dominates { TreeDominates exact_bounds two_tables r_and_s }
     ensures set_lists { SetHasLists exact_bounds (edge_of 0 0 1 0 ∷ []) 3 }
     ensures set_dominates { SetDominates exact_bounds two_tables (edge_of 0 0 1 0 ∷ []) 3 }
     ensures set_bound { bound_of_set exact_bounds (edge_of 0 0 1 0 ∷ []) 3 ≡ 9 }
-    ensures near_lists { TreeHasLists compressed_bounds two }
-    ensures near { TreeIsNear 1 compressed_bounds exact_bounds two }
+    ensures near_lists { TreeHasLists compressed_bounds r_and_s }
+    ensures near { TreeIsNear 1 compressed_bounds exact_bounds r_and_s }
     ensures set_near { SetIsNear 1 compressed_bounds exact_bounds (edge_of 0 0 1 0 ∷ []) 3 }
-    ensures agree { AllByRecursion (Agrees two_tables two) two_choices }
+    ensures agree { AllByRecursion (Agrees two_tables r_and_s) two_choices }
     ensures satisfy { AllByRecursion (Satisfies two_tables (entries_of_set 3) (equalities_within 3 (edge_of 0 0 1 0 ∷ []))) two_choices }
-    ensures different { ChoicesAreDifferent (entries two) two_choices }
+    ensures different { ChoicesAreDifferent (entries r_and_s) two_choices }
 {}

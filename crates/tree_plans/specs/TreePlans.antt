@@ -12,9 +12,9 @@ joined_nodes [] = []
 joined_nodes (join ∷ joins) = join.left ∷ join.right ∷ joined_nodes joins
 
 -- each join names two nodes with lower numbers than its own; the first join has the number `own`
-abbrev pub AreBehindTheirs : ℕ → List Join → Type 0
-AreBehindTheirs own [] = ⊤
-AreBehindTheirs own (join ∷ joins) = (join.left < own) × (join.right < own) × AreBehindTheirs (own + 1) joins
+abbrev pub HaveHigherNumbers : ℕ → List Join → Type 0
+HaveHigherNumbers own [] = ⊤
+HaveHigherNumbers own (join ∷ joins) = (join.left < own) × (join.right < own) × HaveHigherNumbers (own + 1) joins
 
 -- a plan for n entries: it has a bound for each entry's scan, and joins that make one tree, in which each node but the last is joined once. `cost`
 -- may be any number
@@ -22,7 +22,7 @@ pub record IsTreePlan (n : ℕ) (plan : BushyPlan) : Type 0 where
   pub few : n ≤ most_entries
   pub scans : length plan.scans ≡ n
   pub joins : length plan.joins + 1 ≡ n
-  pub behind : AreBehindTheirs n plan.joins
+  pub behind : HaveHigherNumbers n plan.joins
   pub once : (node : ℕ) → node < 2 * n - 2 → count_by (λ other. other == node) (joined_nodes plan.joins) ≡ 1
 
 -- each bound of the plan is at most `most`

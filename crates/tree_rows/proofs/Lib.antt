@@ -11,9 +11,9 @@
 --
 -- - Nodes are made by one fold over the list of inner nodes (`with_inners`). An inner node reads only nodes before it, so later nodes change
 --   nothing (`with_front`), and no definition recurses over a tree. The entries of a plan's nodes are made by the same fold (`with_joins`).
--- - Each node is joined once (`AreApart`): any two nodes that are still to be joined have no entry in common. A step takes two nodes out and
+-- - Each node is joined once (`AreDisjoint`): any two nodes that are still to be joined have no entry in common. A step takes two nodes out and
 --   puts their union in; counts are sums, so `omega` does the rest.
--- - The recursion of `read_row` is the only one in the code; its measure is the node's number. A row is `put` at the indexes of its entries,
+-- - The recursion of `read_row` is the only one in the code; its measure is the node's number. A row is `placed` at the indexes of its entries,
 --   so reading a pair is `put_append`.
 
 pub mod AllEntries

@@ -8,7 +8,7 @@ ghost use Rattle.tree_plans.specs.TreePlans.{IsTreePlan, BoundsAreWithin};
 ghost use Rattle.tree_rows.specs.Memory.{joins_bytes, tree_bytes};
 ghost use Rattle.tree_rows.specs.Rooms.{right_bounds_in};
 
-use crate::inner::{INNER_BYTES, PAIR_BYTES};
+use crate::inner::{INNER_NODE_BYTES, PAIR_BYTES};
 use crate::leaves::LEAVES_BYTES;
 use crate::reserving::{bound_at, most_keys};
 use reserve_plan::{CHAINS_BYTES, lists_memory, row_chain_bytes};
@@ -50,7 +50,7 @@ pub fn joins_memory(scans: &[u64], joins: &[Join]) -> u128
     ensures value { result ≡ joins_bytes scans.now joins.now }
     ensures small { result < 2 ^ 80 }
 {
-    let inners = INNER_BYTES as u128 * joins.len() as u128
+    let inners = INNER_NODE_BYTES as u128 * joins.len() as u128
         + PAIR_BYTES as u128 * pairs_total(joins);
     let chains = CHAINS_BYTES as u128 * joins.len() as u128 + chains_total(scans, joins);
     let row = ROW_NUMBER_BYTES as u128 * scans.len() as u128;

@@ -3,7 +3,7 @@ use Rattle.std.proofs.Common.{◌≡◌, ◌⊎◌, inl, inr, ℕ, List, Option,
 use Rattle.std.specs.Fmt.{digits}
 use Rattle.std.specs.Prelude.{codes, IsOkAnd}
 use Rattle.base_io.specs.Files.{Files}
-use Rattle.outcomes.specs.Reads.{seen}
+use Rattle.outcomes.specs.Reads.{mapped}
 use Rattle.outcomes.specs.declared.refusal.Refusal.{Refusal}
 use Rattle.outcomes.specs.declared.refusal.Refusal.TheVariants as refusal
 use Rattle.outcomes.specs.declared.status.Status.TheVariants as status
@@ -36,9 +36,9 @@ module _ (files : Files) (call : Call) (head : Headline call) (told : call.store
     by (inr memory) = inr memory
 
   -- if the verdict is a refusal, the call ends with the line of the refusal, or memory was lacking
-  turned_away : (r : Refusal) (line : List ℕ) → verdict call.words files ≡ Err r
+  is_refused : (r : Refusal) (line : List ℕ) → verdict call.words files ≡ Err r
       → fault_text (status.Refused r) call.words files ≡ line → Ended call (status.Refused r) (Some line) None ⊎ (call.status ≡ status.NoMemory)
-  turned_away r line is text = by (head.nothing_is_refused_without_cause.by_the_sinks sound.store sound.out sound.notes files told) where
+  is_refused r line is text = by (head.nothing_is_refused_without_cause.by_the_sinks sound.store sound.out sound.notes files told) where
     by : (call.status ≡ status_of (verdict call.words files)) ⊎ (call.status ≡ status.NoMemory)
         → Ended call (status.Refused r) (Some line) None ⊎ (call.status ≡ status.NoMemory)
     by (inl same) =
@@ -60,13 +60,13 @@ answers_done files words outcome notes out is left right call head same told sou
     (subst (λ o. Ended call status.Done (notes_text outcome) o ⊎ (call.status ≡ status.NoMemory)) right
     (accepted files call head told sound outcome (ap (λ w. verdict w files) same ∙ is)))
 
-of_printed : (answer : Result RunOutcome Refusal) (texts : Option (List ℕ) × Option (List ℕ)) → seen printed answer ≡ Ok texts
+of_printed : (answer : Result RunOutcome Refusal) (texts : Option (List ℕ) × Option (List ℕ)) → mapped printed answer ≡ Ok texts
     → (outcome : RunOutcome) × (answer ≡ Ok outcome) × (printed outcome ≡ texts)
 of_printed (Ok outcome) texts is = (outcome, refl, cc)
 of_printed (Err r) texts is = absurd (cc)
 
 -- if the verdict is known only by what it prints, each call with these words ends in Done with the printed texts
-pub answers_printed : (files : Files) (words : List (List ℕ)) (notes out : Option (List ℕ)) → seen printed (verdict words files) ≡ Ok (notes, out)
+pub answers_printed : (files : Files) (words : List (List ℕ)) (notes out : Option (List ℕ)) → mapped printed (verdict words files) ≡ Ok (notes, out)
     → EachCallEnds files words status.Done notes out
 answers_printed files words notes out is =
     let found = of_printed (verdict words files) (notes, out) is in
@@ -80,7 +80,7 @@ budget_line words = refl
 pub answers_budget : (words : List (List ℕ)) → verdict words small_files ≡ Err (refusal.Budget 12)
     → EachCallEnds small_files words (status.Refused (refusal.Budget 12)) (Some (codes "error budget 12\n")) None
 answers_budget words is call head same told sound =
-    turned_away small_files call head told sound (refusal.Budget 12) (codes "error budget 12\n")
+    is_refused small_files call head told sound (refusal.Budget 12) (codes "error budget 12\n")
     (ap (λ w. verdict w small_files) same ∙ is) (budget_line call.words)
 
 limit_line : (words : List (List ℕ)) → fault_text (status.Refused (refusal.MemoryLimit 556)) words small_files ≡ codes "error memory-limit 556\n"
@@ -91,5 +91,5 @@ limit_line words = refl
 pub answers_limit : (words : List (List ℕ)) → verdict words small_files ≡ Err (refusal.MemoryLimit 556)
     → EachCallEnds small_files words (status.Refused (refusal.MemoryLimit 556)) (Some (codes "error memory-limit 556\n")) None
 answers_limit words is call head same told sound =
-    turned_away small_files call head told sound (refusal.MemoryLimit 556) (codes "error memory-limit 556\n")
+    is_refused small_files call head told sound (refusal.MemoryLimit 556) (codes "error memory-limit 556\n")
     (ap (λ w. verdict w small_files) same ∙ is) (limit_line call.words)

@@ -9,7 +9,7 @@ use Rattle.berge_tree.specs.declared.edges.Edge.{Edge}
 use Rattle.degree_sequences.specs.Saturation.{saturated}
 use Rattle.entry_sets.specs.Sets.{entries_of_set, set_of}
 use Rattle.join_graph.specs.Conjuncts.{column_operand, equalities_of}
-use Rattle.join_graph.specs.Kept.{equalities_within, gone_round, joins_within, kept_in_order, kept_of, turn_count}
+use Rattle.join_graph.specs.Kept.{equalities_within, rotated, joins_within, kept_in_order, kept_of, turn_count}
 use Rattle.join_graph.proofs.Comparing.{equality_two}
 use Rattle.join_steps.specs.Lists.{list_at, list_sizes}
 use Rattle.query_bounds.specs.Examples.{pair}
@@ -17,15 +17,15 @@ use Rattle.query_grammar.specs.declared.tree.Op.TheVariants as op
 use Rattle.query_types.specs.declared.types.Cond.{Compare}
 use Rattle.query_types.proofs.CondFacts.{entries_compare}
 use Rattle.sql_meaning.specs.Answers.{conjuncts_of}
-use Rattle.sql_meaning.specs.Conditions.{comparison_says, cond_holds}
+use Rattle.sql_meaning.specs.Conditions.{comparison_holds, cond_holds}
 use Rattle.sql_meaning.specs.Levels.{Conjunct}
 use Rattle.sql_meaning.proofs.ConditionFacts.{holds_compare}
 use Rattle.tree_bounds.specs.SetBounds.{least_to}
-use Rattle.counted_bounds.specs.Bounds.{Counted, count_equal, counted_bounds_of_sets}
+use Rattle.counted_bounds.specs.Bounds.{CountsMade, count_equal, counted_bounds_of_sets}
 use Rattle.counted_bounds.specs.Counts.{conjuncts_of_set, count_over, is_of_set}
 use Rattle.counted_bounds.specs.Parts.{parts_of, product_over}
-use Rattle.counted_factors.specs.Asking.{Asked, cond_asked}
-use Rattle.counted_factors.specs.Limits.{all_asked, are_all_counted, are_equalities_counted, are_equalities_tried, are_kept, counted_of, equalities_asked, is_kept_alone, is_one_part, is_own_or_equality, is_within_limits, most_pairs_of_all, taken_below, taken_by_all, taken_by_set}
+use Rattle.counted_factors.specs.ColumnConjuncts.{ColumnConjunct, column_conjunct_of}
+use Rattle.counted_factors.specs.Limits.{column_conjuncts_of_set, are_all_counted, are_equalities_counted, are_equalities_tried, are_kept, counts_made, column_equalities_of_set, has_only_kept_equalities, is_one_part, is_own_or_equality, is_within_limits, most_pairs_of_all, taken_below, taken_by_all, taken_by_set}
 use Rattle.counted_planning.specs.Bounds.{set_bounds_by_counts}
 use Rattle.table_files.specs.Examples.{two_tables}
 use Rattle.safebound_words.specs.Answer.{command_of, kind_of, parts_from, reading_of}
@@ -55,7 +55,7 @@ abbrev asked_as : List ℕ → ((ℕ → ℕ) → Bool) → List Conjunct
 asked_as named says = record { entries = named; holds = says } ∷ []
 
 abbrev is_equal : (ℕ → ℕ) → Bool
-is_equal row_of = comparison_says T row_of op.Eq (column_operand 0 0) (column_operand 1 0)
+is_equal row_of = comparison_holds T row_of op.Eq (column_operand 0 0) (column_operand 1 0)
 
 conjuncts_found : conjuncts_of pair T ≡ asked_as (0 ∷ 1 ∷ []) is_equal
 conjuncts_found =
@@ -66,7 +66,7 @@ conjuncts_found =
 
 -- ---- every set is counted with all its conjuncts: the one equality is always kept, so counting with equalities alone is never tried
 
-one_kept : (p : Edge → Bool) → (length (kept_in_order (gone_round 0 (filter p (equality ∷ [])))) == length (filter p (equality ∷ []))) ≡ true
+one_kept : (p : Edge → Bool) → (length (kept_in_order (rotated 0 (filter p (equality ∷ [])))) == length (filter p (equality ∷ []))) ≡ true
 one_kept p = elim (cases_Bool (p equality)) [
   | inl t ↦ rw t refl
   | inr n ↦ rw n refl
@@ -75,21 +75,21 @@ one_kept p = elim (cases_Bool (p equality)) [
 kept_whole : (subset : ℕ) → are_kept pair subset ≡ true
 kept_whole subset = ap (λ (es : List Edge). length (kept_of subset 0 es) == length (equalities_within subset es)) joins ∙ one_kept (joins_within subset)
 
-one_own : (p : Asked → Bool) (entries : List ℕ) (a : Asked) → a.is_equality ≡ true → list_all (is_own_or_equality entries) (filter p (a ∷ [])) ≡ true
+one_own : (p : ColumnConjunct → Bool) (entries : List ℕ) (a : ColumnConjunct) → a.is_equality ≡ true → list_all (is_own_or_equality entries) (filter p (a ∷ [])) ≡ true
 one_own p entries a is = elim (cases_Bool (p a)) [
   | inl t ↦ rw (t, is) refl
   | inr n ↦ rw n refl
 ]
 
-kept_alone : (subset : ℕ) → is_kept_alone pair T subset ≡ true
-kept_alone subset = and_from (are_kept pair subset) (list_all (is_own_or_equality (entries_of_set subset)) (all_asked pair T subset))
+kept_alone : (subset : ℕ) → has_only_kept_equalities pair T subset ≡ true
+kept_alone subset = and_from (are_kept pair subset) (list_all (is_own_or_equality (entries_of_set subset)) (column_conjuncts_of_set pair T subset))
     (kept_whole subset)
-    (one_own (λ (a : Asked). is_of_set (entries_of_set subset) a.conjunct) (entries_of_set subset)
-    (cond_asked T (Compare op.Eq (column_operand 0 0) (column_operand 1 0))) (ap is_some (equality_two 0 0 1 0 (λ e. absurd (omega (arith, e))))))
+    (one_own (λ (a : ColumnConjunct). is_of_set (entries_of_set subset) a.conjunct) (entries_of_set subset)
+    (column_conjunct_of T (Compare op.Eq (column_operand 0 0) (column_operand 1 0))) (ap is_some (equality_two 0 0 1 0 (λ e. absurd (omega (arith, e))))))
 
 all_counted : (subset before : ℕ) → are_all_counted pair T reduced_lists subset before ≡ true
-all_counted subset before = or_left (is_kept_alone pair T subset)
-    (is_within_limits T reduced_lists subset (all_asked pair T subset) && nat_le (taken_by_all pair T reduced_lists subset before) most_pairs_of_all)
+all_counted subset before = or_left (has_only_kept_equalities pair T subset)
+    (is_within_limits T reduced_lists subset (column_conjuncts_of_set pair T subset) && nat_le (taken_by_all pair T reduced_lists subset before) most_pairs_of_all)
     (kept_alone subset)
 
 none_tried : (a b c : Bool) → c ≡ true → (a && not b && not c) ≡ false
@@ -102,13 +102,13 @@ none_of a b c is = rw is refl
 
 no_equalities : (subset before : ℕ) → are_equalities_counted pair T reduced_lists subset before ≡ false
 no_equalities subset before = none_of (are_equalities_tried pair T reduced_lists subset before)
-    (is_within_limits T reduced_lists subset (equalities_asked pair T subset)) (nat_le (taken_by_set pair T reduced_lists subset before) most_pairs_of_all)
+    (is_within_limits T reduced_lists subset (column_equalities_of_set pair T subset)) (nat_le (taken_by_set pair T reduced_lists subset before) most_pairs_of_all)
     (none_tried (is_one_part pair T subset) (are_all_counted pair T reduced_lists subset before) (are_kept pair subset) (kept_whole subset))
 
-abbrev counted_as : (ℕ → Bool) → (ℕ → Bool) → Counted
+abbrev counted_as : (ℕ → Bool) → (ℕ → Bool) → CountsMade
 counted_as all equalities = record { all = all; equalities = equalities }
 
-counted_found : counted_of pair T reduced_lists ≡ counted_as (λ subset. true) (λ subset. false)
+counted_found : counts_made pair T reduced_lists ≡ counted_as (λ subset. true) (λ subset. false)
 counted_found =
     ap (λ (all : ℕ → Bool). counted_as all (λ subset. are_equalities_counted pair T reduced_lists subset (taken_below pair T reduced_lists subset)))
     (fun_ext (λ (subset : ℕ). all_counted subset (taken_below pair T reduced_lists subset)))
@@ -133,7 +133,7 @@ bounds_found = refl
 sets : set_bounds_by_counts pair T reduced_lists ≡ 1 ∷ 3 ∷ 2 ∷ 6 ∷ []
 unfolding set_bounds_by_counts
 sets =
-    ap (λ (counted : Counted). counted_bounds_of_sets counted pair T reduced_lists) counted_found
+    ap (λ (counted : CountsMade). counted_bounds_of_sets counted pair T reduced_lists) counted_found
     ∙ ap (λ (conjuncts : List Conjunct). bounds_by conjuncts (equalities_of pair)) conjuncts_found
     ∙ ap (λ (es : List Edge). bounds_by (asked_as (0 ∷ 1 ∷ []) is_equal) es) joins
     ∙ bounds_found

@@ -17,7 +17,7 @@ use Rattle.key_bounds.specs.Bounds.{bounds_by_keys}
 use Rattle.key_bounds.specs.Examples.{by_manager, worker_schema, worker_tables, workers}
 use Rattle.order_search.specs.declared.refusal.PlanError.{PlanError}
 use Rattle.outcomes.specs.Errors.{plan_refusal, query_refusal, schema_refusal, table_refusal}
-use Rattle.outcomes.specs.Reads.{◌>>=◌, seen, told}
+use Rattle.outcomes.specs.Reads.{◌>>=◌, mapped, with_refusal}
 use Rattle.outcomes.specs.declared.refusal.Refusal.{Refusal}
 use Rattle.plan_answers.specs.BestOrder.{best_order}
 use Rattle.plan_answers.specs.PlanAnswer.{plan_answer}
@@ -74,11 +74,11 @@ asked = refl
 
 schema_found : schema_stage (codes "schema.sql") workers_files ≡ Ok worker_schema
 unfolding schema_stage workers_schema
-schema_found = ap (told schema_refusal) workers_read
+schema_found = ap (with_refusal schema_refusal) workers_read
 
 query_found : query_stage (codes "query.sql") worker_schema workers_files ≡ Ok by_manager
 unfolding query_stage workers_query
-query_found = ap (told query_refusal) workers_query_read
+query_found = ap (with_refusal query_refusal) workers_query_read
 
 abbrev rows : List Row
 rows = worker_tables 0
@@ -89,7 +89,7 @@ rows_read = refl
 
 rows_found : file_rows 0 workers workers_files ≡ Ok rows
 unfolding file_rows workers_text
-rows_found = ap (told (table_refusal 0)) rows_read
+rows_found = ap (with_refusal (table_refusal 0)) rows_read
 
 tables_found : tables_stage worker_schema by_manager.from workers_files ≡ Ok (rows ∷ rows ∷ [])
 unfolding tables_stage
@@ -123,8 +123,8 @@ chosen : plan_answer (1 ∷ 5 ∷ 1 ∷ 2 ∷ []) (5 ∷ 1 ∷ []) 1000000 ≡ O
 unfolding plan_answer best_order
 chosen = refl
 
-abbrev along : Result Plan PlanError → Result AnyPlan PlanError
-along answer = seen (λ plan. shaped.OrderPlan plan) answer
+abbrev as_order : Result Plan PlanError → Result AnyPlan PlanError
+as_order answer = mapped (λ plan. shaped.OrderPlan plan) answer
 
 abbrev plan : AnyPlan
 plan = shaped.OrderPlan (plan_of (1 ∷ 0 ∷ []) (5 ∷ 1 ∷ []) (1 ∷ 2 ∷ []))
@@ -136,7 +136,7 @@ plan_found =
     (fun_ext one_table)
     ∙ ap (λ (bounds : List ℕ). answer_of shapes.Order bounds (scan_bounds_of by_manager worker_tables 1) 1000000) manager_keyed
     ∙ ap (λ (bounds : List ℕ). answer_of shapes.Order (1 ∷ 5 ∷ 1 ∷ 2 ∷ []) bounds 1000000) scans
-    ∙ ap along chosen
+    ∙ ap as_order chosen
 
 abbrev run : AcceptedQuery
 run = run_asked task by_manager (rows ∷ rows ∷ []) plan
@@ -144,7 +144,7 @@ run = run_asked task by_manager (rows ∷ rows ∷ []) plan
 plan_made : plan_stage task worker_schema by_manager (rows ∷ rows ∷ []) ≡ Ok (Planned run)
 unfolding plan_stage
 plan_made =
-    ap (λ (answer : Result AnyPlan PlanError). told plan_refusal answer
+    ap (λ (answer : Result AnyPlan PlanError). with_refusal plan_refusal answer
     >>= λ plan. within_limit None (shape_bytes plan) (Planned (run_asked task by_manager (rows ∷ rows ∷ []) plan))) plan_found
 
 -- ---- the verdict
@@ -165,5 +165,5 @@ texts : printed (Planned run) ≡ (Some (codes "scan E 5\nscan M 1\nlevel 1 M 1\
 unfolding digits
 texts = refl
 
-pub keyed_printed : seen printed (verdict keyed_words workers_files) ≡ Ok (Some (codes "scan E 5\nscan M 1\nlevel 1 M 1\nlevel 2 E 2\n"), None)
-keyed_printed = ap (seen printed) keyed_verdict ∙ ap (λ (t : Option (List ℕ) × Option (List ℕ)). Ok t) texts
+pub keyed_printed : mapped printed (verdict keyed_words workers_files) ≡ Ok (Some (codes "scan E 5\nscan M 1\nlevel 1 M 1\nlevel 2 E 2\n"), None)
+keyed_printed = ap (mapped printed) keyed_verdict ∙ ap (λ (t : Option (List ℕ) × Option (List ℕ)). Ok t) texts

@@ -8,7 +8,7 @@ use Rattle.query_grammar.specs.declared.tree.Op.TheVariants as op
 use Rattle.join_graph.specs.Conjuncts.{column_operand}
 use Rattle.sql_meaning.specs.Answers.{conjuncts_of, selected}
 use Rattle.sql_meaning.specs.Choices.{all_rows, choices}
-use Rattle.sql_meaning.specs.Conditions.{comparison_says}
+use Rattle.sql_meaning.specs.Conditions.{comparison_holds}
 use Rattle.sql_meaning.specs.Levels.{all_hold, passes_own, row_in, scan}
 use Rattle.sql_meaning.specs.Tables.{Tables, row_counts}
 use Rattle.sql_meaning.proofs.ConditionFacts.{holds_compare}
@@ -31,11 +31,11 @@ abbrev pub T : Tables
 T = tables_in small_rows
 
 -- the query's only conjunct holds, or one of its entries isn't among `placed`
-abbrev pub says : List ℕ → (ℕ → ℕ) → Bool
-says placed row_of = (not (are_within (0 ∷ 1 ∷ []) placed) || comparison_says T row_of op.Eq (column_operand 0 0) (column_operand 1 0)) && true
+abbrev pub conjunct_holds : List ℕ → (ℕ → ℕ) → Bool
+conjunct_holds placed row_of = (not (are_within (0 ∷ 1 ∷ []) placed) || comparison_holds T row_of op.Eq (column_operand 0 0) (column_operand 1 0)) && true
 
-pub said : (placed : List ℕ) (row_of : ℕ → ℕ) → all_hold (conjuncts_of pair T) placed row_of ≡ says placed row_of
-said placed row_of =
+pub holds_by_conjunct : (placed : List ℕ) (row_of : ℕ → ℕ) → all_hold (conjuncts_of pair T) placed row_of ≡ conjunct_holds placed row_of
+holds_by_conjunct placed row_of =
     rw (entries_compare op.Eq (column_operand 0 0) (column_operand 1 0), holds_compare T row_of op.Eq (column_operand 0 0) (column_operand 1 0)) refl
 
 -- the conjunct names two entries, so each row of R passes the scan
@@ -57,14 +57,14 @@ lists_found = scans_found
 
 first_level : list_levels pair T small_lists (1 ∷ 0 ∷ []) 1 ≡ (0 ∷ []) ∷ (1 ∷ []) ∷ (2 ∷ []) ∷ (3 ∷ []) ∷ (4 ∷ []) ∷ []
 first_level = filter_agree (λ choice. all_hold (conjuncts_of pair T) (1 ∷ []) (row_in (1 ∷ []) choice))
-    (λ choice. says (1 ∷ []) (row_in (1 ∷ []) choice))
-    (λ choice. said (1 ∷ []) (row_in (1 ∷ []) choice)) (choices (map (list_at small_lists) (1 ∷ [])))
+    (λ choice. conjunct_holds (1 ∷ []) (row_in (1 ∷ []) choice))
+    (λ choice. holds_by_conjunct (1 ∷ []) (row_in (1 ∷ []) choice)) (choices (map (list_at small_lists) (1 ∷ [])))
 
 second_level : list_levels pair T small_lists (1 ∷ 0 ∷ []) 2
     ≡ (0 ∷ 0 ∷ []) ∷ (0 ∷ 1 ∷ []) ∷ (0 ∷ 2 ∷ []) ∷ (1 ∷ 0 ∷ []) ∷ (1 ∷ 1 ∷ []) ∷ (1 ∷ 2 ∷ []) ∷ []
 second_level = filter_agree (λ choice. all_hold (conjuncts_of pair T) (1 ∷ 0 ∷ []) (row_in (1 ∷ 0 ∷ []) choice))
-    (λ choice. says (1 ∷ 0 ∷ []) (row_in (1 ∷ 0 ∷ []) choice))
-    (λ choice. said (1 ∷ 0 ∷ []) (row_in (1 ∷ 0 ∷ []) choice)) (choices (map (list_at small_lists) (1 ∷ 0 ∷ [])))
+    (λ choice. conjunct_holds (1 ∷ 0 ∷ []) (row_in (1 ∷ 0 ∷ []) choice))
+    (λ choice. holds_by_conjunct (1 ∷ 0 ∷ []) (row_in (1 ∷ 0 ∷ []) choice)) (choices (map (list_at small_lists) (1 ∷ 0 ∷ [])))
 
 pub notes_text : (out : OutText) → plan_text (two_tables_run out None) ≡ codes "scan R 6\nscan S 5\nlevel 1 S 5\nlevel 2 R 12\n"
 unfolding digits
@@ -90,8 +90,8 @@ audit_printed = ap (λ (rows : List ℕ). Some (shape_audits pair.from (two_tabl
 
 root : chosen_rows pair T small_lists (0 ∷ 1 ∷ []) ≡ (0 ∷ 0 ∷ []) ∷ (0 ∷ 1 ∷ []) ∷ (1 ∷ 0 ∷ []) ∷ (1 ∷ 1 ∷ []) ∷ (2 ∷ 0 ∷ []) ∷ (2 ∷ 1 ∷ []) ∷ []
 root = filter_agree (λ choice. all_hold (conjuncts_of pair T) (0 ∷ 1 ∷ []) (row_in (0 ∷ 1 ∷ []) choice))
-    (λ choice. says (0 ∷ 1 ∷ []) (row_in (0 ∷ 1 ∷ []) choice))
-    (λ choice. said (0 ∷ 1 ∷ []) (row_in (0 ∷ 1 ∷ []) choice)) (choices (map (list_at small_lists) (0 ∷ 1 ∷ [])))
+    (λ choice. conjunct_holds (0 ∷ 1 ∷ []) (row_in (0 ∷ 1 ∷ []) choice))
+    (λ choice. holds_by_conjunct (0 ∷ 1 ∷ []) (row_in (0 ∷ 1 ∷ []) choice)) (choices (map (list_at small_lists) (0 ∷ 1 ∷ [])))
 
 pub tree_notes : (out : OutText) → plan_text (two_tables_tree out None) ≡ codes "scan R 6\nscan S 5\nnode 2 0 1 12\n"
 unfolding digits

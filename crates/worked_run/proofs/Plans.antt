@@ -5,7 +5,7 @@ use Rattle.plans.specs.Examples.{plan_of}
 use Rattle.plans.specs.declared.left_deep.Plan.{Plan}
 use Rattle.order_search.specs.declared.refusal.PlanError.{PlanError}
 use Rattle.order_search.specs.declared.refusal.PlanError.TheVariants as error
-use Rattle.outcomes.specs.Reads.{seen}
+use Rattle.outcomes.specs.Reads.{mapped}
 use Rattle.plan_answers.specs.BestOrder.{best_order}
 use Rattle.plan_answers.specs.PlanAnswer.{plan_answer}
 use Rattle.tree_answers.specs.AllTrees.{best_tree}
@@ -54,19 +54,19 @@ over_these shape budget =
     ap (λ (bounds : List ℕ). answer_of shape bounds (scan_bounds_of pair (tables_in small_rows) 1) budget) sets
     ∙ ap (λ (bounds : List ℕ). answer_of shape (1 ∷ 6 ∷ 5 ∷ 12 ∷ []) bounds budget) scans
 
-abbrev along : Result Plan PlanError → Result AnyPlan PlanError
-along answer = seen (λ plan. shaped.OrderPlan plan) answer
+abbrev as_order : Result Plan PlanError → Result AnyPlan PlanError
+as_order answer = mapped (λ plan. shaped.OrderPlan plan) answer
 
-abbrev over : Result BushyPlan PlanError → Result AnyPlan PlanError
-over answer = seen (λ plan. shaped.TreePlan plan) answer
+abbrev as_tree : Result BushyPlan PlanError → Result AnyPlan PlanError
+as_tree answer = mapped (λ plan. shaped.TreePlan plan) answer
 
 pub plan_found : planned_by shapes.Order (sourced sources.Columns two_tables pair (tables_in small_rows)) 1 1000000
     ≡ Ok (shaped.OrderPlan (plan_of (1 ∷ 0 ∷ []) (6 ∷ 5 ∷ []) (5 ∷ 12 ∷ [])))
-plan_found = over_these shapes.Order 1000000 ∙ ap along chosen
+plan_found = over_these shapes.Order 1000000 ∙ ap as_order chosen
 
 pub tree_found : planned_by shapes.Tree (sourced sources.Columns two_tables pair (tables_in small_rows)) 1 1000000
     ≡ Ok (shaped.TreePlan (tree_of (join 0 1 12 ∷ []) (6 ∷ 5 ∷ []) 12))
-tree_found = over_these shapes.Tree 1000000 ∙ ap over tree_chosen
+tree_found = over_these shapes.Tree 1000000 ∙ ap as_tree tree_chosen
 
 pub plan_refused : planned_by shapes.Order (sourced sources.Columns two_tables pair (tables_in small_rows)) 1 11 ≡ Err (error.Budget 12)
-plan_refused = over_these shapes.Order 11 ∙ ap along refused
+plan_refused = over_these shapes.Order 11 ∙ ap as_order refused

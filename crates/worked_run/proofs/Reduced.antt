@@ -12,7 +12,7 @@ use Rattle.join_steps.specs.Lists.{list_at, list_levels, list_sizes}
 use Rattle.level_bounds.specs.Keys.{are_equal_at}
 use Rattle.order_search.specs.declared.refusal.PlanError.{PlanError}
 use Rattle.outcomes.specs.Errors.{plan_refusal}
-use Rattle.outcomes.specs.Reads.{◌>>=◌, seen, told}
+use Rattle.outcomes.specs.Reads.{◌>>=◌, mapped, with_refusal}
 use Rattle.plan_answers.specs.BestOrder.{best_order}
 use Rattle.plan_answers.specs.PlanAnswer.{plan_answer}
 use Rattle.planning.specs.ListedBounds.{entry_bounds_over}
@@ -46,7 +46,7 @@ use Rattle.prepared_runs.specs.declared.shapes.AnyPlan.TheVariants as shaped
 use Rattle.safebound_top.specs.Texts.{out_text_of, plan_text}
 use Rattle.worked_run.specs.Meaning.{reduced_lists, small_lists, small_rows, two_tables_reduced}
 use Rattle.worked_run.specs.TwoTables.{reduced_words, small_files}
-use Rattle.worked_run.proofs.Levels.{T, said, says, scans_found}
+use Rattle.worked_run.proofs.Levels.{T, holds_by_conjunct, conjunct_holds, scans_found}
 use Rattle.worked_run.proofs.Verdicts.{of_words}
 
 abbrev pub task : ListSource → PlanWork
@@ -80,12 +80,12 @@ chosen : plan_answer (1 ∷ 3 ∷ 2 ∷ 6 ∷ []) (3 ∷ 2 ∷ []) 1000000 ≡ O
 unfolding plan_answer best_order
 chosen = refl
 
-abbrev along : Result Plan PlanError → Result AnyPlan PlanError
-along answer = seen (λ plan. shaped.OrderPlan plan) answer
+abbrev as_order : Result Plan PlanError → Result AnyPlan PlanError
+as_order answer = mapped (λ plan. shaped.OrderPlan plan) answer
 
 -- the plan from these bounds of the sets, over the rows that remain after semi-joins
 pub plan_over : (found : List ℕ) → found ≡ 1 ∷ 3 ∷ 2 ∷ 6 ∷ [] → answer_of shapes.Order found (list_sizes pair reduced_lists) 1000000 ≡ Ok (shaped.OrderPlan plan)
-plan_over found are = ap (λ (bounds : List ℕ). answer_of shapes.Order bounds (3 ∷ 2 ∷ []) 1000000) are ∙ ap along chosen
+plan_over found are = ap (λ (bounds : List ℕ). answer_of shapes.Order bounds (3 ∷ 2 ∷ []) 1000000) are ∙ ap as_order chosen
 
 plan_found : planned_by shapes.Order (sourced sources.Reduced two_tables pair T) 1 1000000 ≡ Ok (shaped.OrderPlan plan)
 unfolding planned_by sets_by scans_by
@@ -110,7 +110,7 @@ pub plan_made : (source : ListSource) → lists_by source pair T ≡ reduced_lis
     → plan_stage (task source) two_tables pair small_rows ≡ Ok (Planned (two_tables_reduced source))
 unfolding plan_stage
 plan_made source lists found =
-    ap (λ (answer : Result AnyPlan PlanError). told plan_refusal answer
+    ap (λ (answer : Result AnyPlan PlanError). with_refusal plan_refusal answer
     >>= λ plan. within_limit None (shape_bytes plan) (Planned (run_asked (task source) pair small_rows plan))) found
     ∙ ap (λ run. Ok (Planned run)) (with_lists source lists)
 
@@ -132,8 +132,8 @@ reduced_notes source = refl
 second_level : list_levels pair T reduced_lists (1 ∷ 0 ∷ []) 2
     ≡ (0 ∷ 0 ∷ []) ∷ (0 ∷ 1 ∷ []) ∷ (0 ∷ 2 ∷ []) ∷ (1 ∷ 0 ∷ []) ∷ (1 ∷ 1 ∷ []) ∷ (1 ∷ 2 ∷ []) ∷ []
 second_level = filter_agree (λ choice. all_hold (conjuncts_of pair T) (1 ∷ 0 ∷ []) (row_in (1 ∷ 0 ∷ []) choice))
-    (λ choice. says (1 ∷ 0 ∷ []) (row_in (1 ∷ 0 ∷ []) choice))
-    (λ choice. said (1 ∷ 0 ∷ []) (row_in (1 ∷ 0 ∷ []) choice)) (choices (map (list_at reduced_lists) (1 ∷ 0 ∷ [])))
+    (λ choice. conjunct_holds (1 ∷ 0 ∷ []) (row_in (1 ∷ 0 ∷ []) choice))
+    (λ choice. holds_by_conjunct (1 ∷ 0 ∷ []) (row_in (1 ∷ 0 ∷ []) choice)) (choices (map (list_at reduced_lists) (1 ∷ 0 ∷ [])))
 
 pub reduced_printed : (source : ListSource) → out_text_of (two_tables_reduced source) ≡ Some (codes "X\r\n1\r\n1\r\n1\r\n1\r\n1\r\n1\r\n")
 unfolding digits

@@ -15,7 +15,7 @@ use Rattle.join_graph.specs.Conjuncts.{column_operand}
 use Rattle.join_graph.proofs.Comparing.{equality_two}
 use Rattle.limits.specs.Profile.{most_file}
 use Rattle.outcomes.specs.Errors.{stats_refusal, table_refusal}
-use Rattle.outcomes.specs.Reads.{◌>>=◌, seen, told}
+use Rattle.outcomes.specs.Reads.{◌>>=◌, mapped, with_refusal}
 use Rattle.outcomes.specs.declared.names.FileId.TheVariants as file_id
 use Rattle.outcomes.specs.declared.refusal.Refusal.{Refusal}
 use Rattle.query_bounds.specs.Examples.{pair}
@@ -106,23 +106,23 @@ there : read file_id.Stats most_file (codes "rs.stats") small_files ≡ Ok stats
 unfolding stats_text r_stats r_cuts s_stats
 there = refl
 
-alike : seen printed (command_run (over_query None (codes "schema.sql") (codes "query.sql") (works.PlanFromStats (codes "rs.stats") (terms_by 1000000 false None))) small_files)
+alike : mapped printed (command_run (over_query None (codes "schema.sql") (codes "query.sql") (works.PlanFromStats (codes "rs.stats") (terms_by 1000000 false None))) small_files)
     ≡ Ok (Some (codes "scan R 6\nscan S 5\nlevel 1 S 5\nlevel 2 R 12\n"), None)
 alike =
     files_alike (codes "schema.sql") (codes "query.sql") (codes "rs.stats") 1 (terms_by 1000000 false None) small_files small_stats_file stats_text (omega arith) (omega arith) file_made stats_printed there
-    ∙ ap (seen printed) plan_alone ∙ ap (λ (t : List ℕ). Ok (Some t, None)) (notes_text out_texts.Nothing)
+    ∙ ap (mapped printed) plan_alone ∙ ap (λ (t : List ℕ). Ok (Some t, None)) (notes_text out_texts.Nothing)
 
-pub plan_printed : seen printed (verdict from_file_words small_files) ≡ Ok (Some (codes "scan R 6\nscan S 5\nlevel 1 S 5\nlevel 2 R 12\n"), None)
+pub plan_printed : mapped printed (verdict from_file_words small_files) ≡ Ok (Some (codes "scan R 6\nscan S 5\nlevel 1 S 5\nlevel 2 R 12\n"), None)
 plan_printed =
-    ap (seen printed) (asked_run from_file_words (over_query None (codes "schema.sql") (codes "query.sql") (works.PlanFromStats (codes "rs.stats") (terms_by 1000000 false None))) from_file_asked) ∙ alike
+    ap (mapped printed) (asked_run from_file_words (over_query None (codes "schema.sql") (codes "query.sql") (works.PlanFromStats (codes "rs.stats") (terms_by 1000000 false None))) from_file_asked) ∙ alike
 
 -- ---- the statistics file after new rows are appended
 
-said : DeclaresSchema small_files (codes "schema.sql") two_tables
-said = declares (codes "schema.sql") small_files two_tables schema_found
+schema_declared : DeclaresSchema small_files (codes "schema.sql") two_tables
+schema_declared = declares (codes "schema.sql") small_files two_tables schema_found
 
 valid : IsValid two_tables
-valid = declares_valid said.text two_tables said.declares.is
+valid = declares_valid schema_declared.text two_tables schema_declared.declares.is
 
 keeps : KeepsRules two_tables small_stats
 keeps =
@@ -135,9 +135,9 @@ keeps =
 file_read : stats_stage (codes "rs.stats") two_tables small_files ≡ Ok small_stats
 unfolding stats_stage
 file_read =
-    ap (λ (text : Result (List ℕ) Refusal). text >>= λ t. told stats_refusal (stats_answer two_tables t)) there
-    ∙ ap (λ (t : List ℕ). told stats_refusal (stats_answer two_tables t)) (sym text_is)
-    ∙ ap (told stats_refusal) (written two_tables small_stats valid (declared_bytes said.text two_tables said.declares.is) keeps)
+    ap (λ (text : Result (List ℕ) Refusal). text >>= λ t. with_refusal stats_refusal (stats_answer two_tables t)) there
+    ∙ ap (λ (t : List ℕ). with_refusal stats_refusal (stats_answer two_tables t)) (sym text_is)
+    ∙ ap (with_refusal stats_refusal) (written two_tables small_stats valid (declared_bytes schema_declared.text two_tables schema_declared.declares.is) keeps)
 
 section_found : section_stage (codes "R") two_tables small_stats ≡ Ok (section 0 6)
 unfolding section_stage
@@ -149,7 +149,7 @@ new_read = refl
 
 rows_found : rows_in 0 (numbers_table (codes "R")) (codes "new.csv") small_files ≡ Ok (rows_of (1 ∷ 4 ∷ []))
 unfolding new_text
-rows_found = ap (told (table_refusal 0)) new_read
+rows_found = ap (with_refusal (table_refusal 0)) new_read
 
 few : grown_stage two_tables small_stats 0 6 (rows_of (1 ∷ 4 ∷ [])) ≡ Ok small_appended
 unfolding grown_stage

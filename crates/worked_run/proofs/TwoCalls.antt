@@ -2,7 +2,7 @@
 use Rattle.std.proofs.Common.{◌≡◌, ℕ, false, List, None, Some, Ok, refl, ap, sym, ◌∙◌, subst}
 use Rattle.std.specs.Prelude.{codes}
 use Rattle.base_io.specs.Files.{Files, file_of}
-use Rattle.safebound_laws.proofs.Ended.{same_some}
+use Rattle.safebound_laws.proofs.DoneRun.{same_some}
 use Rattle.safebound_laws.proofs.Planned.{plan_holds}
 use Rattle.safebound_laws.specs.FileCalls.{PlannedFrom, Took, WroteStats}
 use Rattle.safebound_laws.specs.FilePlans.{PlanHolds}
@@ -42,14 +42,14 @@ plan_asked = refl
 asks : (words these : List (List ℕ)) (command : Command) → words ≡ these → command_of these ≡ Some command → AskFor words command
 asks words these command same computed = computed_asked words command (ap command_of same ∙ computed)
 
-said : DeclaresSchema small_files (codes "schema.sql") two_tables
-said = declares (codes "schema.sql") small_files two_tables schema_found
+schema_declared : DeclaresSchema small_files (codes "schema.sql") two_tables
+schema_declared = declares (codes "schema.sql") small_files two_tables schema_found
 
 -- the text of the schema declares only the two tables, whatever file has this text
 said_by_text : IsTheOne (λ s. IsSchemaOf schema_text (Ok s)) two_tables
 said_by_text =
     let here : file_of small_files (codes "schema.sql") ≡ Some schema_text = refl in
-    subst (λ (t : List ℕ). IsTheOne (λ s. IsSchemaOf t (Ok s)) two_tables) (same_some said.text schema_text (sym said.there ∙ here)) said.declares
+    subst (λ (t : List ℕ). IsTheOne (λ s. IsSchemaOf t (Ok s)) two_tables) (same_some schema_declared.text schema_text (sym schema_declared.there ∙ here)) schema_declared.declares
 
 pub holds_by_bytes : (made planned : Call) (files : Files) → Headline made → made.words ≡ stats_words → made.status ≡ status.Done
     → made.store.files ≡ Some small_files → Took made.out stats_text
@@ -59,7 +59,7 @@ pub holds_by_bytes : (made planned : Call) (files : Files) → Headline made →
 holds_by_bytes made planned files head words done told took later_head later_words later_done later_told schema there =
     let wrote : WroteStats (stats_call made) two_tables stats_text = record {
       done = record { headline = head; asked = asks made.words stats_words stats_command words stats_asked; done = done; told = told };
-      declares = said;
+      declares = schema_declared;
       wrote = took;
     } in
     let from : PlannedFrom two_tables stats_text (plan_call planned files) = record {

@@ -4,7 +4,7 @@ use Rattle.std.specs.Prelude.{codes}
 use Rattle.csv_tables.specs.Rows.{Row}
 use Rattle.order_search.specs.declared.refusal.PlanError.{PlanError}
 use Rattle.outcomes.specs.Errors.{plan_refusal, query_refusal, schema_refusal, table_refusal}
-use Rattle.outcomes.specs.Reads.{◌>>=◌, told}
+use Rattle.outcomes.specs.Reads.{◌>>=◌, with_refusal}
 use Rattle.outcomes.specs.declared.refusal.Refusal.{Refusal}
 use Rattle.outcomes.specs.declared.refusal.Refusal.TheVariants as refusal
 use Rattle.query_bounds.specs.Examples.{pair}
@@ -79,19 +79,19 @@ narrow_asked = refl
 
 pub schema_found : schema_stage (codes "schema.sql") small_files ≡ Ok two_tables
 unfolding schema_stage schema_text
-schema_found = ap (told schema_refusal) schema_read
+schema_found = ap (with_refusal schema_refusal) schema_read
 
 pub query_found : query_stage (codes "query.sql") two_tables small_files ≡ Ok pair
 unfolding query_stage query_text
-query_found = ap (told query_refusal) query_read
+query_found = ap (with_refusal query_refusal) query_read
 
 r_found : file_rows 0 (numbers_table (codes "R")) small_files ≡ Ok (rows_of r_column)
 unfolding file_rows r_text
-r_found = ap (told (table_refusal 0)) r_read
+r_found = ap (with_refusal (table_refusal 0)) r_read
 
 s_found : file_rows 1 (numbers_table (codes "S")) small_files ≡ Ok (rows_of s_column)
 unfolding file_rows s_text
-s_found = ap (told (table_refusal 1)) s_read
+s_found = ap (with_refusal (table_refusal 1)) s_read
 
 pub tables_found : tables_stage two_tables pair.from small_files ≡ Ok small_rows
 unfolding tables_stage
@@ -124,7 +124,7 @@ made : (out : OutText) (shape : Shape) (memory : Option ℕ) (plan : AnyPlan) �
     ≡ within_limit memory (shape_bytes plan) (Planned (run_asked (task out shape 1000000 memory) pair small_rows plan))
 unfolding plan_stage
 made out shape memory plan is =
-    ap (λ (answer : Result AnyPlan PlanError). told plan_refusal answer
+    ap (λ (answer : Result AnyPlan PlanError). with_refusal plan_refusal answer
     >>= λ plan. within_limit memory (shape_bytes plan) (Planned (run_asked (task out shape 1000000 memory) pair small_rows plan))) is
 
 -- the plan as an order, tested against the limit of memory if there is one
@@ -144,7 +144,7 @@ tree_made out =
 
 plan_too_dear : plan_stage (task out_text.Rows shapes.Order 11 None) two_tables pair small_rows ≡ Err (refusal.Budget 12)
 unfolding plan_stage
-plan_too_dear = ap (λ (plan : Result AnyPlan PlanError). told plan_refusal plan
+plan_too_dear = ap (λ (plan : Result AnyPlan PlanError). with_refusal plan_refusal plan
     >>= λ plan. Ok (Planned (run_asked (task out_text.Rows shapes.Order 11 None) pair small_rows plan))) plan_refused
 
 -- ---- the stages are put together

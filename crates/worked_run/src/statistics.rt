@@ -3,7 +3,7 @@ ghost use Rattle.std.specs.Prelude.{◌≡◌, Ok, None, Some, codes};
 ghost use Rattle.base_io.specs.Files.{Files, file_of};
 ghost use Rattle.safebound_laws.specs.FileCalls.{Took};
 ghost use Rattle.safebound_laws.specs.FilePlans.{PlanHolds};
-ghost use Rattle.outcomes.specs.Reads.{seen};
+ghost use Rattle.outcomes.specs.Reads.{mapped};
 ghost use Rattle.outcomes.specs.declared.status.Status.TheVariants as status;
 ghost use Rattle.prepared_runs.specs.Verdict.{verdict};
 ghost use Rattle.safebound_laws.specs.Printed.{printed};
@@ -25,7 +25,7 @@ pub fn statistics_written()
 
 /// `plan schema.sql query.sql --stats rs.stats`: if the file has the bytes that `stats` writes, the plan is the one over the tables.
 pub fn planned_from_a_file()
-    ensures printed { seen printed (verdict from_file_words small_files)
+    ensures printed { mapped printed (verdict from_file_words small_files)
         ≡ Ok (Some (codes "scan R 6\nscan S 5\nlevel 1 S 5\nlevel 2 R 12\n"), None) }
     ensures call { EachCallEnds small_files from_file_words status.Done (Some (codes "scan R 6\nscan S 5\nlevel 1 S 5\nlevel 2 R 12\n")) None }
 {}

@@ -135,8 +135,8 @@ pub returns-clause-compressed : goal.returns-clause-compressed
 returns-clause-compressed c =
     let end : length (expanded c.pieces-runs.result.now) ≤ c.loop-equal.invariant.rank = rank_at_end c.pieces-runs.result.now c.loop-equal.equal-index c.loop-equal.invariant.rank c.loop-equal.invariant.before (omega arith) in
     elim c.if-run-gt0.branch [
-      | then-run-gt0+in_ok-finish w ↦ (let ended = growing_ended c.args.accuracy (expanded c.pieces-runs.result.now) c.loop-equal.invariant.rank c.loop-equal.pieces c.loop-equal.run.value c.loop-equal.run.count c.loop-equal.head c.loop-equal.rows c.loop-equal.covered c.loop-equal.invariant.growing end w.if-run-gt0.true in
-          w.pieces-is ∙ w.in_ok-finish.ensures ∙ (rw ended.0 (c.loop-equal.invariant.growing.complete w.if-run-gt0.true ended.1)))
+      | then-run-gt0+in_ok-finish w ↦ (let run_ended = growing_ended c.args.accuracy (expanded c.pieces-runs.result.now) c.loop-equal.invariant.rank c.loop-equal.pieces c.loop-equal.run.value c.loop-equal.run.count c.loop-equal.head c.loop-equal.rows c.loop-equal.covered c.loop-equal.invariant.growing end w.if-run-gt0.true in
+          w.pieces-is ∙ w.in_ok-finish.ensures ∙ (rw run_ended.0 (c.loop-equal.invariant.growing.complete w.if-run-gt0.true run_ended.1)))
       | else-run-gt0 w ↦ w.pieces-is ∙ growing_empty c.args.accuracy (expanded c.pieces-runs.result.now) c.loop-equal.invariant.rank c.loop-equal.pieces c.loop-equal.run.value c.loop-equal.run.count c.loop-equal.head c.loop-equal.rows c.loop-equal.covered c.loop-equal.invariant.growing end w.if-run-gt0.false
     ]
     ∙ ap (compressed c.args.accuracy) (sym c.pieces-runs.ensures.stands_for)

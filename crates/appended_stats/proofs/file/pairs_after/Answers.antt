@@ -1,6 +1,6 @@
 use Rattle.std.proofs.Common.{◌≡◌, ℕ, List, length, ap, ◌∙◌, arith}
 use Rattle.std.proofs.lemmas.List.{length-set}
-use Rattle.stats_file.specs.declared.types.Pair.{Pair}
+use Rattle.stats_file.specs.declared.types.PairStats.{PairStats}
 use Rattle.appended_stats.specs.Cells.{pair_by_cells}
 use Rattle.appended_stats.specs.Conditions.{MayGrow}
 use Rattle.appended_stats.proofs.Walks.{all_changed, length-changed, one_changed, read_all}
@@ -27,7 +27,7 @@ replace-requires c =
       c.loop-i-test.true,
       c.len-i-end.ensures,
       length-changed (pair_by_cells c.args.pool.now c.args.cells.now c.args.accuracy c.args.before) c.args.pairs c.loop-i.after c.loop-i.i c.loop-i.invariant,
-      ap (λ (s : List Pair). length s) c.replace-pair.ensures.new ∙ length-set c.loop-i.after c.loop-i.i _,
+      ap (λ (s : List PairStats). length s) c.replace-pair.ensures.new ∙ length-set c.loop-i.after c.loop-i.i _,
     )
 
 pub loop-i-preserved : goal.loop-i-preserved

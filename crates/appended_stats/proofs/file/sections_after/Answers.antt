@@ -1,7 +1,7 @@
 use Rattle.std.proofs.Common.{◌≡◌, ℕ, List, length, ap, ◌∙◌, arith}
 use Rattle.std.proofs.lemmas.List.{length-set}
 use Rattle.stats_file.specs.declared.types.TableStats.{TableStats}
-use Rattle.appended_stats.specs.Cells.{one_by_cells}
+use Rattle.appended_stats.specs.Cells.{section_after_by_cells}
 use Rattle.appended_stats.proofs.Sections.{may_grow, one_grown, other_kept}
 use Rattle.appended_stats.proofs.Walks.{all_changed, length-changed}
 use Rattle.appended_stats.proofs.file.sections_after.Goals as goal
@@ -13,7 +13,7 @@ get-requires c =
       arith,
       c.loop-i-test.true,
       c.len-i-end.ensures,
-      length-changed (one_by_cells c.args.pool.now c.args.cells.now c.args.accuracy c.args.table) c.args.sections c.loop-i.after c.loop-i.i c.loop-i.invariant,
+      length-changed (section_after_by_cells c.args.pool.now c.args.cells.now c.args.accuracy c.args.table) c.args.sections c.loop-i.after c.loop-i.i c.loop-i.invariant,
     )
 
 pub replace-section-requires : goal.replace-section-requires
@@ -22,7 +22,7 @@ replace-section-requires c =
       arith,
       c.loop-i-test.true,
       c.len-i-end.ensures,
-      length-changed (one_by_cells c.args.pool.now c.args.cells.now c.args.accuracy c.args.table) c.args.sections c.loop-i.after c.loop-i.i c.loop-i.invariant,
+      length-changed (section_after_by_cells c.args.pool.now c.args.cells.now c.args.accuracy c.args.table) c.args.sections c.loop-i.after c.loop-i.i c.loop-i.invariant,
     )
 
 pub section_after-requires-clause-section : goal.section_after-requires-clause-section
@@ -36,7 +36,7 @@ replace-requires c =
       arith,
       c.loop-i-test.true,
       c.len-i-end.ensures,
-      length-changed (one_by_cells c.args.pool.now c.args.cells.now c.args.accuracy c.args.table) c.args.sections c.loop-i.after c.loop-i.i c.loop-i.invariant,
+      length-changed (section_after_by_cells c.args.pool.now c.args.cells.now c.args.accuracy c.args.table) c.args.sections c.loop-i.after c.loop-i.i c.loop-i.invariant,
       ap (λ (s : List TableStats). length s) c.replace-section.ensures.new ∙ length-set c.loop-i.after c.loop-i.i _,
     )
 
@@ -51,5 +51,5 @@ loop-i-preserved c = elim c.if-get-table.branch [
 
 pub returns : goal.returns
 returns c =
-    all_changed (one_by_cells c.args.pool.now c.args.cells.now c.args.accuracy c.args.table) c.args.sections c.loop-i.after c.loop-i.i
+    all_changed (section_after_by_cells c.args.pool.now c.args.cells.now c.args.accuracy c.args.table) c.args.sections c.loop-i.after c.loop-i.i
     (omega (arith, c.loop-i-test.false, c.len-i-end.ensures)) c.loop-i.invariant

@@ -26,8 +26,8 @@ get-requires-in-loop-i c =
       length-changed (with_new_rows (value_of_cell c.args.pool.now c.args.kind) c.args.accuracy (zip c.args.cells.now c.args.joined.now)) c.args.frequent c.loop-i.grown c.loop-i.i c.loop-i.invariant,
     )
 
-pub added-requires-clause-list : goal.added-requires-clause-list
-added-requires-clause-list c =
+pub sum_by_rank-requires-clause-list : goal.sum_by_rank-requires-clause-list
+sum_by_rank-requires-clause-list c =
     read_all (λ (found : Datum × List ℕ). sum found.1 < 2 ^ 64) (with_new_rows (value_of_cell c.args.pool.now c.args.kind) c.args.accuracy (zip c.args.cells.now c.args.joined.now))
     c.args.frequent c.loop-i.grown c.loop-i.i c.get-in-loop-i.result.now c.requires.frequent (omega (arith, c.loop-i-test.true, c.len-i-end.ensures)) c.loop-i.invariant c.get-in-loop-i.ensures
 

@@ -55,8 +55,8 @@ lists_of_nodes-requires-clause-rows c =
     leaves_few (are_read c.args.pool.now c.requires.cells c.requires.pair c.get-kind.ensures c.get.ensures c.as_slice-values.ensures c.get-2.ensures c.as_slice-keys.ensures)
     c.args.accuracy c.as_slice-2.result.now (c.as_slice-2.ensures.value ∙ c.in_ok-leaves.ensures)
 
-pub added-requires-2-clause-other : goal.added-requires-2-clause-other
-added-requires-2-clause-other c =
+pub sum_by_rank-requires-2-clause-other : goal.sum_by_rank-requires-2-clause-other
+sum_by_rank-requires-2-clause-other c =
     rest_small (are_read c.args.pool.now c.requires.cells c.requires.pair c.get-kind.ensures c.get.ensures c.as_slice-values.ensures c.get-2.ensures c.as_slice-keys.ensures)
     c.args.accuracy _ c.in_ok-others.others c.in_ok-others.ensures.list
 
@@ -70,19 +70,19 @@ returns-in_err-frequent c =
     let p = err_from_is_err_and c.from_residual-in_err-frequent.result c.from_residual-in_err-frequent.ensures.1 in
     rw p.1 tt
 
-pub all_added-requires-clause-many : goal.all_added-requires-clause-many
-all_added-requires-clause-many c =
+pub sums_by_rank-requires-clause-many : goal.sums_by_rank-requires-clause-many
+sums_by_rank-requires-clause-many c =
     as_many (are_read c.args.pool.now c.requires.cells c.requires.pair c.get-kind.ensures c.get.ensures c.as_slice-values.ensures c.get-2.ensures c.as_slice-keys.ensures)
     c.args.accuracy c.as_slice-2.result.now c.in_ok-more.more c.as_slice-4.result.now c.as_slice-3.result.now (c.as_slice-2.ensures.value ∙ c.in_ok-leaves.ensures) c.in_ok-more.ensures
     c.as_slice-4.ensures c.as_slice-3.ensures
 
-pub all_added-requires-clause-lists : goal.all_added-requires-clause-lists
-all_added-requires-clause-lists c =
+pub sums_by_rank-requires-clause-lists : goal.sums_by_rank-requires-clause-lists
+sums_by_rank-requires-clause-lists c =
     own_small (are_read c.args.pool.now c.requires.cells c.requires.pair c.get-kind.ensures c.get.ensures c.as_slice-values.ensures c.get-2.ensures c.as_slice-keys.ensures)
     c.as_slice-3.result.now c.as_slice-3.ensures
 
-pub all_added-requires-clause-others : goal.all_added-requires-clause-others
-all_added-requires-clause-others c =
+pub sums_by_rank-requires-clause-others : goal.sums_by_rank-requires-clause-others
+sums_by_rank-requires-clause-others c =
     nodes_small (are_read c.args.pool.now c.requires.cells c.requires.pair c.get-kind.ensures c.get.ensures c.as_slice-values.ensures c.get-2.ensures c.as_slice-keys.ensures)
     c.args.accuracy c.as_slice-2.result.now c.in_ok-more.more c.as_slice-4.result.now (c.as_slice-2.ensures.value ∙ c.in_ok-leaves.ensures) c.in_ok-more.ensures c.as_slice-4.ensures
 

@@ -5,7 +5,7 @@ use Rattle.std.proofs.lemmas.Slice.Zip.{length-zip}
 use Rattle.csv_tables.specs.Cells.{value_of_cell}
 use Rattle.degree_sequences.specs.Degrees.{different}
 use Rattle.relabelling_laws.proofs.Rows.{columns_are}
-use Rattle.appended_stats.specs.Grown.{is_frequent, list_of_any, other_values}
+use Rattle.appended_stats.specs.Grown.{is_frequent, list_for_any_of, other_values}
 use Rattle.appended_stats.proofs.Groups.{groups_are, groups_few, list_of_groups}
 use Rattle.appended_stats.proofs.rest.list_of_others.Goals as goal
 
@@ -24,7 +24,7 @@ returns c =
     ∙ ap (λ (s : List ℕ). different (filter (λ cell. not (is_frequent c.args.frequent.now (value_of_cell c.args.pool.now c.args.kind cell))) s))
     (sym (columns_are c.args.cells.now c.args.joined.now (sym c.requires.joined)).0) in record {
       list = IfOk-weaker c.list_of_groups.result (λ (list : List ℕ). list ≡ list_of_groups c.args.accuracy c.as_slice.result.now)
-          (λ (list : List ℕ). list ≡ list_of_any c.args.accuracy rows (other_values (value_of_cell c.args.pool.now c.args.kind) rows c.args.frequent.now))
+          (λ (list : List ℕ). list ≡ list_for_any_of c.args.accuracy rows (other_values (value_of_cell c.args.pool.now c.args.kind) rows c.args.frequent.now))
           (λ list made. made ∙ groups_are c.args.accuracy rows c.in_ok-others.others.keys c.as_slice.result.now (c.as_slice.ensures ∙ c.in_ok-groups.ensures)
-          ∙ ap (list_of_any c.args.accuracy rows) others) c.list_of_groups.ensures;
+          ∙ ap (list_for_any_of c.args.accuracy rows) others) c.list_of_groups.ensures;
     }

@@ -1,5 +1,5 @@
 use Rattle.std.proofs.Common.{◌≡◌, ◌≤◌, length}
-use Rattle.base_io.specs.Files.{IsFront, told}
+use Rattle.base_io.specs.Files.{IsFront, answer_about}
 use Rattle.base_io.proofs.read.read_file.Given as goal
 
 abbrev pub invariant-turns : goal.invariant-turns
@@ -10,5 +10,5 @@ invariant-turns g l = record {
   same : g.S.Store.files l.store ≡ g.S.Store.files l.initial.store;
   misses : g.S.Store.misses l.store ≡ g.S.Store.misses l.initial.store;
   first : length l.items.items ≡ 0 → g.S.Store.faults l.store ≡ g.S.Store.faults l.initial.store;
-  front : IsFront (told (g.S.Store.files l.initial.store) l.name) l.items.items;
+  front : IsFront (answer_about (g.S.Store.files l.initial.store) l.name) l.items.items;
 }

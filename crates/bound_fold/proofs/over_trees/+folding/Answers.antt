@@ -7,7 +7,7 @@ use Rattle.berge_tree.specs.Boxed.{classes_of, members_of}
 use Rattle.tree_bounds.specs.Saturating.{saturated_class}
 use Rattle.tree_bounds.specs.TreeBounds.{child_lists, class_list}
 use Rattle.bound_fold.specs.Lists.{bounds_of}
-use Rattle.bound_fold.proofs.Below.{if_ok, found_list, found_small, listed_total, columns_total, gathered, one_more_class, entry_done, class_done}
+use Rattle.bound_fold.proofs.Below.{if_ok, found_list, found_small, listed_total, columns_total, lists_of_children, one_more_class, entry_done, class_done}
 use Rattle.bound_fold.proofs.over_trees.+folding.Goals as goal
 
 pub add_children-returns-in_ok-push-in-And : goal.add_children-returns-in_ok-push-in-And
@@ -38,7 +38,7 @@ entry_list-own_list-requires t c =
 pub entry_list-compose-requires-clause-columns : goal.entry_list-compose-requires-clause-columns
 entry_list-compose-requires-clause-columns t c =
     columns_total c.args.lists.now c.args.entry (classes_of c.args.below.now) (sum c.unwrap-list.result.now) c.as_slice.result.now c.requires.others
-    (gathered (bounds_of c.args.lists.now) c.args.entry (classes_of c.args.below.now) c.new-children.result.items c.add_children.new.children.items c.as_slice.result.now c.as_slice.ensures.value
+    (lists_of_children (bounds_of c.args.lists.now) c.args.entry (classes_of c.args.below.now) c.new-children.result.items c.add_children.new.children.items c.as_slice.result.now c.as_slice.ensures.value
     c.in_ok-add_children-in-And.ensures c.new-children.ensures.items)
     (sym (ap sum (found_list c.list.result c.unwrap-list.result _ c.list.ensures c.unwrap-list.ensures) ∙ listed_total c.args.lists.now c.args.entry c.args.column c.requires.own))
 
@@ -52,6 +52,6 @@ entry_list-returns-in_ok-add_children-in-And t c =
     (λ (list : List ℕ). list ≡ map saturated (composed ((bounds_of c.args.lists.now).list c.args.entry c.args.column) (child_lists (bounds_of c.args.lists.now) c.args.entry (classes_of c.args.below.now))))
     c.compose.result
     (λ list is. entry_done (bounds_of c.args.lists.now) c.args.entry c.args.column (classes_of c.args.below.now) c.as_slice.result.now c.unwrap-list.result.now list
-    (gathered (bounds_of c.args.lists.now) c.args.entry (classes_of c.args.below.now) c.new-children.result.items c.add_children.new.children.items c.as_slice.result.now c.as_slice.ensures.value
+    (lists_of_children (bounds_of c.args.lists.now) c.args.entry (classes_of c.args.below.now) c.new-children.result.items c.add_children.new.children.items c.as_slice.result.now c.as_slice.ensures.value
     c.in_ok-add_children-in-And.ensures c.new-children.ensures.items)
     (found_list c.list.result c.unwrap-list.result _ c.list.ensures c.unwrap-list.ensures) is) c.compose.ensures.value

@@ -1,5 +1,5 @@
 use Rattle.std.proofs.Common.{ℕ, [], ◌∷◌, List, map, ap}
-use Rattle.hash_join.specs.Examples.{one_is_two, twice_three}
+use Rattle.hash_join.specs.Examples.{one_is_two, three_rows_two_entries}
 use Rattle.hash_join.proofs.Worked.{level_is, scan_is}
 use Rattle.bushy_join_tests.specs.Examples.{three}
 use Rattle.bushy_join_tests.proofs.TreePlansOf.{alone_planned, twice_planned}
@@ -10,6 +10,6 @@ returns c = record {
   plan_alone = alone_planned;
   alone = level_is (one_is_two ∷ []) three (0 ∷ []) 1;
   plan_twice = twice_planned;
-  inner = level_is (one_is_two ∷ []) twice_three (0 ∷ 1 ∷ []) 2;
-  leaf = ap (λ (s : List ℕ). map (λ row. row ∷ []) s) (scan_is (one_is_two ∷ []) twice_three 0);
+  inner = level_is (one_is_two ∷ []) three_rows_two_entries (0 ∷ 1 ∷ []) 2;
+  leaf = ap (λ (s : List ℕ). map (λ row. row ∷ []) s) (scan_is (one_is_two ∷ []) three_rows_two_entries 0);
 }

@@ -1,8 +1,8 @@
 use Rattle.std.proofs.Common.{◌≡◌, ℕ, ◌-◌, ◌^◌, List, length, subst, ap, arith}
 use Rattle.tree_plans.specs.declared.bushy.Join.{Join}
-use Rattle.bushy_plan.specs.declared.weight.Weight.TheVariants as weight
+use Rattle.bushy_plan.specs.declared.weight.Weighing.TheVariants as weight
 use Rattle.bushy_plan.specs.PlanTrees.{IsTreeOver}
-use Rattle.bushy_plan.specs.Splits.{IsReadOff}
+use Rattle.bushy_plan.specs.Splits.{AppendsFirstLightest}
 use Rattle.bushy_plan.proofs.Found.{joins_of_best, some_of_all, sum_is_light}
 use Rattle.bushy_plan.proofs.Numbering.{count_of_all}
 use Rattle.bushy_plan.proofs.search.best_joins.Goals as goal
@@ -23,5 +23,5 @@ push_joins-requires-clause-numbers c tree is_tree =
 pub returns : goal.returns
 returns c =
     joins_of_best c.args.bounds.now c.args.count c.args.least c.in_ok-_root._root c.push_joins.new.joins.items c.requires.some c.requires.count c.requires.small c.requires.least c.requires.bounds
-    (subst (λ (old : List Join). IsReadOff (weight.SumWithin c.args.least) c.args.bounds.now c.args.count (length c.args.bounds.now - 1) old c.push_joins.new.joins.items c.in_ok-_root._root)
+    (subst (λ (old : List Join). AppendsFirstLightest (weight.SumOfBoundsUpTo c.args.least) c.args.bounds.now c.args.count (length c.args.bounds.now - 1) old c.push_joins.new.joins.items c.in_ok-_root._root)
     c.new-joins.ensures.items c.in_ok-_root.ensures)

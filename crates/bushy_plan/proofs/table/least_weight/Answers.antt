@@ -7,31 +7,31 @@ use Rattle.bushy_plan.proofs.table.least_weight.Goals as goal
 
 pub returns-then-behind-eq0 : goal.returns-then-behind-eq0
 returns-then-behind-eq0 c =
-    least_of_one c.args.weight c.args.bounds.now c.args.set c.behind_first-behind.ensures.first c.behind_first-behind.ensures.is_first (omega (arith, c.behind_first-behind.ensures.others))
+    least_of_one c.args.weight c.args.bounds.now c.args.set c.without_first-behind.ensures.first c.without_first-behind.ensures.is_first (omega (arith, c.without_first-behind.ensures.others))
 
 pub splits-init : goal.splits-init
-splits-init c = tried_none c.args.weight c.args.bounds.now c.args.table.now c.args.set c.behind_first-behind.result
+splits-init c = tried_none c.args.weight c.args.bounds.now c.args.table.now c.args.set c.without_first-behind.result
 
 pub weight_through-requires-clause-part : goal.weight_through-requires-clause-part
 weight_through-requires-clause-part c =
-    let behind : c.behind_first-behind.result ≡ c.args.set - 2 ^ c.behind_first-behind.ensures.first = c.behind_first-behind.ensures.others in
-    omega (arith, part_le c.splits.right c.behind_first-behind.result c.splits.invariant.is_part, behind, pow_pos c.behind_first-behind.ensures.first, c.requires.some)
+    let behind : c.without_first-behind.result ≡ c.args.set - 2 ^ c.without_first-behind.ensures.first = c.without_first-behind.ensures.others in
+    omega (arith, part_le c.splits.right c.without_first-behind.result c.splits.invariant.is_part, behind, pow_pos c.without_first-behind.ensures.first, c.requires.some)
 
 pub splits-preserved : goal.splits-preserved
 splits-preserved c =
-    let more : Tried c.args.weight c.args.bounds.now c.args.table.now c.args.set c.behind_first-behind.result (bit_and (c.splits.right - 1) c.behind_first-behind.result) (min c.splits.least c.weight_through.result) =
-    tried_more c.args.weight c.args.bounds.now c.args.table.now c.args.set c.behind_first-behind.result c.splits.right c.splits.least c.weight_through.result
+    let more : Tried c.args.weight c.args.bounds.now c.args.table.now c.args.set c.without_first-behind.result (bit_and (c.splits.right - 1) c.without_first-behind.result) (min c.splits.least c.weight_through.result) =
+    tried_more c.args.weight c.args.bounds.now c.args.table.now c.args.set c.without_first-behind.result c.splits.right c.splits.least c.weight_through.result
     c.splits.invariant c.splits-test.true c.weight_through.ensures c.weight_through.type_inv in
-    subst (λ (least : ℕ). Tried c.args.weight c.args.bounds.now c.args.table.now c.args.set c.behind_first-behind.result (bit_and (c.splits.right - 1) c.behind_first-behind.result) least)
+    subst (λ (least : ℕ). Tried c.args.weight c.args.bounds.now c.args.table.now c.args.set c.without_first-behind.result (bit_and (c.splits.right - 1) c.without_first-behind.result) least)
     (sym c.min-least.ensures) more
 
 pub splits-smaller : goal.splits-smaller
-splits-smaller c = next_less c.splits.right c.behind_first-behind.result c.splits-test.true
+splits-smaller c = next_less c.splits.right c.without_first-behind.result c.splits-test.true
 
 pub returns : goal.returns
 returns c =
     let none_left : c.splits.right ≡ 0 = omega arith in
-    least_of_tried c.args.weight c.args.bounds.now c.args.table.now c.args.set c.behind_first-behind.ensures.first c.splits.least
-    c.behind_first-behind.ensures.is_first (omega (arith, c.behind_first-behind.ensures.others, c.if-behind-eq0.false)) c.requires.table
-    (subst (λ (behind : ℕ). Tried c.args.weight c.args.bounds.now c.args.table.now c.args.set behind 0 c.splits.least) c.behind_first-behind.ensures.others
-    (subst (λ (right : ℕ). Tried c.args.weight c.args.bounds.now c.args.table.now c.args.set c.behind_first-behind.result right c.splits.least) none_left c.splits.invariant))
+    least_of_tried c.args.weight c.args.bounds.now c.args.table.now c.args.set c.without_first-behind.ensures.first c.splits.least
+    c.without_first-behind.ensures.is_first (omega (arith, c.without_first-behind.ensures.others, c.if-behind-eq0.false)) c.requires.table
+    (subst (λ (behind : ℕ). Tried c.args.weight c.args.bounds.now c.args.table.now c.args.set behind 0 c.splits.least) c.without_first-behind.ensures.others
+    (subst (λ (right : ℕ). Tried c.args.weight c.args.bounds.now c.args.table.now c.args.set c.without_first-behind.result right c.splits.least) none_left c.splits.invariant))

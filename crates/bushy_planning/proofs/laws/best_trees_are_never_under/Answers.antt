@@ -1,5 +1,5 @@
 use Rattle.bushy_planning.proofs.NeverUnder.{never_under}
-use Rattle.bushy_planning.proofs.Stages as stages
+use Rattle.bushy_planning.proofs.ChosenTrees as stages
 use Rattle.bushy_planning.proofs.laws.best_trees_are_never_under.Goals as goal
 
 pub returns-clause-over_bounds : goal.returns-clause-over_bounds

@@ -10,8 +10,8 @@ use Rattle.gathered_stats.specs.Statistics.{statistics_of}
 use Rattle.bushy_join.specs.Trees.{IsTreePlanOf}
 use Rattle.planning.specs.Bounds.{scan_bounds_of, set_bounds_of}
 use Rattle.planning.proofs.Giving.{known_long, known_many}
-use Rattle.planning.proofs.NeverUnder.{one_scan_each, told_bound, told_levels}
-use Rattle.bushy_planning.proofs.Stages.{answer_given, ok_so, over_lists}
+use Rattle.planning.proofs.NeverUnder.{one_scan_each, scans_are_bounded, levels_are_bounded}
+use Rattle.bushy_planning.proofs.ChosenTrees.{answer_given, ok_so, over_lists}
 use Rattle.bushy_planning.proofs.plan.plan_bushy.Goals as goal
 
 pub plan_tree_from-requires : goal.plan_tree_from-requires
@@ -42,6 +42,6 @@ returns c =
     record {
       plan = is;
       never_under = ok_so (IsTreePlanOf query tables lists) (tree_answer sets scans budget) answer is (λ plan made.
-          over_lists query tables lists sets scans budget plan (told_bound query tables c.args.accuracy) (omega (arith, c.requires.database.some))
-          (omega (arith, c.requires.database.few)) made (told_levels query tables c.args.accuracy) c.requires.budget c.requires.database.few_rows);
+          over_lists query tables lists sets scans budget plan (scans_are_bounded query tables c.args.accuracy) (omega (arith, c.requires.database.some))
+          (omega (arith, c.requires.database.few)) made (levels_are_bounded query tables c.args.accuracy) c.requires.budget c.requires.database.few_rows);
     }

@@ -1,4 +1,4 @@
-use Rattle.tree_answers.proofs.OneChoice.{only}
+use Rattle.tree_answers.proofs.OneAnswer.{only}
 use Rattle.bushy_planning.proofs.plan.plan_tree_from.Goals as goal
 
 pub returns : goal.returns

@@ -5,24 +5,24 @@ use Rattle.std.proofs.lemmas.List.Elements.{All-take, All-weaker, All-from_recur
 use Rattle.std.proofs.lemmas.Result.{IfOk-weaker}
 use Rattle.degree_sequences.specs.ByRank.{rank_maximum}
 use Rattle.degree_sequences.specs.Compression.{compressed}
-use Rattle.degree_sequences.specs.Falling.{IsFalling}
+use Rattle.degree_sequences.specs.Descending.{IsDescending}
 use Rattle.degree_sequences.specs.RunningSums.{cut_at}
-use Rattle.degree_sequences.proofs.DegreeLists.{IsFalling-degree_list}
-use Rattle.degree_sequences.proofs.Minima.{IsFalling-cut_at}
+use Rattle.degree_sequences.proofs.DegreeLists.{IsDescending-degree_list}
+use Rattle.degree_sequences.proofs.Minima.{IsDescending-cut_at}
 use Rattle.cond_stats.specs.declared.groups.Group.{Group}
 use Rattle.cond_stats.specs.Lists.{maxima, greatest}
 use Rattle.cond_stats.specs.Sorted.{keys_at, LiesWithin, degrees_of_group}
 use Rattle.std.specs.Prelude.{slice_range}
 use Rattle.piece_math.proofs.Cutting.{positive-cut_at}
-use Rattle.cond_stats.proofs.Maxima.{IsFalling-maxima, maxima-push, greatest-push, greatest-le}
+use Rattle.cond_stats.proofs.Maxima.{IsDescending-maxima, maxima-push, greatest-push, greatest-le}
 use Rattle.cond_stats.proofs.Sums.{sum-cut_at}
 use Rattle.cond_stats.proofs.lists.rest_list.Goals as goal
 
 abbrev no_group : Group
 no_group = record { first = 0; start = 0; count = 0 }
 
-falls : (joined places : List ℕ) (groups : List Group) → IsFalling (maxima (map (degrees_of_group joined places) groups))
-falls joined places groups = IsFalling-maxima (degrees_of_group joined places) (λ g. IsFalling-degree_list (keys_at joined (slice_range places g.start (g.start + g.count)))) groups
+falls : (joined places : List ℕ) (groups : List Group) → IsDescending (maxima (map (degrees_of_group joined places) groups))
+falls joined places groups = IsDescending-maxima (degrees_of_group joined places) (λ g. IsDescending-degree_list (keys_at joined (slice_range places g.start (g.start + g.count)))) groups
 
 pub loop-group-preserved : goal.loop-group-preserved
 loop-group-preserved c =
@@ -32,7 +32,7 @@ loop-group-preserved c =
     let i : ℕ = c.loop-group.group-index in
     let group : Group = get_or groups i no_group in
     let next : take (i + 1) groups ≡ take i groups ++ group ∷ [] = take_more groups i no_group c.loop-group-test.true in (
-      c.in_ok-raise.ensures ∙ ap (λ (s : List ℕ). rank_maximum s c.as_slice.result.now) c.loop-group.invariant.0
+      c.in_ok-raise_maxima.ensures ∙ ap (λ (s : List ℕ). rank_maximum s c.as_slice.result.now) c.loop-group.invariant.0
           ∙ ap (rank_maximum (maxima (map (degrees_of_group joined places) (take i groups)))) (c.as_slice.ensures ∙ c.in_ok-degrees.ensures)
           ∙ sym (maxima-push (map (degrees_of_group joined places) (take i groups)) (degrees_of_group joined places group))
           ∙ ap maxima (sym (map_push (degrees_of_group joined places) (take i groups) group))
@@ -45,17 +45,17 @@ loop-group-preserved c =
 
 pub cut-requires : goal.cut-requires
 cut-requires c =
-    let fall : IsFalling c.loop-group.maxima.items = subst IsFalling (sym c.loop-group.invariant.0) (falls c.args.joined.now c.args.places.now (take c.loop-group.group-index c.args.groups.now)) in
-    subst IsFalling (sym c.as_slice-2.ensures.value) fall
+    let fall : IsDescending c.loop-group.maxima.items = subst IsDescending (sym c.loop-group.invariant.0) (falls c.args.joined.now c.args.places.now (take c.loop-group.group-index c.args.groups.now)) in
+    subst IsDescending (sym c.as_slice-2.ensures.value) fall
 
 pub compress-requires-clause-falls : goal.compress-requires-clause-falls
 compress-requires-clause-falls c =
-    let fall : IsFalling c.as_slice-2.result.now = subst IsFalling (sym (c.as_slice-2.ensures.value ∙ c.loop-group.invariant.0)) (falls c.args.joined.now c.args.places.now (take c.loop-group.group-index c.args.groups.now)) in
-    subst IsFalling (sym (c.as_slice-3.ensures.value ∙ c.in_ok-list.ensures)) (IsFalling-cut_at c.as_slice-2.result.now c.from.result fall)
+    let fall : IsDescending c.as_slice-2.result.now = subst IsDescending (sym (c.as_slice-2.ensures.value ∙ c.loop-group.invariant.0)) (falls c.args.joined.now c.args.places.now (take c.loop-group.group-index c.args.groups.now)) in
+    subst IsDescending (sym (c.as_slice-3.ensures.value ∙ c.in_ok-list.ensures)) (IsDescending-cut_at c.as_slice-2.result.now c.from.result fall)
 
 pub compress-requires-clause-positive : goal.compress-requires-clause-positive
 compress-requires-clause-positive c =
-    let fall : IsFalling c.as_slice-2.result.now = subst IsFalling (sym (c.as_slice-2.ensures.value ∙ c.loop-group.invariant.0)) (falls c.args.joined.now c.args.places.now (take c.loop-group.group-index c.args.groups.now)) in
+    let fall : IsDescending c.as_slice-2.result.now = subst IsDescending (sym (c.as_slice-2.ensures.value ∙ c.loop-group.invariant.0)) (falls c.args.joined.now c.args.places.now (take c.loop-group.group-index c.args.groups.now)) in
     subst (λ (s : List ℕ). All (λ x. 0 < x) s) (sym (c.as_slice-3.ensures.value ∙ c.in_ok-list.ensures))
     (All-from_recursion (λ x. 0 < x) (cut_at c.as_slice-2.result.now c.from.result) (positive-cut_at c.as_slice-2.result.now c.from.result fall))
 

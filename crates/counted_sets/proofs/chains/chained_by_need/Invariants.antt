@@ -1,5 +1,5 @@
 use Rattle.std.proofs.Common.{◌≡◌, ◌+◌, length}
-use Rattle.counted_sets.specs.Chains.{AreUseChains}
+use Rattle.counted_sets.specs.UseChains.{AreUseChains}
 use Rattle.counted_sets.specs.Counts.{need_at}
 use Rattle.counted_sets.proofs.chains.chained_by_need.Given as goal
 

@@ -1,5 +1,5 @@
 use Rattle.std.proofs.Common.{arith, ap, refl, sym, subst, ◌∙◌, ◌<◌, ◌≤◌, ◌≡◌, ℕ, length, get_or}
-use Rattle.counted_sets.specs.Counts.{IsCounted, IsSafe, item_at, need_at}
+use Rattle.counted_sets.specs.Counts.{CountsAreRight, IsSafe, item_at, need_at}
 use Rattle.counted_sets.proofs.Removing.{reduced, reducing_first, reducing_next, slot_is_none, slot_within}
 use Rattle.counted_sets.proofs.reduction.reduce.Goals as goal
 
@@ -25,8 +25,8 @@ work-preserved c =
     reducing_next c.args.items c.args.slots c.args.uses.now c.work.marks.items c.remove_needing.new.marks.items c.work.counts.items c.remove_needing.new.counts.items c.work.work c.remove_needing.new.work c.work.at c.get-slot.result
     low (sym (c.get-slot.ensures 0)) c.work.invariant c.remove_needing.ensures.gone
     (subst (λ n. IsSafe n c.args.uses.now c.work.marks.items c.remove_needing.new.marks.items) items c.remove_needing.ensures.safe)
-    (subst (λ n. IsCounted n c.args.slots c.args.uses.now c.remove_needing.new.marks.items c.remove_needing.new.counts.items c.remove_needing.new.work) items
-    (subst (λ n. IsCounted (length c.work.marks.items) n c.args.uses.now c.remove_needing.new.marks.items c.remove_needing.new.counts.items c.remove_needing.new.work) slots c.remove_needing.ensures.counted))
+    (subst (λ n. CountsAreRight n c.args.slots c.args.uses.now c.remove_needing.new.marks.items c.remove_needing.new.counts.items c.remove_needing.new.work) items
+    (subst (λ n. CountsAreRight (length c.work.marks.items) n c.args.uses.now c.remove_needing.new.marks.items c.remove_needing.new.counts.items c.remove_needing.new.work) slots c.remove_needing.ensures.counted))
     c.remove_needing.ensures.extends
 
 pub returns-clause-greatest : goal.returns-clause-greatest

@@ -1,5 +1,5 @@
 use Rattle.std.proofs.Common.{arith, refl, sym, ◌∙◌, ◌≡◌, true, false, length, rules, subst}
-use Rattle.counted_sets.specs.Counts.{IsCounted}
+use Rattle.counted_sets.specs.Counts.{CountsAreRight}
 use Rattle.counted_sets.specs.Sets.{marked}
 use Rattle.counted_sets.proofs.Removing.{enough_left, not_marked, removed}
 use Rattle.counted_sets.proofs.reduction.remove.Goals as goal
@@ -9,14 +9,14 @@ returns-then-not-get-clause-marks c =
     let gone : c.get.result ≡ false = search rules in
     sym (not_marked c.args.marks.now.items c.args.item (c.get.ensures false ∙ gone))
 
-pub take_off-requires-clause-enough : goal.take_off-requires-clause-enough
-take_off-requires-clause-enough c =
+pub lower_counts-requires-clause-enough : goal.lower_counts-requires-clause-enough
+lower_counts-requires-clause-enough c =
     let stands : c.get.result ≡ true = search rules in
     enough_left (length c.args.marks.now.items) (length c.args.counts.now.items) c.args.uses.now c.args.marks.now.items c.args.counts.now.items c.args.work.now c.args.item c.requires.counted c.requires.item (c.get.ensures false ∙ stands)
 
 pub returns-clause-counted : goal.returns-clause-counted
 returns-clause-counted c =
     let stands : c.get.result ≡ true = search rules in
-    subst (λ marks. IsCounted (length c.args.marks.now.items) (length c.args.counts.now.items) c.args.uses.now marks c.take_off.new.counts.items c.take_off.new.work) (sym c.set.ensures.items)
-    (removed (length c.args.marks.now.items) (length c.args.counts.now.items) c.args.uses.now c.args.marks.now.items c.args.counts.now.items c.take_off.new.counts.items c.args.work.now c.take_off.new.work c.args.item
-    c.requires.counted c.requires.item (c.get.ensures false ∙ stands) c.take_off.ensures.length c.take_off.ensures.counts c.take_off.ensures.listed)
+    subst (λ marks. CountsAreRight (length c.args.marks.now.items) (length c.args.counts.now.items) c.args.uses.now marks c.lower_counts.new.counts.items c.lower_counts.new.work) (sym c.set.ensures.items)
+    (removed (length c.args.marks.now.items) (length c.args.counts.now.items) c.args.uses.now c.args.marks.now.items c.args.counts.now.items c.lower_counts.new.counts.items c.args.work.now c.lower_counts.new.work c.args.item
+    c.requires.counted c.requires.item (c.get.ensures false ∙ stands) c.lower_counts.ensures.length c.lower_counts.ensures.counts c.lower_counts.ensures.listed)

@@ -1,5 +1,5 @@
 use Rattle.std.proofs.Common.{◌≡◌, ◌∙◌, ◌<◌, All, ap, get_or, List, length, subst, sym, ℕ}
-use Rattle.csv_tables.specs.Groups.{IsRepeat}
+use Rattle.csv_tables.specs.FirstPlaces.{IsRepeat}
 use Rattle.csv_tables.specs.Reads.{kinds_of}
 use Rattle.csv_tables.proofs.KeyFacts.{columns_heights, key_bad, key_good, key_there}
 use Rattle.csv_tables.proofs.keys.check_keys.Goals as goal

@@ -1,17 +1,17 @@
 use Rattle.std.proofs.Common.{◌≡◌, ◌∙◌, ◌++◌, arith, refl, subst, drop, get_or, length, take, List, [], ℕ, rules}
 use Rattle.std.proofs.lemmas.List.{get_or_default}
-use Rattle.csv_tables.specs.Groups.{are_alike, AreFirsts}
+use Rattle.csv_tables.specs.FirstPlaces.{are_alike, AreFirsts}
 use Rattle.csv_tables.proofs.AscendFacts.{none_repeats}
-use Rattle.csv_tables.proofs.GroupFacts.{lent_whole, one_more_column}
+use Rattle.csv_tables.proofs.FirstPlaceFacts.{take_of_append, one_more_column}
 use Rattle.csv_tables.proofs.keys.repeat_of_key.Goals as goal
 
 pub columns-preserved : goal.columns-preserved
 columns-preserved c =
-    let old = c.columns.group.items in
-    let new = c.number_pairs.new.group in
+    let old = c.columns.first_places.items in
+    let new = c.number_pairs.new.first_places in
     let same : length new ≡ length old = search rules in
-    let len : c.columns.group.len ≡ length new = omega (arith, same, c.columns.group.ok) in
-    let whole : take c.columns.group.len (new ++ drop (length new) old) ≡ new = lent_whole c.columns.group.len new (drop (length new) old) len in
+    let len : c.columns.first_places.len ≡ length new = omega (arith, same, c.columns.first_places.ok) in
+    let whole : take c.columns.first_places.len (new ++ drop (length new) old) ≡ new = take_of_append c.columns.first_places.len new (drop (length new) old) len in
     rw whole (record {
       long = same ∙ c.columns.invariant.long;
       firsts = one_more_column c.args.columns.now c.args.key.now c.columns.column-index (get_or c.args.key.now c.columns.column-index 0) old new c.as_slice.result.now

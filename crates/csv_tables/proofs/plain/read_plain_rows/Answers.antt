@@ -1,12 +1,12 @@
 use Rattle.std.proofs.Common.{◌≡◌, ◌∙◌, ℕ, ◌+◌, ap, sym, subst, arith, drop, length, List}
 use Rattle.std.proofs.lemmas.Result.{err_from_is_err_and}
 use Rattle.plain_records.specs.Plain.{after_line, first_record, plain_records}
-use Rattle.plain_records.proofs.PlaceFacts.{one_record}
+use Rattle.plain_records.proofs.OffsetFacts.{one_record}
 use Rattle.csv_tables.specs.declared.fields.Field.{Field}
 use Rattle.csv_tables.specs.Fields.{IsBehind}
 use Rattle.csv_tables.specs.Reads.{kinds_of, HoldsRow}
 use Rattle.csv_tables.specs.Records.{Record}
-use Rattle.csv_tables.specs.Refused.{Refuses}
+use Rattle.csv_tables.specs.Refused.{IsRefusalOrNoMemory}
 use Rattle.csv_tables.specs.Rows.{row_of_record}
 use Rattle.csv_tables.proofs.PlainFacts.{row_behind, rows_refused}
 use Rattle.csv_tables.proofs.TableFacts.{as_wide, rows_more, rows_none, RowsSoFar}
@@ -16,9 +16,9 @@ pub rows-init : goal.rows-init
 rows-init c = record {
   within = c.skip_line_ends-at.ensures.within;
   cut = c.skip_line_ends-at.ensures.text c.requires.text c.requires.cut;
-  stands = c.skip_line_ends-at.ensures.stands;
+  at_text = c.skip_line_ends-at.ensures.at_text;
   long = ap (λ (fs : List Field). length fs) c.as_mut_slice-fields.ensures.value ∙ c.in_ok-read.ensures;
-  so_far = subst (λ (left : List Record). RowsSoFar c.args.columns.now c.args.places.now c.args.width (plain_records (drop c.args.start c.args.bytes.now)) left
+  so_far = subst (λ (remaining : List Record). RowsSoFar c.args.columns.now c.args.places.now c.args.width (plain_records (drop c.args.start c.args.bytes.now)) remaining
       c.args.pool.now c.args.pool.now c.in_ok-found.found.items 0) c.skip_line_ends-at.ensures.records
       (rows_none c.args.columns.now c.args.places.now c.args.width (plain_records (drop c.args.start c.args.bytes.now)) c.args.pool.now c.in_ok-found.found.items c.in_ok-found.ensures);
 }
@@ -45,13 +45,13 @@ rows-preserved c =
     record {
       within = c.skip_line_ends-at-in-rows.ensures.within;
       cut = c.skip_line_ends-at-in-rows.ensures.text c.requires.text next.text;
-      stands = c.skip_line_ends-at-in-rows.ensures.stands;
+      at_text = c.skip_line_ends-at-in-rows.ensures.at_text;
       long = omega (arith, c.read_record_at.auto.fields, c.rows.invariant.long);
       so_far = rw (c.in_ok-push_row.ensures, c.deref-in-rows.ensures.value)
           (rows_more c.args.columns.now c.args.places.now c.args.width (plain_records (drop c.args.start bytes)) (plain_records (drop at bytes)) (plain_records (drop after bytes))
           (first_record (drop at bytes)) c.args.pool.now c.rows.pool c.read_record_at.new.pool c.rows.found.items c.rows.rows c.read_record_at.new.cells.items
           c.rows.invariant.so_far
-          (row_behind bytes at c.in_ok-next.next after c.rows-test.true (c.rows.invariant.stands c.rows-test.true) next c.skip_line_ends-at-in-rows.ensures.records)
+          (row_behind bytes at c.in_ok-next.next after c.rows-test.true (c.rows.invariant.at_text c.rows-test.true) next c.skip_line_ends-at-in-rows.ensures.records)
           row c.in_ok-next.ensures.begins (c.in_ok-next.ensures.few c.in_ok-next.ensures.number) c.in_ok-next.ensures.number);
     }
 
@@ -61,9 +61,9 @@ returns-in_err-next-clause-refused c =
     let at = c.rows.at in
     let p = err_from_is_err_and c.from_residual-in_err-next.result c.from_residual-in_err-next.ensures.1 in
     let width : length c.deref.result.now ≡ c.args.width = ap length c.deref.ensures.value ∙ c.in_ok-numbers.ensures in
-    let refused : Refuses (row_of_record c.args.columns.now c.args.places.now c.args.width (c.rows.rows + 1) (first_record (drop at bytes))) c.in_err-next.field-0.0 =
-    subst (λ (w : ℕ). Refuses (row_of_record c.args.columns.now c.args.places.now w (c.rows.rows + 1) (first_record (drop at bytes))) c.in_err-next.field-0.0) width c.in_err-next.ensures.refused in
+    let refused : IsRefusalOrNoMemory (row_of_record c.args.columns.now c.args.places.now c.args.width (c.rows.rows + 1) (first_record (drop at bytes))) c.in_err-next.field-0.0 =
+    subst (λ (w : ℕ). IsRefusalOrNoMemory (row_of_record c.args.columns.now c.args.places.now w (c.rows.rows + 1) (first_record (drop at bytes))) c.in_err-next.field-0.0) width c.in_err-next.ensures.refused in
     rw (p.1, p.2)
     (rows_refused c.args.columns.now c.args.places.now c.args.width (plain_records (drop c.args.start bytes)) (plain_records (drop at bytes)) (plain_records (after_line (drop at bytes)))
     (first_record (drop at bytes)) c.args.pool.now c.rows.pool c.rows.found.items c.rows.rows c.in_err-next.field-0.0
-    c.rows.invariant.so_far (one_record bytes at c.rows-test.true (c.rows.invariant.stands c.rows-test.true)) refused)
+    c.rows.invariant.so_far (one_record bytes at c.rows-test.true (c.rows.invariant.at_text c.rows-test.true)) refused)

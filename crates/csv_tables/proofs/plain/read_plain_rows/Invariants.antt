@@ -8,7 +8,7 @@ abbrev pub invariant-rows : goal.invariant-rows
 invariant-rows l = record {
   within : l.at ≤ length l.bytes;
   cut : IsUtf8 (drop l.at l.bytes);
-  stands : l.at < length l.bytes → ends_line (get_or l.bytes l.at 0) ≡ false;
+  at_text : l.at < length l.bytes → ends_line (get_or l.bytes l.at 0) ≡ false;
   long : length l.fields ≡ l.width;
   so_far : RowsSoFar l.columns l.places l.width (plain_records (drop l.start l.bytes)) (plain_records (drop l.at l.bytes)) l.initial.pool l.pool l.found.items l.rows;
 }

@@ -6,8 +6,8 @@ use Rattle.csv_tables.specs.Records.{records_in, unread}
 use Rattle.csv_tables.proofs.FieldFacts.{shorter_after_mark, text_after_mark}
 use Rattle.csv_tables.proofs.records.open_records.Goals as goal
 
-pub returns-clause-left : goal.returns-clause-left
-returns-clause-left c =
+pub returns-clause-all_records : goal.returns-clause-all_records
+returns-clause-all_records c =
     ap (λ state. records_in state (unread c.from_reader.result)) c.from_reader.ensures.state ∙ ap (records_in st.StartRecord) c.from_reader.ensures.source
 
 pub returns-clause-reading : goal.returns-clause-reading

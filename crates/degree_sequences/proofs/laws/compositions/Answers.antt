@@ -1,8 +1,8 @@
-use Rattle.degree_sequences.proofs.RowWeights.{running_sum-composition, IsFalling-composed}
+use Rattle.degree_sequences.proofs.RowWeights.{running_sum-composition, IsDescending-composed}
 use Rattle.degree_sequences.proofs.laws.compositions.Goals as goal
 
 pub returns-clause-blocks : goal.returns-clause-blocks
 returns-clause-blocks c = running_sum-composition
 
 pub returns-clause-falls : goal.returns-clause-falls
-returns-clause-falls c = IsFalling-composed
+returns-clause-falls c = IsDescending-composed

@@ -1,5 +1,5 @@
 use Rattle.degree_sequences.proofs.Elements.{compressed-element, compressed-goes_on}
-use Rattle.degree_sequences.proofs.CompressedLists.{sum-compressed, IsFalling-compressed, compressed-above, compressed-near}
+use Rattle.degree_sequences.proofs.CompressedLists.{sum-compressed, IsDescending-compressed, compressed-above, compressed-near}
 use Rattle.degree_sequences.proofs.FewRuns.{compressed_is_short}
 use Rattle.degree_sequences.proofs.laws.compressions.Goals as goal
 
@@ -13,7 +13,7 @@ pub returns-clause-sum : goal.returns-clause-sum
 returns-clause-sum c = sum-compressed
 
 pub returns-clause-falls : goal.returns-clause-falls
-returns-clause-falls c = IsFalling-compressed
+returns-clause-falls c = IsDescending-compressed
 
 pub returns-clause-above : goal.returns-clause-above
 returns-clause-above c = compressed-above

@@ -1,6 +1,6 @@
 use Rattle.degree_sequences.proofs.Counting.{IsDistinct-different}
 use Rattle.degree_sequences.proofs.Rearranged.{degree_list_rearranged, degree_list_positive}
-use Rattle.degree_sequences.proofs.DegreeLists.{IsFalling-degree_list, sum-degree_list, degree_list_dominates, degrees_dominated, keys_dominated}
+use Rattle.degree_sequences.proofs.DegreeLists.{IsDescending-degree_list, sum-degree_list, degree_list_dominates, degrees_dominated, keys_dominated}
 use Rattle.degree_sequences.proofs.laws.degree_lists.Goals as goal
 
 pub returns-clause-different : goal.returns-clause-different
@@ -10,7 +10,7 @@ pub returns-clause-rearranged : goal.returns-clause-rearranged
 returns-clause-rearranged c = degree_list_rearranged
 
 pub returns-clause-falls : goal.returns-clause-falls
-returns-clause-falls c = IsFalling-degree_list
+returns-clause-falls c = IsDescending-degree_list
 
 pub returns-clause-positive : goal.returns-clause-positive
 returns-clause-positive c = degree_list_positive

@@ -1,5 +1,5 @@
-use Rattle.degree_sequences.proofs.Minima.{running_sum-lesser, running_sum-cut_at, IsFalling-lesser, IsFalling-cut_at}
-use Rattle.degree_sequences.proofs.ByRank.{get_or-rank_product, get_or-rank_sum, get_or-rank_maximum, IsFalling-rank_product, IsFalling-rank_sum, IsFalling-rank_maximum}
+use Rattle.degree_sequences.proofs.Minima.{running_sum-lesser, running_sum-cut_at, IsDescending-lesser, IsDescending-cut_at}
+use Rattle.degree_sequences.proofs.ByRank.{get_or-rank_product, get_or-rank_sum, get_or-rank_maximum, IsDescending-rank_product, IsDescending-rank_sum, IsDescending-rank_maximum}
 use Rattle.degree_sequences.proofs.laws.operations.Goals as goal
 
 pub returns-clause-lesser : goal.returns-clause-lesser
@@ -18,16 +18,16 @@ pub returns-clause-maximum : goal.returns-clause-maximum
 returns-clause-maximum c = get_or-rank_maximum
 
 pub returns-clause-lesser_falls : goal.returns-clause-lesser_falls
-returns-clause-lesser_falls c = IsFalling-lesser
+returns-clause-lesser_falls c = IsDescending-lesser
 
 pub returns-clause-cut_falls : goal.returns-clause-cut_falls
-returns-clause-cut_falls c = IsFalling-cut_at
+returns-clause-cut_falls c = IsDescending-cut_at
 
 pub returns-clause-product_falls : goal.returns-clause-product_falls
-returns-clause-product_falls c = IsFalling-rank_product
+returns-clause-product_falls c = IsDescending-rank_product
 
 pub returns-clause-sum_falls : goal.returns-clause-sum_falls
-returns-clause-sum_falls c = IsFalling-rank_sum
+returns-clause-sum_falls c = IsDescending-rank_sum
 
 pub returns-clause-maximum_falls : goal.returns-clause-maximum_falls
-returns-clause-maximum_falls c = IsFalling-rank_maximum
+returns-clause-maximum_falls c = IsDescending-rank_maximum

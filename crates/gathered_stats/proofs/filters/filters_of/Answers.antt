@@ -1,4 +1,4 @@
-use Rattle.gathered_stats.specs.Filters.{Serve}
+use Rattle.gathered_stats.specs.Filters.{HasFilterFor}
 use Rattle.gathered_stats.proofs.Serving.{all_items, serve_all}
 use Rattle.gathered_stats.proofs.filters.filters_of.Goals as goal
 
@@ -10,4 +10,4 @@ loop-step-preserved c = (
 )
 
 pub returns-clause-served : goal.returns-clause-served
-returns-clause-served c = all_items (Serve c.loop-step.filters) c.args.steps.now c.loop-step.step-index c.loop-step-test.false c.loop-step.invariant.1
+returns-clause-served c = all_items (HasFilterFor c.loop-step.filters) c.args.steps.now c.loop-step.step-index c.loop-step-test.false c.loop-step.invariant.1

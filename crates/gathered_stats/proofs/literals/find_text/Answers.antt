@@ -1,5 +1,5 @@
 use Rattle.std.proofs.Common.{Some, ap, sym, ◌∙◌}
-use Rattle.gathered_stats.proofs.Standing.{absent_stands, found_stands}
+use Rattle.gathered_stats.proofs.LiteralCells.{absent_stands, found_stands}
 use Rattle.gathered_stats.proofs.literals.find_text.Goals as goal
 
 pub returns-in-Some : goal.returns-in-Some

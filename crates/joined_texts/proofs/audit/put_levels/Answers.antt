@@ -1,7 +1,7 @@
 use Rattle.std.proofs.Common.{◌≡◌, ◌+◌, ◌++◌, ◌<◌, [], drop, length, get_or, ap, sym, refl, ◌∙◌, arith}
 use Rattle.std.specs.Prelude.{slice_get}
 use Rattle.std.proofs.lemmas.Result.{err_from_is_err_and}
-use Rattle.base_io.proofs.WriteFacts.{put_cut_next, put_err, put_none, put_then}
+use Rattle.base_io.proofs.WriteFacts.{put_failed_next, put_err, put_none, put_then}
 use Rattle.printed_texts.specs.Plans.{alias_of, audit_line, level_audits}
 use Rattle.printed_texts.proofs.PlanLines.{one_more_done}
 use Rattle.joined_texts.specs.Printed.{level_counts}
@@ -26,7 +26,7 @@ returns-in_err-put_level g c =
     let few : i < length counts = omega (arith, count_of_counts c.args.executed.now, c.requires.levels) in
     let rows : c.len-rows.result ≡ get_or counts i 0 = c.len-rows.ensures ∙ sym (count_at c.args.executed.now i) in
     let next = next_audit (i + 1) sources order bounds counts i (get_or order i 0) (get_or bounds i 0) c.len-rows.result (omega arith) (omega arith) few refl refl rows in
-    put_err p.1 (put_cut_next (level_audits (i + 1 + 1) sources (drop (i + 1) order) (drop (i + 1) bounds) (drop (i + 1) counts)) (level_audits 1 sources order bounds counts)
+    put_err p.1 (put_failed_next (level_audits (i + 1 + 1) sources (drop (i + 1) order) (drop (i + 1) bounds) (drop (i + 1) counts)) (level_audits 1 sources order bounds counts)
     (ap (λ x. c.levels.invariant.done ++ x) (sym next) ∙ c.levels.invariant.left) c.levels.invariant.put (rw c.alias_at-alias.ensures at c.in_err-put_level.ensures))
 
 pub levels-preserved : goal.levels-preserved

@@ -4,7 +4,7 @@ use Rattle.std.proofs.lemmas.List.{length-take-le, take_at}
 use Rattle.base_io.proofs.WriteFacts.{put_as}
 use Rattle.printed_texts.specs.Lines.{choice_text, IsChoice}
 use Rattle.sql_meaning.specs.Tables.{tables_of}
-use Rattle.joined_texts.specs.Listed.{choice_record, choices_listed}
+use Rattle.joined_texts.specs.JoinedRows.{choice_record, joined_choices}
 use Rattle.joined_texts.proofs.Placing.{is_choice, text_is}
 use Rattle.joined_texts.proofs.rows.put_row.Goals as goal
 
@@ -16,13 +16,13 @@ read-requires-clause-places g c =
     let size : ℕ = c.len-size.result in
     let few : size ≤ 12 = omega (arith, c.len-size.ensures, c.requires.listed.database.few) in
     let short : length (take size zeros) ≡ length c.args.query.now.from = length-take-le size zeros few ∙ c.len-size.ensures in
-    subst (λ (n : ℕ). AllByRecursion (λ entry. entry < n) (choices_listed c.args.listed.now).entries) (sym short) c.requires.listed.entries.entries
+    subst (λ (n : ℕ). AllByRecursion (λ entry. entry < n) (joined_choices c.args.listed.now).entries) (sym short) c.requires.listed.entries.entries
 
 pub put_line-requires-clause-line : goal.put_line-requires-clause-line
 put_line-requires-clause-line g c =
     let query = c.args.query.now in
     let db = c.args.db.now in
-    let it = choices_listed c.args.listed.now in
+    let it = joined_choices c.args.listed.now in
     let size : ℕ = c.len-size.result in
     let few : size ≤ 12 = omega (arith, c.len-size.ensures, c.requires.listed.database.few) in
     let long : length c.read.new.rows ≡ size = c.read.auto.rows ∙ length-take-le size zeros few in
@@ -34,7 +34,7 @@ pub returns : goal.returns
 returns g c =
     let query = c.args.query.now in
     let db = c.args.db.now in
-    let it = choices_listed c.args.listed.now in
+    let it = joined_choices c.args.listed.now in
     let size : ℕ = c.len-size.result in
     let few : size ≤ 12 = omega (arith, c.len-size.ensures, c.requires.listed.database.few) in
     let long : length c.read.new.rows ≡ size = c.read.auto.rows ∙ length-take-le size zeros few in

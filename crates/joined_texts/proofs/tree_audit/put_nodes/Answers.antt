@@ -1,6 +1,6 @@
 use Rattle.std.proofs.Common.{◌≡◌, ◌+◌, ◌++◌, ◌<◌, ℕ, [], drop, length, get_or, ap, sym, ◌∙◌, arith}
 use Rattle.std.proofs.lemmas.Result.{err_from_is_err_and}
-use Rattle.base_io.proofs.WriteFacts.{put_cut_next, put_err, put_none, put_then}
+use Rattle.base_io.proofs.WriteFacts.{put_failed_next, put_err, put_none, put_then}
 use Rattle.tree_plans.specs.declared.bushy.Join.{Join}
 use Rattle.printed_texts.specs.TreePlans.{node_audit, node_audits}
 use Rattle.printed_texts.proofs.PlanLines.{one_more_done}
@@ -28,7 +28,7 @@ returns-in_err-put_node g c =
     let few : i < length counts = omega (arith, node_count_long c.args.first nodes, c.requires.nodes, c.nodes-test.true) in
     let rows : c.len.result ≡ get_or counts i 0 = c.len.ensures ∙ sym (node_count_at c.args.first nodes i (omega (arith, c.requires.nodes, c.nodes-test.true))) in
     let next = next_node_audit k joins counts i no_join c.len.result (omega arith) few rows in
-    put_err p.1 (put_cut_next (node_audits (k + 1) (drop (i + 1) joins) (drop (i + 1) counts)) (node_audits c.args.first joins counts)
+    put_err p.1 (put_failed_next (node_audits (k + 1) (drop (i + 1) joins) (drop (i + 1) counts)) (node_audits c.args.first joins counts)
     (ap (λ x. c.nodes.invariant.done ++ x) (sym next) ∙ c.nodes.invariant.left) c.nodes.invariant.put c.in_err-put_node.ensures)
 
 pub nodes-preserved : goal.nodes-preserved

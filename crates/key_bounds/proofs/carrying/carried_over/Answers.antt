@@ -1,9 +1,9 @@
 use Rattle.std.proofs.Common.{ℕ, List, length, slice_get, ap, sym, ◌∙◌, subst, arith}
 use Rattle.std.proofs.lemmas.Option.{get_or_from_slice_get}
-use Rattle.predicate_bounds.specs.Told.{no_columns}
+use Rattle.predicate_bounds.specs.StatsLists.{no_columns}
 use Rattle.sql_meaning.specs.Tables.{cells_of, tables_of}
 use Rattle.gathered_stats.specs.Asked.{IsGathered}
-use Rattle.gathered_stats.specs.Seen.{AreRowNumbersOf}
+use Rattle.gathered_stats.specs.ShownCells.{AreRowNumbersOf}
 use Rattle.key_carriers.proofs.Referring.{as_many, few_referring}
 use Rattle.key_bounds.proofs.CarriedOver.{as_widened, entries_add_up, entries_told, left_low, of_one_kind, right_low, rows_of_left, rows_of_right}
 use Rattle.key_bounds.proofs.carrying.carried_over.Goals as goal
@@ -20,29 +20,29 @@ widened_rows-requires-clause-few c = c.requires.database.few_rows c.args.edge.ri
 pub get-requires : goal.get-requires
 get-requires c = omega (arith, left_low c.args.query.now c.args.db.now c.requires.database c.args.edge c.requires.joined, c.requires.own.as_many)
 
-pub gather_beside-requires-clause-entry : goal.gather_beside-requires-clause-entry
-gather_beside-requires-clause-entry c = right_low c.args.query.now c.args.db.now c.requires.database c.args.edge c.requires.joined
+pub gather_paired-requires-clause-entry : goal.gather_paired-requires-clause-entry
+gather_paired-requires-clause-entry c = right_low c.args.query.now c.args.db.now c.requires.database c.args.edge c.requires.joined
 
-pub gather_beside-requires-clause-other : goal.gather_beside-requires-clause-other
-gather_beside-requires-clause-other c = left_low c.args.query.now c.args.db.now c.requires.database c.args.edge c.requires.joined
+pub gather_paired-requires-clause-other : goal.gather_paired-requires-clause-other
+gather_paired-requires-clause-other c = left_low c.args.query.now c.args.db.now c.requires.database c.args.edge c.requires.joined
 
-pub gather_beside-requires-clause-rows : goal.gather_beside-requires-clause-rows
-gather_beside-requires-clause-rows c =
+pub gather_paired-requires-clause-rows : goal.gather_paired-requires-clause-rows
+gather_paired-requires-clause-rows c =
     subst (AreRowNumbersOf (cells_of c.args.db.now c.args.edge.right.entry)) (sym (c.as_slice-others.ensures.value ∙ c.in_ok-widened.ensures.others))
     (rows_of_right c.args.query.now c.args.db.now c.requires.database c.args.edge c.requires.joined)
 
-pub gather_beside-requires-clause-other_rows : goal.gather_beside-requires-clause-other_rows
-gather_beside-requires-clause-other_rows c =
+pub gather_paired-requires-clause-other_rows : goal.gather_paired-requires-clause-other_rows
+gather_paired-requires-clause-other_rows c =
     subst (AreRowNumbersOf (cells_of c.args.db.now c.args.edge.left.entry)) (sym (c.as_slice-rows.ensures.value ∙ c.in_ok-widened.ensures.rows))
     (rows_of_left c.args.query.now c.args.db.now c.requires.database c.args.edge c.requires.joined)
 
-pub gather_beside-requires-clause-as_many : goal.gather_beside-requires-clause-as_many
-gather_beside-requires-clause-as_many c =
+pub gather_paired-requires-clause-as_many : goal.gather_paired-requires-clause-as_many
+gather_paired-requires-clause-as_many c =
     ap (λ (s : List ℕ). length s) (c.as_slice-rows.ensures.value ∙ c.in_ok-widened.ensures.rows) ∙ as_many (tables_of c.args.db.now) c.args.edge
     ∙ sym (ap (λ (s : List ℕ). length s) (c.as_slice-others.ensures.value ∙ c.in_ok-widened.ensures.others))
 
-pub gather_beside-requires-clause-few : goal.gather_beside-requires-clause-few
-gather_beside-requires-clause-few c =
+pub gather_paired-requires-clause-few : goal.gather_paired-requires-clause-few
+gather_paired-requires-clause-few c =
     omega (
       arith,
       ap (λ (s : List ℕ). length s) (c.as_slice-others.ensures.value ∙ c.in_ok-widened.ensures.others),
@@ -51,8 +51,8 @@ gather_beside-requires-clause-few c =
       c.requires.database.few_rows c.args.edge.left.entry (left_low c.args.query.now c.args.db.now c.requires.database c.args.edge c.requires.joined),
     )
 
-pub gather_beside-requires-clause-other_stats : goal.gather_beside-requires-clause-other_stats
-gather_beside-requires-clause-other_stats c =
+pub gather_paired-requires-clause-other_stats : goal.gather_paired-requires-clause-other_stats
+gather_paired-requires-clause-other_stats c =
     subst (IsGathered c.args.query.now c.args.db.now c.args.accuracy c.args.edge.left.entry)
     (get_or_from_slice_get c.args.own.now.entries c.args.edge.left.entry c.get.result.now no_columns (ap (slice_get c.args.own.now.entries) (sym c.from.ensures) ∙ c.get.ensures))
     (c.requires.own.each c.args.edge.left.entry (left_low c.args.query.now c.args.db.now c.requires.database c.args.edge c.requires.joined))

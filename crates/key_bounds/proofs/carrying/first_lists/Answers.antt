@@ -1,7 +1,7 @@
 use Rattle.std.proofs.Common.{◌≡◌, ◌<◌, ◌≤◌, List, length, get_or, Some, ap, sym, ◌∙◌, subst, arith}
 use Rattle.std.specs.Prelude.{IsSome}
 use Rattle.predicate_bounds.specs.declared.columns.ColumnSteps.{ColumnSteps}
-use Rattle.predicate_bounds.specs.Told.{column_steps, columns_of}
+use Rattle.predicate_bounds.specs.StatsLists.{column_steps, columns_of}
 use Rattle.key_bounds.proofs.FirstLists.{all_added, as_many_rows, column_there, columns_read, first_there, none_added, not_there, one_added}
 use Rattle.key_bounds.proofs.carrying.first_lists.Goals as goal
 

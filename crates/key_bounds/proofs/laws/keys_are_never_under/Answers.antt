@@ -1,4 +1,4 @@
-use Rattle.plan_answers.proofs.OneChoice.{never_memory}
+use Rattle.plan_answers.proofs.OneAnswer.{never_memory}
 use Rattle.planning.specs.Bounds.{scan_bounds_of}
 use Rattle.key_bounds.specs.Bounds.{set_bounds_by_keys}
 use Rattle.key_bounds.specs.Plans.{planned_by_keys}

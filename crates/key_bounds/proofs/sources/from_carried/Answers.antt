@@ -1,7 +1,7 @@
 use Rattle.std.proofs.Common.{◌<◌, ◌^◌, ℕ, subst, arith}
 use Rattle.planning.proofs.Giving.{one_each}
 use Rattle.gathered_stats.specs.Statistics.{statistics_of}
-use Rattle.key_bounds.specs.Told.{AreTold}
+use Rattle.key_bounds.specs.TableStats.{AreStatsOfSomeTables}
 use Rattle.key_bounds.proofs.Keying.{are_keyed, keys_give, keys_look}
 use Rattle.key_bounds.proofs.sources.from_carried.Goals as goal
 
@@ -18,7 +18,7 @@ bounds_from-requires-clause-few c =
 
 pub bounds_from-requires-clause-listed : goal.bounds_from-requires-clause-listed
 bounds_from-requires-clause-listed c = λ subset fits.
-    let told : AreTold c.args.query.now c.args.stats.now c.args.carried = c.requires.told in
+    let told : AreStatsOfSomeTables c.args.query.now c.args.stats.now c.args.carried = c.requires.told in
     are_keyed told.schema c.args.query.now told.tables told.accuracy c.args.carried told.tell.along c.in_ok-own.own
     (c.in_ok-own.ensures.holds (statistics_of told.tables told.accuracy) told.tell.own) c.len-count.result c.len-count.ensures c.args.parts.now.equalities c.requires.equalities c.requires.named
     c.requires.few subset
@@ -27,7 +27,7 @@ bounds_from-requires-clause-listed c = λ subset fits.
 
 pub bounds_from-requires-clause-looks : goal.bounds_from-requires-clause-looks
 bounds_from-requires-clause-looks c =
-    let told : AreTold c.args.query.now c.args.stats.now c.args.carried = c.requires.told in
+    let told : AreStatsOfSomeTables c.args.query.now c.args.stats.now c.args.carried = c.requires.told in
     keys_look told.schema c.args.query.now told.tables told.accuracy c.args.carried told.tell.along c.in_ok-own.own
     (c.in_ok-own.ensures.holds (statistics_of told.tables told.accuracy) told.tell.own) c.len-count.result c.len-count.ensures c.args.parts.now.equalities c.requires.equalities c.requires.named
 

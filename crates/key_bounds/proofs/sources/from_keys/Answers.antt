@@ -8,7 +8,7 @@ use Rattle.planning.specs.HasBounds.{HasBounds}
 use Rattle.key_carriers.specs.Carriers.{carriers}
 use Rattle.key_stats.specs.Carrying.{TellAlong}
 use Rattle.key_bounds.specs.Bounds.{set_bounds_by_keys}
-use Rattle.key_bounds.specs.Told.{TellByKeys}
+use Rattle.key_bounds.specs.TableStats.{AreStatsByKeys}
 use Rattle.key_bounds.proofs.CarriedOver.{carriers_joined, entries_named}
 use Rattle.key_bounds.proofs.sources.from_keys.Goals as goal
 
@@ -35,7 +35,7 @@ from_carried-requires-clause-told c = record {
 pub returns : goal.returns
 returns c =
     IfOk-weaker c.from_carried.result
-    (λ known. (schema : Schema) (tables : Tables) (accuracy : ℕ) → TellByKeys schema c.args.query.now tables accuracy c.in_ok-stats.stats c.in_ok-carried.carried
+    (λ known. (schema : Schema) (tables : Tables) (accuracy : ℕ) → AreStatsByKeys schema c.args.query.now tables accuracy c.in_ok-stats.stats c.in_ok-carried.carried
     → HasBounds (set_bounds_by_keys schema c.args.query.now tables accuracy) (scan_bounds_of c.args.query.now tables accuracy) known)
     (HasBounds (set_bounds_by_keys c.args.schema.now c.args.query.now (tables_of c.args.db.now) c.args.accuracy) (scan_bounds_of c.args.query.now (tables_of c.args.db.now) c.args.accuracy))
     (λ known gives. gives c.args.schema.now (tables_of c.args.db.now) c.args.accuracy (record {

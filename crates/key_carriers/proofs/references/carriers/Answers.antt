@@ -13,7 +13,7 @@ add_carrier-requires-clause-entry c =
 
 pub add_carrier-requires-in-equalities-clause-entry : goal.add_carrier-requires-in-equalities-clause-entry
 add_carrier-requires-in-equalities-clause-entry c =
-    subst (λ (e : Edge). e.right.entry < length c.args.query.now.from) (sym c.turned.ensures)
+    subst (λ (e : Edge). e.right.entry < length c.args.query.now.from) (sym c.exchanged.ensures)
     (named_low (length c.args.query.now.from) c.as_slice-equalities.result.now (equalities_of c.args.query.now) c.equalities.number _
     (c.as_slice-equalities.ensures ∙ c.requires.equalities) c.requires.named c.equalities-test.true).0
 
@@ -21,4 +21,4 @@ pub equalities-preserved : goal.equalities-preserved
 equalities-preserved c =
     one_more c.args.schema.now c.args.query.now c.as_slice-equalities.result.now c.equalities.number _ c.equalities.edges c.add_carrier.new.edges c.add_carrier-in-equalities.new.edges
     c.equalities-test.true c.equalities.invariant c.in_ok-add_carrier.ensures
-    (c.in_ok-add_carrier-2.ensures ∙ ap (λ (e : Edge). c.add_carrier.new.edges ++ filter (carries c.args.schema.now c.args.query.now) (e ∷ [])) c.turned.ensures)
+    (c.in_ok-add_carrier-2.ensures ∙ ap (λ (e : Edge). c.add_carrier.new.edges ++ filter (carries c.args.schema.now c.args.query.now) (e ∷ [])) c.exchanged.ensures)

@@ -3,15 +3,15 @@ use Rattle.query_types.specs.declared.types.ColumnRef.{ColumnRef}
 use Rattle.sql_meaning.specs.Tables.{row_counts, tables_of}
 use Rattle.link_index.specs.Places.{IsPlaceOf}
 use Rattle.join_steps.specs.Columns.{column_cells}
-use Rattle.key_carriers.specs.Cells.{column_of, widened_to}
+use Rattle.key_carriers.specs.Cells.{column_at_place, widened_to}
 use Rattle.key_carriers.specs.Widened.{referred_row}
 use Rattle.key_carriers.proofs.Finding.{first_is, left_count, other_added, right_count, row_added}
 use Rattle.key_carriers.proofs.rows.widened_rows.Goals as goal
 
 pub new-requires : goal.new-requires
 new-requires c =
-    let is : c.cells_of_column-right.result.now ≡ column_cells c.args.db.now (column_of c.args.edge.right) =
-    c.cells_of_column-right.ensures.cells ∙ ap (column_cells c.args.db.now) c.column_of-2.ensures in
+    let is : c.cells_of_column-right.result.now ≡ column_cells c.args.db.now (column_at_place c.args.edge.right) =
+    c.cells_of_column-right.ensures.cells ∙ ap (column_cells c.args.db.now) c.column_at_place-2.ensures in
     record {
       few = omega (
         arith,
@@ -25,7 +25,7 @@ pub rows-init : goal.rows-init
 rows-init c = (
   c.in_ok-with_capacity.ensures.items,
   c.in_ok-with_capacity-2.ensures.items,
-  c.in_ok-key.ensures ∙ c.cells_of_column-right.ensures.cells ∙ ap (column_cells c.args.db.now) c.column_of-2.ensures,
+  c.in_ok-key.ensures ∙ c.cells_of_column-right.ensures.cells ∙ ap (column_cells c.args.db.now) c.column_at_place-2.ensures,
 )
 
 pub row_of-other-requires : goal.row_of-other-requires
@@ -40,8 +40,8 @@ row_of-other-requires c = record {
 
 pub overflow_cast-row : goal.overflow_cast-row
 overflow_cast-row c =
-    let is : c.cells_of_column-left.result.now ≡ column_cells c.args.db.now (column_of c.args.edge.left) =
-    c.cells_of_column-left.ensures.cells ∙ ap (column_cells c.args.db.now) c.column_of.ensures in
+    let is : c.cells_of_column-left.result.now ≡ column_cells c.args.db.now (column_at_place c.args.edge.left) =
+    c.cells_of_column-left.ensures.cells ∙ ap (column_cells c.args.db.now) c.column_at_place.ensures in
     omega (
       arith,
       ap (λ (s : List ℕ). length s) is,
@@ -52,8 +52,8 @@ overflow_cast-row c =
 
 pub rows-preserved : goal.rows-preserved
 rows-preserved c =
-    let left : c.cells_of_column-left.result.now ≡ column_cells c.args.db.now (column_of c.args.edge.left) =
-    c.cells_of_column-left.ensures.cells ∙ ap (column_cells c.args.db.now) c.column_of.ensures in
+    let left : c.cells_of_column-left.result.now ≡ column_cells c.args.db.now (column_at_place c.args.edge.left) =
+    c.cells_of_column-left.ensures.cells ∙ ap (column_cells c.args.db.now) c.column_at_place.ensures in
     let is : c.row_of-other.result ≡ referred_row (tables_of c.args.db.now) c.args.edge c.rows.row =
     first_is c.args.db.now c.args.edge c.requires.tables c.texts_are_different.ensures.different c.texts_are_different.ensures.utf8 c.requires.kinds c.rows.row
     (omega (
@@ -62,7 +62,7 @@ rows-preserved c =
       left_count c.args.db.now c.args.edge c.requires.tables c.texts_are_different.ensures.different c.texts_are_different.ensures.utf8 c.requires.kinds,
       c.rows-test.true,
     )) c.row_of-other.result
-    (subst (λ (s : List ℕ). IsPlaceOf (column_cells c.args.db.now (column_of c.args.edge.right)) (get_or s c.rows.row 0) 0 c.row_of-other.result) left
+    (subst (λ (s : List ℕ). IsPlaceOf (column_cells c.args.db.now (column_at_place c.args.edge.right)) (get_or s c.rows.row 0) 0 c.row_of-other.result) left
     (subst (λ (s : List ℕ). IsPlaceOf s (get_or c.cells_of_column-left.result.now c.rows.row 0) 0 c.row_of-other.result) c.rows.invariant.2 c.row_of-other.ensures)) in (
       row_added c.args.db.now c.args.edge c.rows.row c.row_of-other.result is c.rows.made.rows.items c.add.new.self.rows.items c.rows.invariant.0 c.in_ok-add.ensures.rows,
       other_added c.args.db.now c.args.edge c.rows.row c.row_of-other.result is c.rows.made.others.items c.add.new.self.others.items c.rows.invariant.1 c.in_ok-add.ensures.others,
@@ -71,8 +71,8 @@ rows-preserved c =
 
 pub returns-clause-rows : goal.returns-clause-rows
 returns-clause-rows c =
-    let left : c.cells_of_column-left.result.now ≡ column_cells c.args.db.now (column_of c.args.edge.left) =
-    c.cells_of_column-left.ensures.cells ∙ ap (column_cells c.args.db.now) c.column_of.ensures in
+    let left : c.cells_of_column-left.result.now ≡ column_cells c.args.db.now (column_at_place c.args.edge.left) =
+    c.cells_of_column-left.ensures.cells ∙ ap (column_cells c.args.db.now) c.column_at_place.ensures in
     let all : c.rows.row ≡ row_counts (tables_of c.args.db.now) c.args.edge.left.entry =
     omega (
       arith,
@@ -85,8 +85,8 @@ returns-clause-rows c =
 
 pub returns-clause-others : goal.returns-clause-others
 returns-clause-others c =
-    let left : c.cells_of_column-left.result.now ≡ column_cells c.args.db.now (column_of c.args.edge.left) =
-    c.cells_of_column-left.ensures.cells ∙ ap (column_cells c.args.db.now) c.column_of.ensures in
+    let left : c.cells_of_column-left.result.now ≡ column_cells c.args.db.now (column_at_place c.args.edge.left) =
+    c.cells_of_column-left.ensures.cells ∙ ap (column_cells c.args.db.now) c.column_at_place.ensures in
     let all : c.rows.row ≡ row_counts (tables_of c.args.db.now) c.args.edge.left.entry =
     omega (
       arith,

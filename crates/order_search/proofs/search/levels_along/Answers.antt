@@ -1,16 +1,16 @@
 use Rattle.std.proofs.Common.{rules, ℕ, [], ◌∷◌, ◌++◌, ap, ◌≡◌, ◌+◌, ◌^◌, get_or, arith, ◌∙◌}
 use Rattle.std.proofs.lemmas.Nat.{pow_pos}
-use Rattle.order_search.proofs.LevelsTold.{next_bound, next_within, not_placed, told_more, told_none}
+use Rattle.order_search.proofs.LevelsSoFar.{next_bound, next_within, not_placed, levels_of_next, levels_at_start}
 use Rattle.order_search.proofs.search.levels_along.Goals as goal
 
 pub loop-entry-init : goal.loop-entry-init
-loop-entry-init c = let none : c.empty-placed.result ≡ 0 = c.empty-placed.ensures in rw (c.new-levels.ensures.items, none) (told_none c.args.bounds.now c.args.count c.args.order.now c.requires.order)
+loop-entry-init c = let none : c.empty-placed.result ≡ 0 = c.empty-placed.ensures in rw (c.new-levels.ensures.items, none) (levels_at_start c.args.bounds.now c.args.count c.args.order.now c.requires.order)
 
 pub loop-entry-preserved : goal.loop-entry-preserved
 loop-entry-preserved c =
     let moved : c.with-placed.result ≡ c.loop-entry.placed + 2 ^ get_or c.args.order.now c.loop-entry.entry-index 0 =
     c.with-placed.ensures.number (not_placed c.args.bounds.now c.args.count c.args.order.now c.loop-entry.entry-index c.loop-entry.placed c.loop-entry.levels.items c.loop-entry.invariant c.loop-entry-test.true) in
-    told_more c.args.bounds.now c.args.count c.args.order.now c.loop-entry.entry-index c.loop-entry.placed c.with-placed.result c.loop-entry.levels.items c.push.new.self.items
+    levels_of_next c.args.bounds.now c.args.count c.args.order.now c.loop-entry.entry-index c.loop-entry.placed c.with-placed.result c.loop-entry.levels.items c.push.new.self.items
     c.loop-entry.invariant c.loop-entry-test.true moved
     (c.in_ok-push.ensures.items ∙ ap (λ (placed : ℕ). c.loop-entry.levels.items ++ get_or c.args.bounds.now placed 0 ∷ []) c.bits.ensures)
 

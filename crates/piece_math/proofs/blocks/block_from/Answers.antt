@@ -1,7 +1,7 @@
 use Rattle.std.proofs.Common.{◌≡◌, ◌+◌, ◌*◌, min, ap, ◌∙◌, arith, inl, inr}
 use Rattle.degree_sequences.specs.Saturation.{saturated}
 use Rattle.piece_math.specs.declared.pieces.Piece.{Piece}
-use Rattle.piece_math.specs.Places.{ahead_of}
+use Rattle.piece_math.specs.PiecePlaces.{ahead_of}
 use Rattle.piece_math.proofs.BlockSums.{block_start, block_step, block_sum, block_rest, block_onward}
 use Rattle.piece_math.proofs.blocks.block_from.Goals as goal
 
@@ -11,17 +11,17 @@ loop-left-init c = block_start c.args.weights.now c.args.start c.args.rows c.req
 pub ahead-run-requires : goal.ahead-run-requires
 ahead-run-requires c = c.loop-left.invariant.place
 
-pub passed-next-requires-clause-place : goal.passed-next-requires-clause-place
-passed-next-requires-clause-place c = c.loop-left.invariant.place
+pub place_after-next-requires-clause-place : goal.place_after-next-requires-clause-place
+place_after-next-requires-clause-place c = c.loop-left.invariant.place
 
 pub loop-left-preserved : goal.loop-left-preserved
 loop-left-preserved c =
     rw c.from-left.ensures
-    (block_step c.loop-left.invariant c.if-next-weights.true c.passed-next.result c.min-count.result c.ahead-run.result.value c.saturating_add-sum.result
+    (block_step c.loop-left.invariant c.if-next-weights.true c.place_after-next.result c.min-count.result c.ahead-run.result.value c.saturating_add-sum.result
     (c.min-count.ensures ∙ ap (min c.loop-left.left) (c.from.ensures ∙ ap (λ (p : Piece). p.count) c.ahead-run.ensures))
     (ap (λ (p : Piece). p.value) c.ahead-run.ensures)
     (c.saturating_add-sum.ensures ∙ ap (λ n. saturated (c.loop-left.sum + n)) (c.saturating_mul.ensures ∙ ap (λ n. saturated (c.ahead-run.result.value * n)) c.from-in-loop-left.ensures))
-    c.passed-next.ensures.rest c.passed-next.ensures.place c.passed-next.ensures.stays c.passed-next.ensures.ends c.loop-left-test.true)
+    c.place_after-next.ensures.rest c.place_after-next.ensures.place c.place_after-next.ensures.stays c.place_after-next.ensures.ends c.loop-left-test.true)
 
 pub loop-left-smaller : goal.loop-left-smaller
 loop-left-smaller c =

@@ -1,6 +1,6 @@
 use Rattle.std.proofs.Common.{◌≡◌, sum, map, ap, ◌∙◌, arith}
 use Rattle.degree_sequences.specs.Composition.{row_weights}
-use Rattle.degree_sequences.specs.Falling.{trimmed}
+use Rattle.degree_sequences.specs.Descending.{trimmed}
 use Rattle.degree_sequences.specs.Saturation.{saturated}
 use Rattle.piece_math.specs.Children.{lists_of}
 use Rattle.piece_math.proofs.Composing.{composed_value, composed_few}

@@ -2,7 +2,7 @@ use Rattle.std.proofs.Common.{◌≡◌, ◌*◌, ◌/◌, ◌<◌, min, arith, 
 use Rattle.degree_sequences.specs.RunningSums.{running_sum}
 use Rattle.degree_sequences.specs.Saturation.{saturated}
 use Rattle.piece_math.specs.Expanded.{IsAppended}
-use Rattle.piece_math.specs.Places.{ahead_of, rest_from}
+use Rattle.piece_math.specs.PiecePlaces.{ahead_of, rest_from}
 use Rattle.piece_math.proofs.Building.{run_falls, run_fits}
 use Rattle.piece_math.proofs.Grouping.{grouped_start, grouped_falls, grouped_fits, grouped_end, grouped_smaller, block_positive, mixed_run, mixed_step, whole_run, whole_step, whole_few, no_whole, some_whole, whole_rows}
 use Rattle.piece_math.proofs.blocks.grouped.Goals as goal
@@ -27,7 +27,7 @@ put-requires-clause-room c =
     rw mixed_is (λ pos some. omega (arith, grouped_fits c.pieces-blocks.ensures.whole c.pieces-rows.ensures.whole, run_fits c.loop-at.invariant.built (mixed_run c.pieces-blocks.ensures.whole c.pieces-rows.ensures.whole c.loop-at.invariant c.loop-at-test.true) pos))
 
 pub loop-at-smaller-then-whole-eq0 : goal.loop-at-smaller-then-whole-eq0
-loop-at-smaller-then-whole-eq0 c = grouped_smaller c.pieces-blocks.ensures.whole c.pieces-rows.ensures.whole c.loop-at.invariant c.loop-at-test.true c.passed-at.result 1 c.passed-at.ensures.rest (omega arith)
+loop-at-smaller-then-whole-eq0 c = grouped_smaller c.pieces-blocks.ensures.whole c.pieces-rows.ensures.whole c.loop-at.invariant c.loop-at-test.true c.place_after-at.result 1 c.place_after-at.ensures.rest (omega arith)
 
 pub loop-at-preserved-then-whole-eq0 : goal.loop-at-preserved-then-whole-eq0
 loop-at-preserved-then-whole-eq0 c =
@@ -35,8 +35,8 @@ loop-at-preserved-then-whole-eq0 c =
     let none : (ahead_of c.pieces-rows.result.now c.loop-at.row).count / (ahead_of c.pieces-blocks.result.now c.loop-at.at).value ≡ 0 = rw (c.from.ensures, c.ahead-run.ensures, c.ahead-block.ensures) at c.if-whole-eq0.true in
     let short : (ahead_of c.pieces-rows.result.now c.loop-at.row).count < c.ahead-block.result.value = rw c.ahead-block.ensures (no_whole (ahead_of c.pieces-rows.result.now c.loop-at.row).count (ahead_of c.pieces-blocks.result.now c.loop-at.at).value (block_positive c.pieces-blocks.result.now c.loop-at.at.at c.loop-at.at.used c.pieces-blocks.ensures.whole.falls c.loop-at-test.true) none) in
     mixed_step c.pieces-blocks.ensures.whole c.pieces-rows.ensures.whole c.loop-at.invariant c.loop-at-test.true (rw mixed_is at c.in_ok-put.ensures)
-    c.passed-at.ensures.rest (rw c.ahead-block.ensures at c.block_from-mixed.ensures.rest) c.passed-at.ensures.place c.block_from-mixed.ensures.next
-    c.passed-at.ensures.stays (c.block_from-mixed.ensures.onward c.if-row-rows.true short)
+    c.place_after-at.ensures.rest (rw c.ahead-block.ensures at c.block_from-mixed.ensures.rest) c.place_after-at.ensures.place c.block_from-mixed.ensures.next
+    c.place_after-at.ensures.stays (c.block_from-mixed.ensures.onward c.if-row-rows.true short)
 
 -- these goals are about whole blocks within one run of rows
 
@@ -56,7 +56,7 @@ pub loop-at-smaller : goal.loop-at-smaller
 loop-at-smaller c =
     let count_is : c.min-count.result ≡ min ((ahead_of c.pieces-rows.result.now c.loop-at.row).count / (ahead_of c.pieces-blocks.result.now c.loop-at.at).value) (ahead_of c.pieces-blocks.result.now c.loop-at.at).count = rw (c.from.ensures, c.ahead-run.ensures, c.ahead-block.ensures) at c.min-count.ensures in
     let whole : (ahead_of c.pieces-rows.result.now c.loop-at.row).count / (ahead_of c.pieces-blocks.result.now c.loop-at.at).value ≡ 0 → ⊥ = rw (c.from.ensures, c.ahead-run.ensures, c.ahead-block.ensures) at c.if-whole-eq0.false in
-    grouped_smaller c.pieces-blocks.ensures.whole c.pieces-rows.ensures.whole c.loop-at.invariant c.loop-at-test.true c.passed-at-else-whole-eq0.result c.min-count.result c.passed-at-else-whole-eq0.ensures.rest
+    grouped_smaller c.pieces-blocks.ensures.whole c.pieces-rows.ensures.whole c.loop-at.invariant c.loop-at-test.true c.place_after-at-else-whole-eq0.result c.min-count.result c.place_after-at-else-whole-eq0.ensures.rest
     (omega (arith, count_is, whole, c.loop-at.invariant.block_place.inside))
 
 pub loop-at-preserved : goal.loop-at-preserved
@@ -66,11 +66,11 @@ loop-at-preserved c =
     let whole : (ahead_of c.pieces-rows.result.now c.loop-at.row).count / (ahead_of c.pieces-blocks.result.now c.loop-at.at).value ≡ 0 → ⊥ = rw (c.from.ensures, c.ahead-run.ensures, c.ahead-block.ensures) at c.if-whole-eq0.false in
     let put : IsAppended c.loop-at.list c.put-else-whole-eq0.new.self (saturated ((ahead_of c.pieces-blocks.result.now c.loop-at.at).value * (ahead_of c.pieces-rows.result.now c.loop-at.row).value)) c.min-count.result = rw product_is at c.in_ok-put-2.ensures in
     whole_step c.pieces-blocks.ensures.whole c.pieces-rows.ensures.whole c.loop-at.invariant (omega (arith, count_is)) (whole_rows (ahead_of c.pieces-rows.result.now c.loop-at.row).count (ahead_of c.pieces-blocks.result.now c.loop-at.at).value c.min-count.result (block_positive c.pieces-blocks.result.now c.loop-at.at.at c.loop-at.at.used c.pieces-blocks.ensures.whole.falls c.loop-at-test.true) (omega (arith, count_is))) put
-    c.passed-at-else-whole-eq0.ensures.rest (rw c.ahead-block.ensures at c.passed-row.ensures.rest) c.passed-at-else-whole-eq0.ensures.place c.passed-row.ensures.place
-    (whole_few c.pieces-blocks.ensures.whole c.pieces-rows.ensures.whole c.loop-at.invariant c.put-else-whole-eq0.new.self c.passed-at-else-whole-eq0.result c.passed-row.result c.min-count.result c.loop-at-test.true c.if-row-rows.true (block_positive c.pieces-blocks.result.now c.loop-at.at.at c.loop-at.at.used c.pieces-blocks.ensures.whole.falls c.loop-at-test.true)
+    c.place_after-at-else-whole-eq0.ensures.rest (rw c.ahead-block.ensures at c.place_after-row.ensures.rest) c.place_after-at-else-whole-eq0.ensures.place c.place_after-row.ensures.place
+    (whole_few c.pieces-blocks.ensures.whole c.pieces-rows.ensures.whole c.loop-at.invariant c.put-else-whole-eq0.new.self c.place_after-at-else-whole-eq0.result c.place_after-row.result c.min-count.result c.loop-at-test.true c.if-row-rows.true (block_positive c.pieces-blocks.result.now c.loop-at.at.at c.loop-at.at.used c.pieces-blocks.ensures.whole.falls c.loop-at-test.true)
     (some_whole (ahead_of c.pieces-rows.result.now c.loop-at.row).count (ahead_of c.pieces-blocks.result.now c.loop-at.at).value (block_positive c.pieces-blocks.result.now c.loop-at.at.at c.loop-at.at.used c.pieces-blocks.ensures.whole.falls c.loop-at-test.true) whole) count_is put.few
-    c.passed-at-else-whole-eq0.ensures.stays c.passed-row.ensures.stays c.passed-at-else-whole-eq0.ensures.ends c.passed-at-else-whole-eq0.ensures.within
-    (rw c.ahead-block.ensures at c.passed-row.ensures.ends) (rw c.ahead-block.ensures at c.passed-row.ensures.within) (whole_rows (ahead_of c.pieces-rows.result.now c.loop-at.row).count (ahead_of c.pieces-blocks.result.now c.loop-at.at).value c.min-count.result (block_positive c.pieces-blocks.result.now c.loop-at.at.at c.loop-at.at.used c.pieces-blocks.ensures.whole.falls c.loop-at-test.true) (omega (arith, count_is))))
+    c.place_after-at-else-whole-eq0.ensures.stays c.place_after-row.ensures.stays c.place_after-at-else-whole-eq0.ensures.ends c.place_after-at-else-whole-eq0.ensures.within
+    (rw c.ahead-block.ensures at c.place_after-row.ensures.ends) (rw c.ahead-block.ensures at c.place_after-row.ensures.within) (whole_rows (ahead_of c.pieces-rows.result.now c.loop-at.row).count (ahead_of c.pieces-blocks.result.now c.loop-at.at).value c.min-count.result (block_positive c.pieces-blocks.result.now c.loop-at.at.at c.loop-at.at.used c.pieces-blocks.ensures.whole.falls c.loop-at-test.true) (omega (arith, count_is))))
 
 pub returns-clause-value : goal.returns-clause-value
 returns-clause-value c =

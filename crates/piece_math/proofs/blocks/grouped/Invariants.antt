@@ -1,5 +1,5 @@
 use Rattle.std.proofs.Common.{length}
-use Rattle.piece_math.specs.Places.{rest_from}
+use Rattle.piece_math.specs.PiecePlaces.{rest_from}
 use Rattle.piece_math.proofs.Grouping.{GroupedSoFar}
 use Rattle.piece_math.proofs.blocks.grouped.Given as goal
 

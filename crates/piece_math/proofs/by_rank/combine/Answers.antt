@@ -6,14 +6,14 @@ loop-places-init c = rw c.empty-list.ensures (combine_start c.args.how c.pieces-
 
 pub put-requires-clause-falls : goal.put-requires-clause-falls
 put-requires-clause-falls c pos some =
-    combine_falls c.pieces-a.ensures.whole c.pieces-b.ensures.whole c.loop-places.invariant c.next_turn-turn.ensures c.of.ensures some
+    combine_falls c.pieces-a.ensures.whole c.pieces-b.ensures.whole c.loop-places.invariant c.next_stretch-stretch.ensures c.of.ensures some
 
 pub put-requires-clause-room : goal.put-requires-clause-room
-put-requires-clause-room c pos some = combine_fits c.pieces-a.ensures.whole c.pieces-b.ensures.whole c.loop-places.invariant c.next_turn-turn.ensures c.of.ensures pos
+put-requires-clause-room c pos some = combine_fits c.pieces-a.ensures.whole c.pieces-b.ensures.whole c.loop-places.invariant c.next_stretch-stretch.ensures c.of.ensures pos
 
 pub loop-places-preserved : goal.loop-places-preserved
 loop-places-preserved c =
-    combine_step c.pieces-a.ensures.whole c.pieces-b.ensures.whole c.loop-places.invariant c.next_turn-turn.ensures c.of.ensures c.in_ok-put.ensures
+    combine_step c.pieces-a.ensures.whole c.pieces-b.ensures.whole c.loop-places.invariant c.next_stretch-stretch.ensures c.of.ensures c.in_ok-put.ensures
 
 pub returns-clause-value : goal.returns-clause-value
 returns-clause-value c =

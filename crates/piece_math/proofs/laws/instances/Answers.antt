@@ -1,12 +1,12 @@
 use Rattle.std.proofs.Common.{[], ◌∷◌, arith}
-use Rattle.degree_sequences.proofs.DegreeLists.{degree_list_dominates, IsFalling-degree_list}
+use Rattle.degree_sequences.proofs.DegreeLists.{degree_list_dominates, IsDescending-degree_list}
 use Rattle.piece_math.proofs.LawInstances.{falls_two, falls_three, above_three}
 use Rattle.piece_math.proofs.LawInstances as instance
 use Rattle.piece_math.proofs.laws.instances.Goals as goal
 
 pub returns-clause-product_dominates : goal.returns-clause-product_dominates
 returns-clause-product_dominates c =
-    (IsFalling-degree_list (7 ∷ 7 ∷ 7 ∷ 8 ∷ 9 ∷ []), instance.dominated (7 ∷ 7 ∷ 8 ∷ []), instance.dominated (7 ∷ 7 ∷ 7 ∷ 8 ∷ 9 ∷ []), instance.product)
+    (IsDescending-degree_list (7 ∷ 7 ∷ 7 ∷ 8 ∷ 9 ∷ []), instance.dominated (7 ∷ 7 ∷ 8 ∷ []), instance.dominated (7 ∷ 7 ∷ 7 ∷ 8 ∷ 9 ∷ []), instance.product)
 
 pub returns-clause-compose_dominates : goal.returns-clause-compose_dominates
 returns-clause-compose_dominates c = (degree_list_dominates (1 ∷ 1 ∷ 1 ∷ 2 ∷ 2 ∷ 2 ∷ []), (instance.child_dominates, tt), instance.keys)

@@ -10,23 +10,23 @@ pub loop-places-init : goal.loop-places-init
 loop-places-init c = rw c.empty-list.ensures (spread_start c.pieces-column.result.now c.pieces-class.result.now c.pieces-column.ensures.whole c.pieces-class.ensures.whole)
 
 pub overflow_mul-rows : goal.overflow_mul-rows
-overflow_mul-rows c = rw c.from.ensures (omega (arith, rows_fit c.pieces-column.ensures.whole c.pieces-class.ensures.whole c.loop-places.invariant c.next_turn-turn.ensures, ap sum c.pieces-column.ensures.stands_for, c.requires))
+overflow_mul-rows c = rw c.from.ensures (omega (arith, rows_fit c.pieces-column.ensures.whole c.pieces-class.ensures.whole c.loop-places.invariant c.next_stretch-stretch.ensures, ap sum c.pieces-column.ensures.stands_for, c.requires))
 
 pub overflow_cast-rows : goal.overflow_cast-rows
-overflow_cast-rows c = rw c.from.ensures (omega (arith, rows_fit c.pieces-column.ensures.whole c.pieces-class.ensures.whole c.loop-places.invariant c.next_turn-turn.ensures, ap sum c.pieces-column.ensures.stands_for, c.requires))
+overflow_cast-rows c = rw c.from.ensures (omega (arith, rows_fit c.pieces-column.ensures.whole c.pieces-class.ensures.whole c.loop-places.invariant c.next_stretch-stretch.ensures, ap sum c.pieces-column.ensures.stands_for, c.requires))
 
 pub put-requires-clause-falls : goal.put-requires-clause-falls
-put-requires-clause-falls c = rw c.from.ensures (λ pos some. run_falls c.loop-places.invariant.built (spread_run c.pieces-column.ensures.whole c.pieces-class.ensures.whole c.loop-places.invariant c.next_turn-turn.ensures) (spread_falls c.pieces-column.ensures.whole c.pieces-class.ensures.whole c.loop-places.invariant) some)
+put-requires-clause-falls c = rw c.from.ensures (λ pos some. run_falls c.loop-places.invariant.built (spread_run c.pieces-column.ensures.whole c.pieces-class.ensures.whole c.loop-places.invariant c.next_stretch-stretch.ensures) (spread_falls c.pieces-column.ensures.whole c.pieces-class.ensures.whole c.loop-places.invariant) some)
 
 pub put-requires-clause-room : goal.put-requires-clause-room
 put-requires-clause-room c =
     rw c.from.ensures (λ pos some.
-    omega (arith, run_fits c.loop-places.invariant.built (spread_run c.pieces-column.ensures.whole c.pieces-class.ensures.whole c.loop-places.invariant c.next_turn-turn.ensures) pos, spread_short c.pieces-column.ensures.whole c.pieces-class.ensures.whole c.loop-places.invariant, ap sum c.pieces-column.ensures.stands_for, c.requires))
+    omega (arith, run_fits c.loop-places.invariant.built (spread_run c.pieces-column.ensures.whole c.pieces-class.ensures.whole c.loop-places.invariant c.next_stretch-stretch.ensures) pos, spread_short c.pieces-column.ensures.whole c.pieces-class.ensures.whole c.loop-places.invariant, ap sum c.pieces-column.ensures.stands_for, c.requires))
 
 pub loop-places-preserved : goal.loop-places-preserved
 loop-places-preserved c =
-    spread_step c.pieces-column.ensures.whole c.pieces-class.ensures.whole c.loop-places.invariant c.next_turn-turn.ensures
-    (subst (λ n. IsAppended c.loop-places.list c.put.new.self c.next_turn-turn.result.right (c.next_turn-turn.result.left * n)) c.from.ensures c.in_ok-put.ensures)
+    spread_step c.pieces-column.ensures.whole c.pieces-class.ensures.whole c.loop-places.invariant c.next_stretch-stretch.ensures
+    (subst (λ n. IsAppended c.loop-places.list c.put.new.self c.next_stretch-stretch.result.right (c.next_stretch-stretch.result.left * n)) c.from.ensures c.in_ok-put.ensures)
 
 pub returns-clause-value : goal.returns-clause-value
 returns-clause-value c =

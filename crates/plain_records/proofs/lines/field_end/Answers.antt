@@ -1,5 +1,5 @@
 use Rattle.std.proofs.Common.{sym, ◌∙◌}
-use Rattle.plain_records.proofs.PlaceFacts.{field_ends, field_more, field_past}
+use Rattle.plain_records.proofs.OffsetFacts.{field_ends, field_more, field_past}
 use Rattle.plain_records.proofs.lines.field_end.Goals as goal
 
 pub returns-after-bytes : goal.returns-after-bytes

@@ -1,5 +1,5 @@
 use Rattle.std.proofs.Common.{◌-◌, length}
-use Rattle.plain_records.specs.Places.{FieldSoFar}
+use Rattle.plain_records.specs.Offsets.{FieldSoFar}
 use Rattle.plain_records.proofs.lines.field_end.Given as goal
 
 abbrev pub invariant-bytes : goal.invariant-bytes

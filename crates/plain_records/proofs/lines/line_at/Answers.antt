@@ -1,11 +1,11 @@
 use Rattle.std.proofs.Common.{◌≡◌, ◌+◌, ◌<◌, ◌≤◌, ◌∙◌, sym, arith, get_or, length, drop, false, true}
 use Rattle.std.proofs.lemmas.Bool.{ne_eqb}
 use Rattle.plain_records.specs.Plain.{ends_line, first_record, is_comma}
-use Rattle.plain_records.proofs.PlaceFacts.{count_byte, count_comma, count_end, rest_end, rest_more, text_past}
+use Rattle.plain_records.proofs.OffsetFacts.{count_byte, count_comma, count_end, rest_end, rest_more, text_past}
 use Rattle.plain_records.proofs.lines.line_at.Goals as goal
 use Rattle.plain_records.proofs.lines.line_at.Goals.{then-bytes-at-eq44, else-bytes-at-eq44, then-bytes-test+else-not-ends_line, else-bytes-test}
 
-counted-preserved : (c : goal.Joined-bytes-at-eq44) → length (first_record (drop c.args.place c.args.bytes.now)) + 1 ≡ c.if-bytes-at-eq44.fields + length (first_record (drop (c.bytes.at + 1) c.args.bytes.now))
+counted-preserved : (c : goal.Joined-bytes-at-eq44) → length (first_record (drop c.args.offset c.args.bytes.now)) + 1 ≡ c.if-bytes-at-eq44.fields + length (first_record (drop (c.bytes.at + 1) c.args.bytes.now))
 counted-preserved c =
     let goes_on : ends_line (get_or c.args.bytes.now c.bytes.at 0) ≡ false = sym c.ends_line.ensures ∙ c.if-not-ends_line.true in
     elim c.if-bytes-at-eq44.branch [

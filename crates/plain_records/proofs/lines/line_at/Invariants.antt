@@ -6,8 +6,8 @@ abbrev pub invariant-bytes : goal.invariant-bytes
 invariant-bytes l = record {
   within : l.at ≤ length l.bytes;
   few : l.fields ≤ l.at + 1;
-  counted : length (first_record (drop l.place l.bytes)) + 1 ≡ l.fields + length (first_record (drop l.at l.bytes));
-  rest : after_line (drop l.place l.bytes) ≡ after_line (drop l.at l.bytes);
+  counted : length (first_record (drop l.offset l.bytes)) + 1 ≡ l.fields + length (first_record (drop l.at l.bytes));
+  rest : after_line (drop l.offset l.bytes) ≡ after_line (drop l.at l.bytes);
 }
 
 abbrev pub decreases-bytes : goal.decreases-bytes

@@ -1,6 +1,6 @@
 use Rattle.std.proofs.Common.{◌≡◌, sym, ◌∙◌, arith, get_or, true}
 use Rattle.plain_records.specs.Plain.{ends_line}
-use Rattle.plain_records.proofs.PlaceFacts.{line_ascii, no_record, text_behind}
+use Rattle.plain_records.proofs.OffsetFacts.{line_ascii, no_record, text_behind}
 use Rattle.plain_records.proofs.lines.skip_line_ends.Goals as goal
 
 pub bytes-preserved : goal.bytes-preserved

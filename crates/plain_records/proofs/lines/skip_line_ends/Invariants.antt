@@ -5,10 +5,10 @@ use Rattle.plain_records.proofs.lines.skip_line_ends.Given as goal
 
 abbrev pub invariant-bytes : goal.invariant-bytes
 invariant-bytes l = record {
-  from : l.place ≤ l.at;
+  from : l.offset ≤ l.at;
   within : l.at ≤ length l.bytes;
-  records : plain_records (drop l.place l.bytes) ≡ plain_records (drop l.at l.bytes);
-  text : IsUtf8 l.bytes → IsUtf8 (drop l.place l.bytes) → IsUtf8 (drop l.at l.bytes);
+  records : plain_records (drop l.offset l.bytes) ≡ plain_records (drop l.at l.bytes);
+  text : IsUtf8 l.bytes → IsUtf8 (drop l.offset l.bytes) → IsUtf8 (drop l.at l.bytes);
 }
 
 abbrev pub decreases-bytes : goal.decreases-bytes

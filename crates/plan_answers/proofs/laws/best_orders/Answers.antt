@@ -1,5 +1,5 @@
 use Rattle.plan_answers.proofs.BestComputed.{best_computed}
-use Rattle.plan_answers.proofs.OneChoice.{only_best}
+use Rattle.plan_answers.proofs.OneAnswer.{only_best}
 use Rattle.plan_answers.proofs.laws.best_orders.Goals as goal
 
 pub returns : goal.returns

@@ -4,7 +4,7 @@ use Rattle.bound_fold.specs.Lists.{bounds_of}
 use Rattle.sql_meaning.specs.Tables.{tables_of}
 use Rattle.level_bounds.specs.Scans.{query_scan}
 use Rattle.gathered_stats.specs.Statistics.{statistics_of}
-use Rattle.planning.proofs.Giving.{told_scans}
+use Rattle.planning.proofs.Giving.{scans_from_statistics}
 use Rattle.planning.proofs.NeverUnder.{scan_never_under}
 use Rattle.planning.proofs.bounds.scan_bounds.Goals as goal
 
@@ -12,7 +12,7 @@ pub returns-clause-exact : goal.returns-clause-exact
 returns-clause-exact c =
     let stats = statistics_of (tables_of c.args.db.now) c.args.accuracy in
     c.in_ok-scans.ensures ∙ ap (λ (n : ℕ). map (bounds_of c.in_ok-lists.lists).rows (range_with_len 0 n)) c.len.ensures
-    ∙ told_scans c.args.query.now stats c.in_ok-lists.lists (c.in_ok-lists.ensures.bounds stats c.in_ok-stats.ensures.tells)
+    ∙ scans_from_statistics c.args.query.now stats c.in_ok-lists.lists (c.in_ok-lists.ensures.bounds stats c.in_ok-stats.ensures.tells)
 
 pub returns-clause-never_under : goal.returns-clause-never_under
 returns-clause-never_under c entry low =

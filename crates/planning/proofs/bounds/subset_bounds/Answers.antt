@@ -4,7 +4,7 @@ use Rattle.entry_sets.specs.Sets.{entries_of_set}
 use Rattle.join_graph.specs.Conjuncts.{equalities_of}
 use Rattle.sql_meaning.specs.Tables.{tables_of}
 use Rattle.level_bounds.specs.Orders.{IsOrderOfSet}
-use Rattle.level_bounds.specs.Scans.{query_level}
+use Rattle.level_bounds.specs.Scans.{level_over_entries}
 use Rattle.query_bounds.specs.Bounds.{entry_bounds}
 use Rattle.query_bounds.proofs.Sets.{nothing_bound, set_count}
 use Rattle.gathered_stats.specs.Statistics.{statistics_of}
@@ -31,5 +31,5 @@ returns-clause-never_under c =
     let query = c.args.query.now in
     let tables = tables_of c.args.db.now in
     let LevelsFit : List ℕ → Type 0 = λ bounds. (subset : ℕ) (order : List ℕ) → subset < 2 ^ length query.from → IsOrderOfSet (entries_of_set subset) order
-    → (length (query_level query tables order) ≤ get_or bounds subset 0) ⊎ (get_or bounds subset 0 ≡ top_bound) in
+    → (length (level_over_entries query tables order) ≤ get_or bounds subset 0) ⊎ (get_or bounds subset 0 ≡ top_bound) in
     subst LevelsFit (sym c.in_ok-known.ensures.sets) (level_never_under query tables c.args.accuracy)

@@ -1,4 +1,4 @@
-use Rattle.plan_answers.proofs.OneChoice.{only}
+use Rattle.plan_answers.proofs.OneAnswer.{only}
 use Rattle.planning.proofs.known.plan_from.Goals as goal
 
 pub returns : goal.returns

@@ -1,6 +1,6 @@
 use Rattle.std.proofs.Common.{length, refl}
 use Rattle.join_graph.specs.Conjuncts.{equalities_of}
-use Rattle.plan_answers.proofs.OneChoice.{never_memory}
+use Rattle.plan_answers.proofs.OneAnswer.{never_memory}
 use Rattle.set_bounds.specs.AllSets.{bounds_in_sets}
 use Rattle.query_bounds.specs.Bounds.{scan_bounds}
 use Rattle.query_bounds.proofs.Levels.{scan_within}

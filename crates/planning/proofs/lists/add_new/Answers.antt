@@ -3,7 +3,7 @@ use Rattle.std.specs.Prelude.{All}
 use Rattle.cond_stats.specs.Lists.{compressed_degrees}
 use Rattle.filtered_lists.specs.Standing.{value_in_row}
 use Rattle.sql_meaning.specs.Tables.{cells_of, tables_of}
-use Rattle.table_stats.specs.Columns.{numbered}
+use Rattle.table_stats.specs.Columns.{as_first_rows}
 use Rattle.join_steps.specs.Lists.{list_at, lists_of}
 use Rattle.join_steps.proofs.WholeScans.{length-lists_of}
 use Rattle.reduced_scans.proofs.OfQuery.{read_list, read_short}
@@ -47,7 +47,7 @@ returns-clause-known c =
     c.as_slice-rows.ensures ∙ read_list c.args.lists.now entry c.index-lists-place.result low c.index-lists-place.is in
     known_more c.args.db.now (lists_of c.args.lists.now) c.args.accuracy entry column c.in_ok-list.list c.args.known.now c.add.new.self c.requires.known
     (c.in_ok-list.ensures.exact
-    ∙ ap (λ (rows : List ℕ). compressed_degrees c.args.accuracy (numbered (map (value_in_row (tables_of c.args.db.now) entry column) rows))) rows_are)
+    ∙ ap (λ (rows : List ℕ). compressed_degrees c.args.accuracy (as_first_rows (map (value_in_row (tables_of c.args.db.now) entry column) rows))) rows_are)
     c.in_ok-add.ensures.set c.in_ok-add.ensures.others c.in_ok-add.ensures.rows
 
 pub returns-clause-there : goal.returns-clause-there

@@ -2,7 +2,7 @@ use Rattle.std.proofs.Common.{◌<◌, ℕ, get_or}
 use Rattle.berge_tree.specs.declared.edges.Edge.{Edge}
 use Rattle.bound_fold.specs.Sets.{HaveLists}
 use Rattle.join_steps.specs.Lists.{lists_of}
-use Rattle.planning.specs.Known.{IsKnown}
+use Rattle.planning.specs.ListsSoFar.{IsKnown}
 use Rattle.planning.proofs.lists.lists_over_rows.Given as goal
 
 abbrev pub invariant-equalities : goal.invariant-equalities

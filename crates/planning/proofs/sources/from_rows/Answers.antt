@@ -6,8 +6,8 @@ use Rattle.join_steps.specs.Lists.{lists_of}
 use Rattle.join_steps.proofs.WholeScans.{length-lists_of}
 use Rattle.reduced_scans.specs.Lists.{JoinsColumns}
 use Rattle.reduced_scans.proofs.OfQuery.{joins_columns}
-use Rattle.planning.proofs.Giving.{each_listed, one_each, rows_give}
-use Rattle.planning.proofs.Knowing.{all_listed}
+use Rattle.planning.proofs.Giving.{each_has_bounds, one_each, rows_give}
+use Rattle.planning.proofs.Knowing.{all_have_bounds}
 use Rattle.planning.proofs.sources.from_rows.Goals as goal
 
 pub lists_over_rows-requires-clause-columns : goal.lists_over_rows-requires-clause-columns
@@ -25,8 +25,8 @@ bounds_from-requires-clause-few c =
 pub bounds_from-requires-clause-listed : goal.bounds_from-requires-clause-listed
 bounds_from-requires-clause-listed c = λ subset fits.
     let count : length (lists_of c.args.rows.now) ≡ length c.args.query.now.from = length-lists_of c.args.rows.now ∙ c.requires.rows.count ∙ c.requires.database.entries in
-    each_listed c.args.query.now c.args.parts.now.equalities c.requires.equalities c.in_ok-lists.lists c.in_ok-scans.scans c.len.result c.len.ensures c.in_ok-scans.ensures
-    (all_listed c.args.db.now (lists_of c.args.rows.now) c.args.accuracy c.in_ok-lists.lists c.in_ok-lists.ensures.known (equalities_of c.args.query.now)
+    each_has_bounds c.args.query.now c.args.parts.now.equalities c.requires.equalities c.in_ok-lists.lists c.in_ok-scans.scans c.len.result c.len.ensures c.in_ok-scans.ensures
+    (all_have_bounds c.args.db.now (lists_of c.args.rows.now) c.args.accuracy c.in_ok-lists.lists c.in_ok-lists.ensures.known (equalities_of c.args.query.now)
     (subst (All (HaveLists c.in_ok-lists.lists)) (c.as_slice.ensures ∙ c.requires.equalities) c.in_ok-lists.ensures.joined) (length c.args.query.now.from) (sym count)) subset fits
 
 pub bounds_from-requires-clause-looks : goal.bounds_from-requires-clause-looks

@@ -10,5 +10,5 @@ pub returns : goal.returns
 returns c =
     let query = c.args.query.now in
     let stats : Statistics = statistics_of (tables_of c.args.db.now) c.args.accuracy in
-    IfOk-weaker c.from_told.result (λ made. (known : Statistics) → Tells query c.in_ok-stats.stats known → HasBounds (set_bounds query known) (scan_bounds query known) made)
-    (HasBounds (set_bounds query stats) (scan_bounds query stats)) (λ made gives. gives stats c.in_ok-stats.ensures.tells) c.from_told.ensures.gives
+    IfOk-weaker c.from_given_statistics.result (λ made. (known : Statistics) → Tells query c.in_ok-stats.stats known → HasBounds (set_bounds query known) (scan_bounds query known) made)
+    (HasBounds (set_bounds query stats) (scan_bounds query stats)) (λ made gives. gives stats c.in_ok-stats.ensures.tells) c.from_given_statistics.ensures.gives

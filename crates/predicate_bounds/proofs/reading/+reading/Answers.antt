@@ -19,9 +19,9 @@ Members::add_any-returns t c =
     let conjs : List (Conjunction (List Step)) = map (λ cond. read cond c.args.holds) c.args.conds.now in
     let all : c.loop-cond.steps ≡ c.push.new.self ++ or_steps (map (λ cond. and_answer step_answers (read cond c.args.holds)) c.args.conds.now) =
     c.loop-cond.invariant ∙ ap (λ (conds : List Cond). c.push.new.self ++ or_steps (map (λ cond. and_answer step_answers (read cond c.args.holds)) conds)) (take_all c.loop-cond.cond-index c.args.conds.now c.loop-cond-test.false) in
-    three_on_ok c.close.result (λ steps some ranges. answer_added c.args.self.now c.close.new.self c.args.steps.now c.loop-cond.steps c.close.new.steps (or_answer step_answers conjs)
-    (or_answer_steps c.args.steps.now c.push.new.self c.loop-cond.steps conjs c.in_ok-push.ensures.ok (all ∙ ap (λ (xs : List (List Step)). c.push.new.self ++ or_steps xs) (sym (answers c.args.conds.now c.args.holds)))) steps some ranges)
-    c.close.ensures.steps c.close.ensures.some c.close.ensures.ranges
+    three_on_ok c.add_and.result (λ steps has_answer ranges. answer_added c.args.self.now c.add_and.new.self c.args.steps.now c.loop-cond.steps c.add_and.new.steps (or_answer step_answers conjs)
+    (or_answer_steps c.args.steps.now c.push.new.self c.loop-cond.steps conjs c.in_ok-push.ensures.ok (all ∙ ap (λ (xs : List (List Step)). c.push.new.self ++ or_steps xs) (sym (answers c.args.conds.now c.args.holds)))) steps has_answer ranges)
+    c.add_and.ensures.steps c.add_and.ensures.has_answer c.add_and.ensures.ranges
 
 pub Members::add_condition-returns-then-holds : goal.Members::add_condition-returns-then-holds
 Members::add_condition-returns-then-holds t c =
@@ -47,4 +47,4 @@ Members::add_each-loop-cond-preserved t c =
 pub add_answer-returns : goal.add_answer-returns
 add_answer-returns t c =
     on_ok_weaker c.finish.result (λ closed. answer_steps c.none-members.result c.add_condition.new.self c.args.steps.now c.add_condition.new.steps c.finish.new.steps (read c.args.cond.now c.args.holds)
-    c.none-members.ensures.some c.none-members.ensures.ranges c.in_ok-add_condition.ensures closed) c.finish.ensures
+    c.none-members.ensures.has_answer c.none-members.ensures.ranges c.in_ok-add_condition.ensures closed) c.finish.ensures

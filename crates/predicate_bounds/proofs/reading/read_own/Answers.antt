@@ -19,5 +19,5 @@ loop-number-preserved c =
 pub returns : goal.returns
 returns c =
     all_read c.args.from c.args.query.now.conjuncts c.args.own.now c.loop-number.number-index c.none-members.result c.loop-number.members c.new-steps.result c.loop-number.steps
-    c.finish.new.steps c.push.new.self c.push-2.new.self c.requires c.loop-number-test.false c.none-members.ensures.some c.none-members.ensures.ranges c.new-steps.ensures
+    c.finish.new.steps c.push.new.self c.push-2.new.self c.requires c.loop-number-test.false c.none-members.ensures.has_answer c.none-members.ensures.ranges c.new-steps.ensures
     c.loop-number.invariant c.in_ok-finish.ensures c.in_ok-push.ensures.ok c.in_ok-push-2.ensures.ok

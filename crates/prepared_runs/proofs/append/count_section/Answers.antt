@@ -1,8 +1,8 @@
 use Rattle.prepared_runs.proofs.AppendStages.{section_alone, section_counted, section_missing, section_there}
 use Rattle.prepared_runs.proofs.append.count_section.Goals as goal
 
-pub returns-in-Some-clause-counted : goal.returns-in-Some-clause-counted
-returns-in-Some-clause-counted c = section_counted c.args.name.now c.args.schema.now c.args.stats.now c.in-Some.section.now c.in-Some.ensures
+pub returns-in-Some-clause-section_rows : goal.returns-in-Some-clause-section_rows
+returns-in-Some-clause-section_rows c = section_counted c.args.name.now c.args.schema.now c.args.stats.now c.in-Some.section.now c.in-Some.ensures
 
 pub returns-in-Some-clause-there : goal.returns-in-Some-clause-there
 returns-in-Some-clause-there c = section_there c.args.name.now c.args.schema.now c.args.stats.now c.requires c.in-Some.section.now c.in-Some.ensures
@@ -10,5 +10,5 @@ returns-in-Some-clause-there c = section_there c.args.name.now c.args.schema.now
 pub returns-in-Some-clause-alone : goal.returns-in-Some-clause-alone
 returns-in-Some-clause-alone c = section_alone c.args.name.now c.args.schema.now c.args.stats.now c.requires c.in-Some.section.now c.in-Some.ensures
 
-pub returns-in-None-clause-counted : goal.returns-in-None-clause-counted
-returns-in-None-clause-counted c = section_missing c.args.name.now c.args.schema.now c.args.stats.now c.in-None.ensures
+pub returns-in-None-clause-section_rows : goal.returns-in-None-clause-section_rows
+returns-in-None-clause-section_rows c = section_missing c.args.name.now c.args.schema.now c.args.stats.now c.in-None.ensures

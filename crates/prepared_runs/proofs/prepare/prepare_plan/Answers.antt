@@ -4,13 +4,13 @@ use Rattle.sql_meaning.specs.Tables.{Tables, tables_of}
 use Rattle.table_files.specs.EntryTables.{entry_rows, tables_in}
 use Rattle.prepared_runs.specs.Limits.{IsWithinLimit}
 use Rattle.prepared_runs.specs.RunOutcome.{Planned}
-use Rattle.prepared_runs.specs.PreparedQuery.{AreOverLists, HoldsBytes, text_left}
+use Rattle.prepared_runs.specs.PreparedQuery.{AreOverLists, HoldsBytes, pending_text}
 use Rattle.prepared_runs.specs.Shapes.{IsPlanOver, IsShapedPlan, shape_bytes}
 use Rattle.prepared_runs.specs.Sources.{lists_by, sourced}
 use Rattle.prepared_runs.specs.Standing.{LoseNoRow}
 use Rattle.prepared_runs.specs.declared.shapes.AnyPlan.{AnyPlan}
 use Rattle.safebound_words.specs.declared.command.OutText.{OutText}
-use Rattle.prepared_runs.proofs.Answered.{limit_told, plan_stage_ok, plan_told}
+use Rattle.prepared_runs.proofs.Answered.{limit_stops_by, plan_stage_ok, plan_stops_by}
 use Rattle.prepared_runs.proofs.KeyFacts.{needs_met}
 use Rattle.prepared_runs.proofs.LimitFacts.{within_ok}
 use Rattle.prepared_runs.proofs.ShapeFacts.{plan_fits, plan_over}
@@ -20,7 +20,7 @@ use Rattle.prepared_runs.proofs.prepare.prepare_plan.Goals as goal
 pub returns-in_err-planned-clause-refused : goal.returns-in_err-planned-clause-refused
 returns-in_err-planned-clause-refused c =
     let p = err_from_is_err_and c.from_residual.result c.from_residual.ensures.1 in
-    rw (p.1, p.2) (plan_told c.args.task.now c.args.schema.now c.args.query (entry_rows c.args.db) (tables_of c.args.db) c.requires.tables c.in_err-planned.field-0.0 c.in_err-planned.ensures.refused)
+    rw (p.1, p.2) (plan_stops_by c.args.task.now c.args.schema.now c.args.query (entry_rows c.args.db) (tables_of c.args.db) c.requires.tables c.in_err-planned.field-0.0 c.in_err-planned.ensures.refused)
 
 pub memory_of-bytes-requires : goal.memory_of-bytes-requires
 memory_of-bytes-requires c =
@@ -36,16 +36,16 @@ memory_of-bytes-requires c =
           c.requires.database.few task.terms.shape planned.plan c.in_ok-planned.ensures.planned c.requires.ranges.budget).plan,
     )
 
-pub returns-in_err-keep_limit-clause-refused : goal.returns-in_err-keep_limit-clause-refused
-returns-in_err-keep_limit-clause-refused c =
-    let p = err_from_is_err_and c.from_residual-in_err-keep_limit.result c.from_residual-in_err-keep_limit.ensures.1 in
-    rw (p.1, p.2) (limit_told c.args.task.now c.args.schema.now c.args.query (entry_rows c.args.db) (tables_of c.args.db) c.requires.tables c.in_ok-planned.planned.plan
-    c.in_ok-planned.ensures.planned c.in_err-keep_limit.field-0.0 (sym (rw c.memory_of-bytes.ensures at c.in_err-keep_limit.ensures)))
+pub returns-in_err-check_limit-clause-refused : goal.returns-in_err-check_limit-clause-refused
+returns-in_err-check_limit-clause-refused c =
+    let p = err_from_is_err_and c.from_residual-in_err-check_limit.result c.from_residual-in_err-check_limit.ensures.1 in
+    rw (p.1, p.2) (limit_stops_by c.args.task.now c.args.schema.now c.args.query (entry_rows c.args.db) (tables_of c.args.db) c.requires.tables c.in_ok-planned.planned.plan
+    c.in_ok-planned.ensures.planned c.in_err-check_limit.field-0.0 (sym (rw c.memory_of-bytes.ensures at c.in_err-check_limit.ensures)))
 
 pub make_room-requires-clause-within : goal.make_room-requires-clause-within
 make_room-requires-clause-within c =
     let memory = c.args.task.now.terms.memory in
-    subst (IsWithinLimit memory) c.memory_of-bytes.ensures (within_ok memory c.memory_of-bytes.result tt tt (sym c.in_ok-keep_limit.ensures)).1
+    subst (IsWithinLimit memory) c.memory_of-bytes.ensures (within_ok memory c.memory_of-bytes.result tt tt (sym c.in_ok-check_limit.ensures)).1
 
 pub make_room-requires-clause-plan : goal.make_room-requires-clause-plan
 make_room-requires-clause-plan c =
@@ -91,7 +91,7 @@ returns-clause-run c =
     let rows = entry_rows c.args.db in
     let planned = c.in_ok-planned.planned in
     plan_stage_ok task c.args.schema.now query rows (tables_of c.args.db) c.requires.tables planned.plan c.in_ok-planned.ensures.planned
-    (sym (rw c.memory_of-bytes.ensures at c.in_ok-keep_limit.ensures))
+    (sym (rw c.memory_of-bytes.ensures at c.in_ok-check_limit.ensures))
     ∙ ap (λ (out : OutText). Ok (Planned (record {
       query = query;
       rows = rows;
@@ -108,5 +108,5 @@ returns-clause-run c =
       source = task.source;
       lists = lists_by task.source query (tables_in rows);
       memory = task.terms.memory;
-      out = text_left c.in_ok-rest.rest;
+      out = pending_text c.in_ok-rest.rest;
     }))) (sym c.in_ok-rest.ensures.plan)

@@ -1,6 +1,6 @@
 use Rattle.std.proofs.Common.{Err, Ok, ap}
 use Rattle.std.proofs.lemmas.Result.{err_from_is_err_and}
-use Rattle.outcomes.specs.Reads.{seen}
+use Rattle.outcomes.specs.Reads.{mapped}
 use Rattle.safebound_words.specs.declared.command.Aim.TheVariants as aims
 use Rattle.prepared_runs.specs.PreparedRun.{appended_from, outcome_of}
 use Rattle.prepared_runs.proofs.Stages.{aim_done}
@@ -8,7 +8,7 @@ use Rattle.prepared_runs.proofs.prepare.prepare_run.Goals as goal
 
 pub returns-in-Query-clause-reads : goal.returns-in-Query-clause-reads
 returns-in-Query-clause-reads g c =
-    aim_done c.args.aim.now (aims.Query c.in-Query.file c.in-Query.work) c.args.schema.now (seen (outcome_of c.args.schema.now) c.prepare_work.result)
+    aim_done c.args.aim.now (aims.Query c.in-Query.file c.in-Query.work) c.args.schema.now (mapped (outcome_of c.args.schema.now) c.prepare_work.result)
     c.in-Query.is c.prepare_work.ensures.reads
 
 pub returns-in_err-made-in-Append-clause-reads : goal.returns-in_err-made-in-Append-clause-reads

@@ -2,7 +2,7 @@ use Rattle.std.proofs.Common.{ℕ, ◌+◌, List, ap, sym, ◌∙◌, subst}
 use Rattle.reserve_plan.specs.Memory.{lists_bytes}
 use Rattle.sql_meaning.specs.Tables.{tables_of}
 use Rattle.join_steps.specs.Lists.{lists_of}
-use Rattle.prepared_runs.specs.PreparedQuery.{held_bytes, lists_in}
+use Rattle.prepared_runs.specs.PreparedQuery.{room_bytes, lists_in}
 use Rattle.prepared_runs.specs.Shapes.{IsPlanOver, scan_bounds}
 use Rattle.prepared_runs.specs.Standing.{LoseNoRow}
 use Rattle.prepared_runs.proofs.KeptFacts.{all_bytes}
@@ -40,5 +40,5 @@ returns-clause-room c =
 pub returns-clause-bytes : goal.returns-clause-bytes
 returns-clause-bytes c =
     let plan = c.args.planned.plan in
-    ap (λ (n : ℕ). n + held_bytes c.in_ok-room.room) c.in_ok-lists.ensures.bytes
+    ap (λ (n : ℕ). n + room_bytes c.in_ok-room.room) c.in_ok-lists.ensures.bytes
     ∙ ap (λ (n : ℕ). lists_bytes (scan_bounds plan) + n) c.in_ok-room.ensures.bytes ∙ all_bytes plan

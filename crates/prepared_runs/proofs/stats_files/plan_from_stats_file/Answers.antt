@@ -5,7 +5,7 @@ use Rattle.outcomes.specs.Reads.{StopsBy}
 use Rattle.outcomes.specs.declared.refusal.Refusal.{Refusal}
 use Rattle.prepared_runs.specs.RunOutcome.{RunOutcome}
 use Rattle.prepared_runs.specs.PreparedRun.{plan_from}
-use Rattle.prepared_runs.proofs.StatsFileStages.{all_there, need_told}
+use Rattle.prepared_runs.proofs.StatsFileStages.{all_there, need_stops_by}
 use Rattle.prepared_runs.proofs.stats_files.plan_from_stats_file.Goals as goal
 
 pub from_file-requires-clause-file : goal.from_file-requires-clause-file
@@ -25,4 +25,4 @@ returns-in-Ok-clause-refused c =
     (sym (all_there c.args.terms.now c.args.query c.args.file c.in-Ok.ensures.all_there)) c.plan_known.ensures.refused
 
 pub returns-in-Err-clause-refused : goal.returns-in-Err-clause-refused
-returns-in-Err-clause-refused c = rw c.ending_of.ensures (need_told c.args.terms.now c.args.query c.args.file c.in-Err.error c.in-Err.ensures.missing)
+returns-in-Err-clause-refused c = rw c.failure_of.ensures (need_stops_by c.args.terms.now c.args.query c.args.file c.in-Err.error c.in-Err.ensures.missing)

@@ -7,7 +7,7 @@ use Rattle.stats_file_bounds.proofs.FromFiles.{all_sets, one_scan}
 use Rattle.prepared_runs.specs.Shapes.{answer_of}
 use Rattle.prepared_runs.specs.StatsFiles.{made_from_file, plan_from_file_asked}
 use Rattle.prepared_runs.specs.declared.shapes.AnyPlan.{AnyPlan}
-use Rattle.prepared_runs.proofs.Answered.{planned_kept, planned_past, planned_told, was_made, was_refused}
+use Rattle.prepared_runs.proofs.Answered.{planned_kept, planned_past, planned_stops_by, was_made, was_refused}
 use Rattle.prepared_runs.proofs.ShapeFacts.{answer_is_plan}
 use Rattle.prepared_runs.proofs.StatsFileStages.{asked_known}
 use Rattle.prepared_runs.proofs.stats_files.plan_known.Goals as goal
@@ -31,7 +31,7 @@ returns-in_err-plan-clause-refused c =
     let file = c.args.file in
     let known = c.args.known.now in
     let p = err_from_is_err_and c.from_residual.result c.from_residual.ensures.1 in
-    rw (p.1, p.2) (planned_told terms.memory (made_from_file terms query file) (plan_from_file_asked terms query file) c.in_err-plan.field-0.0
+    rw (p.1, p.2) (planned_stops_by terms.memory (made_from_file terms query file) (plan_from_file_asked terms query file) c.in_err-plan.field-0.0
     (subst (λ (r : Result AnyPlan PlanError). (c.in_err-plan.field-0.0 ≡ error.NoMemory) ⊎ (r ≡ Err c.in_err-plan.field-0.0)) (asked_known terms query file known c.requires.known)
     (was_refused (answer_of terms.shape known.sets known.scans terms.budget) c.in_err-plan.field-0.0 c.in_err-plan.ensures)))
 
@@ -48,16 +48,16 @@ memory_of-bytes-requires c =
       answer_is_plan terms.shape known.sets known.scans (length query.from) terms.budget long c.requires.some c.requires.few c.in_ok-plan.plan made,
     )
 
-pub returns-in_err-keep_limit-clause-refused : goal.returns-in_err-keep_limit-clause-refused
-returns-in_err-keep_limit-clause-refused c =
+pub returns-in_err-check_limit-clause-refused : goal.returns-in_err-check_limit-clause-refused
+returns-in_err-check_limit-clause-refused c =
     let terms = c.args.terms.now in
     let query = c.args.query in
     let file = c.args.file in
     let known = c.args.known.now in
-    let p = err_from_is_err_and c.from_residual-in_err-keep_limit.result c.from_residual-in_err-keep_limit.ensures.1 in
+    let p = err_from_is_err_and c.from_residual-in_err-check_limit.result c.from_residual-in_err-check_limit.ensures.1 in
     rw (p.1, p.2) (planned_past terms.memory (made_from_file terms query file) (plan_from_file_asked terms query file) c.in_ok-plan.plan
     (sym (asked_known terms query file known c.requires.known) ∙ was_made (answer_of terms.shape known.sets known.scans terms.budget) c.in_ok-plan.plan c.in_ok-plan.ensures)
-    c.in_err-keep_limit.field-0.0 (sym (rw c.memory_of-bytes.ensures at c.in_err-keep_limit.ensures)))
+    c.in_err-check_limit.field-0.0 (sym (rw c.memory_of-bytes.ensures at c.in_err-check_limit.ensures)))
 
 pub returns-clause-plan : goal.returns-clause-plan
 returns-clause-plan c =
@@ -80,4 +80,4 @@ returns-clause-within c =
     let known = c.args.known.now in
     planned_kept terms.memory (made_from_file terms query file) (plan_from_file_asked terms query file) c.in_ok-plan.plan
     (sym (asked_known terms query file known c.requires.known) ∙ was_made (answer_of terms.shape known.sets known.scans terms.budget) c.in_ok-plan.plan c.in_ok-plan.ensures)
-    (sym (rw c.memory_of-bytes.ensures at c.in_ok-keep_limit.ensures))
+    (sym (rw c.memory_of-bytes.ensures at c.in_ok-check_limit.ensures))

@@ -7,8 +7,8 @@ returns-in_err-db-clause-reads g c =
     let p = err_from_is_err_and c.from_residual.result c.from_residual.ensures.1 in
     rw (p.1, p.2) (file_stops c.args.accuracy c.args.schema.now c.args.query _ c.in_err-db.field-0.0 c.in_err-db.ensures.reads)
 
-pub file_tables-requires-clause-over : goal.file_tables-requires-clause-over
-file_tables-requires-clause-over g c = record {
+pub stats_file_of_tables-requires-clause-over : goal.stats_file_of_tables-requires-clause-over
+stats_file_of_tables-requires-clause-over g c = record {
   schema_is = c.requires.schema;
   query_is = c.requires.query;
   database = c.in_ok-db.ensures.database;

@@ -1,6 +1,6 @@
 use Rattle.std.proofs.Common.{◌≡◌, ◌++◌, ℕ, length, ap, sym, ◌∙◌, arith}
 use Rattle.std.proofs.lemmas.Result.{err_from_is_err_and}
-use Rattle.base_io.proofs.WriteFacts.{flushed, put_as, put_cut, put_then, wrote_err}
+use Rattle.base_io.proofs.WriteFacts.{flushed, put_as, put_failed, put_then, wrote_err}
 use Rattle.printed_texts.specs.Plans.{scan_lines}
 use Rattle.printed_texts.specs.TreePlans.{node_lines, tree_lines}
 use Rattle.printed_texts.proofs.tree.write_tree.Goals as goal
@@ -14,7 +14,7 @@ pub returns-in_err-write_scans : goal.returns-in_err-write_scans
 returns-in_err-write_scans g c =
     let p = err_from_is_err_and c.from_residual.result c.from_residual.ensures.1 in
     wrote_err c.new-buffer.ensures p.1
-    (put_cut (node_lines (length c.args.plan.now.scans) c.args.plan.now.joins) (rw c.as_slice.ensures at c.in_err-write_scans.ensures))
+    (put_failed (node_lines (length c.args.plan.now.scans) c.args.plan.now.joins) (rw c.as_slice.ensures at c.in_err-write_scans.ensures))
 
 pub returns-in_err-write_nodes : goal.returns-in_err-write_nodes
 returns-in_err-write_nodes g c =

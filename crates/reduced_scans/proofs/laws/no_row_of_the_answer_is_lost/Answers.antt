@@ -5,7 +5,7 @@ use Rattle.sql_meaning.specs.Levels.{row_in}
 use Rattle.level_bounds.proofs.LastLevel.{last_level_is_answer}
 use Rattle.join_graph.specs.Conjuncts.{equalities_of}
 use Rattle.level_bounds.specs.Keys.{are_equal_at}
-use Rattle.sql_meaning.proofs.AskFacts.{asks_only}
+use Rattle.sql_meaning.proofs.AskFacts.{depend_on_named}
 use Rattle.join_steps.specs.Lists.{scans_of}
 use Rattle.reduced_scans.proofs.Levels.{rows_stay}
 use Rattle.reduced_scans.proofs.Matches.{match_stays}
@@ -20,7 +20,7 @@ returns-clause-choices c query tables reduced choice named are satisfies entry l
 
 pub returns-clause-rows : goal.returns-clause-rows
 returns-clause-rows c query tables reduced order choice named are o there entry low =
-    rows_stay query tables (asks_only tables query.conjuncts) named order o choice there reduced are entry low
+    rows_stay query tables (depend_on_named tables query.conjuncts) named order o choice there reduced are entry low
 
 pub returns-clause-level : goal.returns-clause-level
 returns-clause-level c query tables reduced order named are o = same_level query tables reduced are named order o

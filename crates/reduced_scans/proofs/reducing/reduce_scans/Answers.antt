@@ -10,18 +10,18 @@ use Rattle.reduced_scans.specs.Families.{AreAscending, IsReduced}
 use Rattle.join_steps.specs.Lists.{lists_of, scans_of}
 use Rattle.reduced_scans.specs.Lists.{AreRowLists, JoinsColumns}
 use Rattle.reduced_scans.specs.SemiJoins.{IsSifted}
-use Rattle.reduced_scans.specs.Wiring.{TellsByKey, marked_family}
+use Rattle.reduced_scans.specs.Wiring.{HoldsByKey, marked_family}
 use Rattle.reduced_scans.proofs.OfQuery.{are_lists, few_equalities, joins_columns, lists_are, tells}
 use Rattle.join_steps.proofs.WholeScans.{ascending}
 use Rattle.reduced_scans.proofs.Sifting.{reduced_of_sifted, sifted_tell}
-use Rattle.reduced_scans.proofs.Wired.{few_items}
+use Rattle.reduced_scans.proofs.UseFacts.{few_items}
 use Rattle.reduced_scans.proofs.reducing.reduce_scans.Goals as goal
 
-pub sifted-requires-clause-lists : goal.sifted-requires-clause-lists
-sifted-requires-clause-lists c = are_lists c.args.query.now c.args.db.now c.args.scans.now c.requires.database c.requires.count c.requires.scans
+pub semi_join_all-requires-clause-lists : goal.semi_join_all-requires-clause-lists
+semi_join_all-requires-clause-lists c = are_lists c.args.query.now c.args.db.now c.args.scans.now c.requires.database c.requires.count c.requires.scans
 
-pub sifted-requires-clause-columns : goal.sifted-requires-clause-columns
-sifted-requires-clause-columns c =
+pub semi_join_all-requires-clause-columns : goal.semi_join_all-requires-clause-columns
+semi_join_all-requires-clause-columns c =
     subst (All (JoinsColumns c.args.db.now)) (sym c.requires.equalities) (joins_columns c.args.query.now c.args.db.now c.requires.database)
 
 pub marks_of-requires-clause-lists : goal.marks_of-requires-clause-lists
@@ -55,9 +55,9 @@ returns-clause-reduced c =
     let left = lists_of c.as_slice-left.result.now in
     let same : scans ≡ scans_of query tables = lists_are query c.args.db.now c.args.scans.now c.requires.database c.requires.count c.requires.scans in
     let edges : es ≡ equalities_of query = c.requires.equalities in
-    let tell : TellsByKey scans es (cell_at c.args.db.now) equal =
-    subst (λ s. TellsByKey s es (cell_at c.args.db.now) equal) (sym same)
-    (subst (λ es. TellsByKey (scans_of query tables) es (cell_at c.args.db.now) equal) (sym edges)
+    let tell : HoldsByKey scans es (cell_at c.args.db.now) equal =
+    subst (λ s. HoldsByKey s es (cell_at c.args.db.now) equal) (sym same)
+    (subst (λ es. HoldsByKey (scans_of query tables) es (cell_at c.args.db.now) equal) (sym edges)
     (tells query c.args.db.now c.requires.database c.texts_are_different.ensures.different c.texts_are_different.ensures.utf8)) in
     let sifted : IsSifted scans es equal left =
     subst (λ (lists : List (Rows ℕ)). IsSifted scans es equal (lists_of lists)) (sym c.as_slice-left.ensures)

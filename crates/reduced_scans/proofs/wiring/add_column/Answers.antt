@@ -47,7 +47,7 @@ returns c =
     let list : c.as_slice-list.result.now ≡ list_at lists entry =
     c.as_slice-list.ensures ∙ read_list c.args.scans.now entry c.index-scans-column.result low c.index-scans-column.is in
     let Adds : ℕ → List ℕ → List ℕ → Type 0 =
-    λ first cells l. AddsUses c.args.equality c.args.on_left first cells l (length l) c.args.classes.now c.add_side.new.classes c.args.uses.now.items c.add_side.new.uses.items in
+    λ first cells l. AddsUses c.args.equality c.args.on_left first cells l (length l) c.args.known_values.now c.add_side.new.known_values c.args.uses.now.items c.add_side.new.uses.items in
     subst (λ first. Adds first (column_cells c.args.db.now (column_of c.args.column)) (list_at lists entry)) c.first_item-first.ensures.first
     (subst (λ cells. Adds c.first_item-first.result cells (list_at lists entry)) c.cells_of_column-cells.ensures.cells
     (subst (Adds c.first_item-first.result c.cells_of_column-cells.result.now) list c.in_ok-add_side.ensures))

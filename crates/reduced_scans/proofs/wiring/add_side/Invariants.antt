@@ -4,6 +4,6 @@ use Rattle.reduced_scans.proofs.wiring.add_side.Given as goal
 
 abbrev pub invariant-rows : goal.invariant-rows
 invariant-rows l = record {
-  adds : AddsUses l.equality l.on_left l.first l.cells l.list l.at l.initial.classes l.classes l.initial.uses.items l.uses.items;
+  adds : AddsUses l.equality l.on_left l.first l.cells l.list l.at l.initial.known_values l.known_values l.initial.uses.items l.uses.items;
   spare : length l.list ≤ l.uses.spare + l.at;
 }

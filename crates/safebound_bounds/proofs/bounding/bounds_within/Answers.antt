@@ -6,23 +6,23 @@ use Rattle.safebound_bounds.proofs.bounding.bounds_within.Goals as goal
 
 pub parts_of-requires : goal.parts_of-requires
 parts_of-requires c = λ i low. record {
-  left = omega (arith, (c.in_ok-may_write.ensures.right.equalities_right.each i low).left, c.in_ok-may_write.ensures.right.rows_right.few);
-  right = omega (arith, (c.in_ok-may_write.ensures.right.equalities_right.each i low).right, c.in_ok-may_write.ensures.right.rows_right.few);
-  two = (c.in_ok-may_write.ensures.right.equalities_right.each i low).two;
+  left = omega (arith, (c.in_ok-check_room.ensures.right.equalities_right.each i low).left, c.in_ok-check_room.ensures.right.rows_right.few);
+  right = omega (arith, (c.in_ok-check_room.ensures.right.equalities_right.each i low).right, c.in_ok-check_room.ensures.right.rows_right.few);
+  two = (c.in_ok-check_room.ensures.right.equalities_right.each i low).two;
 }
 
-pub returns-in_err-may_write-clause-refused : goal.returns-in_err-may_write-clause-refused
-returns-in_err-may_write-clause-refused c =
+pub returns-in_err-check_room-clause-refused : goal.returns-in_err-check_room-clause-refused
+returns-in_err-check_room-clause-refused c =
     let p = err_from_is_err_and c.from_residual.result c.from_residual.ensures.1 in
-    refused_within c.args.rows.now c.args.equalities.now c.args.lists.now c.args.runs.now c.args.limit (length c.args.into.now) c.from_residual.result (rw (p.1, p.2) c.in_err-may_write.ensures.refused)
+    refused_within c.args.rows.now c.args.equalities.now c.args.lists.now c.args.runs.now c.args.limit (length c.args.into.now) c.from_residual.result (rw (p.1, p.2) c.in_err-check_room.ensures.refused)
 
-pub returns-in_err-may_work-clause-refused : goal.returns-in_err-may_work-clause-refused
-returns-in_err-may_work-clause-refused c =
-    let p = err_from_is_err_and c.from_residual-in_err-may_work.result c.from_residual-in_err-may_work.ensures.1 in
-    rw (p.1, p.2) (c.in_err-may_work.ensures.refused (length c.args.into.now) c.in_ok-may_write.ensures.room)
+pub returns-in_err-check_work-clause-refused : goal.returns-in_err-check_work-clause-refused
+returns-in_err-check_work-clause-refused c =
+    let p = err_from_is_err_and c.from_residual-in_err-check_work.result c.from_residual-in_err-check_work.ensures.1 in
+    rw (p.1, p.2) (c.in_err-check_work.ensures.refused (length c.args.into.now) c.in_ok-check_room.ensures.room)
 
 pub returns-clause-within : goal.returns-clause-within
-returns-clause-within c = ok_always _ c.fill.result c.in_ok-may_work.ensures.within
+returns-clause-within c = ok_always _ c.fill.result c.in_ok-check_work.ensures.within
 
 pub returns-clause-done : goal.returns-clause-done
 returns-clause-done c = c.fill.ensures.done
@@ -31,7 +31,7 @@ pub returns-clause-refused : goal.returns-clause-refused
 returns-clause-refused c = wants_memory_within c.args.rows.now c.args.equalities.now c.args.lists.now c.args.runs.now c.args.limit (length c.args.into.now) c.fill.result c.fill.ensures.refused
 
 pub returns-clause-right : goal.returns-clause-right
-returns-clause-right c = ok_always _ c.fill.result c.in_ok-may_write.ensures.right
+returns-clause-right c = ok_always _ c.fill.result c.in_ok-check_room.ensures.right
 
 pub returns-clause-never_under : goal.returns-clause-never_under
-returns-clause-never_under c = room_told c.args.rows.now c.args.equalities.now c.args.lists.now c.args.runs.now c.in_ok-may_write.ensures.right c.args.into.now c.fill.new.into c.fill.result c.fill.ensures.done
+returns-clause-never_under c = room_told c.args.rows.now c.args.equalities.now c.args.lists.now c.args.runs.now c.in_ok-check_room.ensures.right c.args.into.now c.fill.new.into c.fill.result c.fill.ensures.done

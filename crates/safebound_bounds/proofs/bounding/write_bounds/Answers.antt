@@ -8,8 +8,8 @@ loop-set-init c = filled_none c.args.into.now
 
 pub loop-set-preserved : goal.loop-set-preserved
 loop-set-preserved c =
-    one_more_made in_64_bits c.args.bounds.now c.args.into.now c.loop-set.into c.loop-set.set c.narrowed.result 0 0 c.loop-set.invariant c.loop-set-test.true
-    (omega (arith, c.loop-set-test.true, c.requires)) c.narrowed.ensures
+    one_more_made in_64_bits c.args.bounds.now c.args.into.now c.loop-set.into c.loop-set.set c.in_64_bits.result 0 0 c.loop-set.invariant c.loop-set-test.true
+    (omega (arith, c.loop-set-test.true, c.requires)) c.in_64_bits.ensures
 
 pub returns : goal.returns
 returns c = all_made in_64_bits c.args.bounds.now c.args.into.now c.loop-set.into c.loop-set.set c.loop-set.invariant (omega arith)

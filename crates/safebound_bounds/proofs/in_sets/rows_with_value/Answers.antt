@@ -3,14 +3,14 @@ use Rattle.std.specs.Prelude.{unwrap_or}
 use Rattle.safebound_lists.specs.declared.runs.Run.{Run}
 use Rattle.safebound_lists.specs.Runs.{AreRight, list_of}
 use Rattle.safebound_bounds.specs.declared.arguments.ColumnList.{ColumnList}
-use Rattle.safebound_bounds.specs.Arguments.{AreRunsThere, runs_of}
+use Rattle.safebound_bounds.specs.Arguments.{RunsExist, runs_of}
 use Rattle.safebound_bounds.specs.Meaning.{list_if}
 use Rattle.safebound_bounds.proofs.Bounded.{found_at}
 use Rattle.safebound_bounds.proofs.in_sets.rows_with_value.Goals as goal
 
 pub own_runs-requires : goal.own_runs-requires
 own_runs-requires c =
-    (found_at c.args.place.entry c.args.place.column c.args.lists.now (AreRunsThere (length c.args.runs.now)) c.requires.there c.in-Some.list (sym c.in-Some.ensures)).0
+    (found_at c.args.place.entry c.args.place.column c.args.lists.now (RunsExist (length c.args.runs.now)) c.requires.there c.in-Some.list (sym c.in-Some.ensures)).0
 
 pub total-requires : goal.total-requires
 total-requires c =

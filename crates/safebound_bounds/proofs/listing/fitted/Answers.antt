@@ -1,7 +1,7 @@
 use Rattle.std.proofs.Common.{◌≡◌, ◌-◌, ◌≤◌, ◌++◌, length, replicate, sum, ap, sym, ◌∙◌, subst, arith}
 use Rattle.std.specs.List.{All}
 use Rattle.std.proofs.lemmas.List.Elements.{All-from_recursion}
-use Rattle.degree_sequences.specs.Falling.{IsFalling}
+use Rattle.degree_sequences.specs.Descending.{IsDescending}
 use Rattle.degree_sequences.specs.RunningSums.{cut_at}
 use Rattle.safebound_lists.specs.Runs.{list_of}
 use Rattle.piece_math.proofs.Cutting.{positive-cut_at}
@@ -15,13 +15,13 @@ overflow_cast-total c = omega (arith, c.total-total.ensures, ap sum c.in_ok-cut.
 
 pub push_run-requires-clause-falls : goal.push_run-requires-clause-falls
 push_run-requires-clause-falls c =
-    let falls : IsFalling c.in_ok-list.list = subst IsFalling (sym c.in_ok-list.ensures.pieces) (right_falls c.args.runs.now c.requires.right) in
+    let falls : IsDescending c.in_ok-list.list = subst IsDescending (sym c.in_ok-list.ensures.pieces) (right_falls c.args.runs.now c.requires.right) in
     subst (All (λ x. 1 ≤ x)) (sym c.in_ok-cut.ensures.value)
     (All-from_recursion (λ x. 1 ≤ x) (cut_at c.in_ok-list.list c.args.rows) (one_or_more (cut_at c.in_ok-list.list c.args.rows) (positive-cut_at c.in_ok-list.list c.args.rows falls)))
 
 pub push_run-requires-clause-room : goal.push_run-requires-clause-room
 push_run-requires-clause-room c =
-    let falls : IsFalling c.in_ok-list.list = subst IsFalling (sym c.in_ok-list.ensures.pieces) (right_falls c.args.runs.now c.requires.right) in
+    let falls : IsDescending c.in_ok-list.list = subst IsDescending (sym c.in_ok-list.ensures.pieces) (right_falls c.args.runs.now c.requires.right) in
     omega (
       arith,
       ap length c.in_ok-cut.ensures.value,

@@ -4,8 +4,8 @@ pub returns : goal.returns
 returns c = record {
   exact = record {
     answer = c.order.result;
-    told = c.told.ensures.status;
-    detail = c.told.ensures.detail;
+    told = c.answer_status.ensures.status;
+    detail = c.answer_status.ensures.detail;
     done = c.order.ensures.done;
     refused = c.order.ensures.refused;
     kept = c.order.ensures.kept;

@@ -4,8 +4,8 @@ pub returns : goal.returns
 returns c = record {
   exact = record {
     answer = c.tree.result;
-    told = c.told.ensures.status;
-    detail = c.told.ensures.detail;
+    told = c.answer_status.ensures.status;
+    detail = c.answer_status.ensures.detail;
     done = c.tree.ensures.done;
     refused = c.tree.ensures.refused;
     kept = c.tree.ensures.kept;

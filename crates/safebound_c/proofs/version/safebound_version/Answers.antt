@@ -4,8 +4,8 @@ pub returns : goal.returns
 returns c = record {
   exact = record {
     answer = c.version.result;
-    told = c.told.ensures.status;
-    detail = c.told.ensures.detail;
+    told = c.answer_status.ensures.status;
+    detail = c.answer_status.ensures.detail;
     done = c.version.ensures.done;
     refused = c.version.ensures.refused;
     kept = c.version.ensures.kept;

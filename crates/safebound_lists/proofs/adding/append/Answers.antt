@@ -5,7 +5,7 @@ use Rattle.degree_sequences.specs.Runs.{runs as runs_in}
 use Rattle.safebound_lists.specs.Causes.{IsAppendCause}
 use Rattle.safebound_lists.specs.Runs.{MayBeAdded, list_of}
 use Rattle.safebound_lists.specs.Written.{IsWritten}
-use Rattle.safebound_lists.proofs.Small.{sum_told, sum_fits}
+use Rattle.safebound_lists.proofs.Small.{sum_exact, sum_fits}
 use Rattle.safebound_lists.proofs.Writing.{as_cause, if_done}
 use Rattle.safebound_lists.proofs.adding.append.Goals as goal
 
@@ -30,7 +30,7 @@ returns-clause-done c =
     let small : sum c.in_ok-list.list + sum c.in_ok-other.other ≤ 2 ^ 48 =
     omega (arith, c.total.ensures, c.total-2.ensures, c.in_ok-list.ensures.small, c.in_ok-other.ensures.small, c.from.ensures) in
     let same : c.in_ok-both.both ≡ rank_sum (list_of c.args.runs.now) (list_of c.args.others.now) =
-    sum_told c.in_ok-list.list c.in_ok-other.other c.in_ok-both.both small c.in_ok-both.ensures.value
+    sum_exact c.in_ok-list.list c.in_ok-other.other c.in_ok-both.both small c.in_ok-both.ensures.value
     ∙ ap (λ (s : List ℕ). rank_sum s c.in_ok-other.other) c.in_ok-list.ensures.pieces
     ∙ ap (rank_sum (list_of c.args.runs.now)) c.in_ok-other.ensures.pieces in
     subst (λ (s : List ℕ). IfOk c.write_runs.result (IsWritten s c.args.into.now c.write_runs.new.into)) same c.write_runs.ensures.done
@@ -40,7 +40,7 @@ returns-clause-refused c =
     let small : sum c.in_ok-list.list + sum c.in_ok-other.other ≤ 2 ^ 48 =
     omega (arith, c.total.ensures, c.total-2.ensures, c.in_ok-list.ensures.small, c.in_ok-other.ensures.small, c.from.ensures) in
     let same : c.in_ok-both.both ≡ rank_sum (list_of c.args.runs.now) (list_of c.args.others.now) =
-    sum_told c.in_ok-list.list c.in_ok-other.other c.in_ok-both.both small c.in_ok-both.ensures.value
+    sum_exact c.in_ok-list.list c.in_ok-other.other c.in_ok-both.both small c.in_ok-both.ensures.value
     ∙ ap (λ (s : List ℕ). rank_sum s c.in_ok-other.other) c.in_ok-list.ensures.pieces
     ∙ ap (rank_sum (list_of c.args.runs.now)) c.in_ok-other.ensures.pieces in
     let may : MayBeAdded c.args.runs.now c.args.others.now = record {

@@ -3,9 +3,9 @@ use Rattle.std.specs.Prelude.{IfOk}
 use Rattle.degree_sequences.specs.ByRank.{rank_maximum}
 use Rattle.degree_sequences.specs.Runs.{runs as runs_in}
 use Rattle.safebound_lists.specs.Causes.{IsGreaterCause}
-use Rattle.safebound_lists.specs.Runs.{MayBeRaised, list_of}
+use Rattle.safebound_lists.specs.Runs.{MayTakeGreater, list_of}
 use Rattle.safebound_lists.specs.Written.{IsWritten}
-use Rattle.safebound_lists.proofs.Small.{AreSmallLists, fits_within, maximum_told, maximum_total}
+use Rattle.safebound_lists.proofs.Small.{AreSmallLists, fits_within, maximum_exact, maximum_total}
 use Rattle.safebound_lists.proofs.Writing.{as_cause, if_done}
 use Rattle.safebound_lists.proofs.comparing.greater_of.Goals as goal
 
@@ -16,7 +16,7 @@ overflow_cast-result c =
       second = c.in_ok-other.ensures.pieces;
       first_small = c.in_ok-list.ensures.small;
       second_small = c.in_ok-other.ensures.small;
-      told = c.in_ok-both.ensures.value;
+      is_saturated = c.in_ok-both.ensures.value;
     } in
     let total = maximum_total c.in_ok-list.list c.in_ok-other.other (list_of c.args.runs.now) (list_of c.args.others.now) c.in_ok-both.both c.total-sum.result are c.total-sum.ensures in
     omega (arith, total.1)
@@ -28,7 +28,7 @@ returns-then-sum-from-clause-refused c =
       second = c.in_ok-other.ensures.pieces;
       first_small = c.in_ok-list.ensures.small;
       second_small = c.in_ok-other.ensures.small;
-      told = c.in_ok-both.ensures.value;
+      is_saturated = c.in_ok-both.ensures.value;
     } in
     let total = maximum_total c.in_ok-list.list c.in_ok-other.other (list_of c.args.runs.now) (list_of c.args.others.now) c.in_ok-both.both c.total-sum.result are c.total-sum.ensures in
     (record { right = c.in_default.ensures; others_right = c.in_default-first_wrong_run.ensures }, total.0, omega (arith, c.from.ensures))
@@ -40,7 +40,7 @@ write_runs-requires c =
       second = c.in_ok-other.ensures.pieces;
       first_small = c.in_ok-list.ensures.small;
       second_small = c.in_ok-other.ensures.small;
-      told = c.in_ok-both.ensures.value;
+      is_saturated = c.in_ok-both.ensures.value;
     } in
     let total = maximum_total c.in_ok-list.list c.in_ok-other.other (list_of c.args.runs.now) (list_of c.args.others.now) c.in_ok-both.both c.total-sum.result are c.total-sum.ensures in
     fits_within c.in_ok-both.both (omega (arith, total.2, c.from.ensures))
@@ -52,9 +52,9 @@ returns-clause-done c =
       second = c.in_ok-other.ensures.pieces;
       first_small = c.in_ok-list.ensures.small;
       second_small = c.in_ok-other.ensures.small;
-      told = c.in_ok-both.ensures.value;
+      is_saturated = c.in_ok-both.ensures.value;
     } in
-    let same : c.in_ok-both.both ≡ rank_maximum (list_of c.args.runs.now) (list_of c.args.others.now) = maximum_told c.in_ok-list.list c.in_ok-other.other (list_of c.args.runs.now) (list_of c.args.others.now) c.in_ok-both.both are in
+    let same : c.in_ok-both.both ≡ rank_maximum (list_of c.args.runs.now) (list_of c.args.others.now) = maximum_exact c.in_ok-list.list c.in_ok-other.other (list_of c.args.runs.now) (list_of c.args.others.now) c.in_ok-both.both are in
     subst (λ (s : List ℕ). IfOk c.write_runs.result (IsWritten s c.args.into.now c.write_runs.new.into)) same c.write_runs.ensures.done
 
 pub returns-clause-right : goal.returns-clause-right
@@ -64,10 +64,10 @@ returns-clause-right c =
       second = c.in_ok-other.ensures.pieces;
       first_small = c.in_ok-list.ensures.small;
       second_small = c.in_ok-other.ensures.small;
-      told = c.in_ok-both.ensures.value;
+      is_saturated = c.in_ok-both.ensures.value;
     } in
     let total = maximum_total c.in_ok-list.list c.in_ok-other.other (list_of c.args.runs.now) (list_of c.args.others.now) c.in_ok-both.both c.total-sum.result are c.total-sum.ensures in
-    let may : MayBeRaised c.args.runs.now c.args.others.now = record {
+    let may : MayTakeGreater c.args.runs.now c.args.others.now = record {
       both = record { right = c.in_default.ensures; others_right = c.in_default-first_wrong_run.ensures };
       small = omega (arith, total.0, c.from.ensures);
     } in
@@ -80,11 +80,11 @@ returns-clause-refused c =
       second = c.in_ok-other.ensures.pieces;
       first_small = c.in_ok-list.ensures.small;
       second_small = c.in_ok-other.ensures.small;
-      told = c.in_ok-both.ensures.value;
+      is_saturated = c.in_ok-both.ensures.value;
     } in
     let total = maximum_total c.in_ok-list.list c.in_ok-other.other (list_of c.args.runs.now) (list_of c.args.others.now) c.in_ok-both.both c.total-sum.result are c.total-sum.ensures in
-    let same : c.in_ok-both.both ≡ rank_maximum (list_of c.args.runs.now) (list_of c.args.others.now) = maximum_told c.in_ok-list.list c.in_ok-other.other (list_of c.args.runs.now) (list_of c.args.others.now) c.in_ok-both.both are in
-    let may : MayBeRaised c.args.runs.now c.args.others.now = record {
+    let same : c.in_ok-both.both ≡ rank_maximum (list_of c.args.runs.now) (list_of c.args.others.now) = maximum_exact c.in_ok-list.list c.in_ok-other.other (list_of c.args.runs.now) (list_of c.args.others.now) c.in_ok-both.both are in
+    let may : MayTakeGreater c.args.runs.now c.args.others.now = record {
       both = record { right = c.in_default.ensures; others_right = c.in_default-first_wrong_run.ensures };
       small = omega (arith, total.0, c.from.ensures);
     } in

@@ -1,7 +1,7 @@
 use Rattle.std.proofs.Common.{◌≡◌, ◌-◌, ◌≤◌, ℕ, true, false, eqb, List, drop, get_or, length, take, subst, sym, rules}
 use Rattle.std.specs.List.Sorted.{IsPartitionPoint, IsPartitionedBy}
 use Rattle.std.proofs.lemmas.List.Sorted.{IsPartitionPoint-from_clause}
-use Rattle.safebound_lists.proofs.FallingRuns.{rest_is, equal_come_first, run_some, run_within, run_equal}
+use Rattle.safebound_lists.proofs.DescendingRuns.{rest_is, equal_come_first, run_some, run_within, run_equal}
 use Rattle.safebound_lists.proofs.counting.run_length.Goals as goal
 
 pub returns : goal.returns

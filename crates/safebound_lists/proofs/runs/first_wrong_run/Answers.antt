@@ -1,27 +1,27 @@
 use Rattle.std.proofs.Common.{length, arith}
 use Rattle.safebound_lists.specs.First.{IsFirstWrong}
 use Rattle.safebound_lists.specs.Runs.{IsRightAt}
-use Rattle.safebound_lists.proofs.Following.{none_tested, one_more_tested, passes, rises}
+use Rattle.safebound_lists.proofs.Following.{none_tested, one_more_tested, exceeds, rises}
 use Rattle.safebound_lists.proofs.runs.first_wrong_run.Goals as goal
-use Rattle.safebound_lists.proofs.runs.first_wrong_run.Goals.{then-run-eq0-via-then-run-eq0, then-run-eq0-via-else-run-eq0+then-run-eq0-2, then-run-eq0-via-else-run-eq0+else-run-eq0-2+then-run-least, then-run-eq0-via-else-run-eq0+else-run-eq0-2+else-run-least+then-run-left}
+use Rattle.safebound_lists.proofs.runs.first_wrong_run.Goals.{then-run-eq0-via-then-run-eq0, then-run-eq0-via-else-run-eq0+then-run-eq0-2, then-run-eq0-via-else-run-eq0+else-run-eq0-2+then-run-least, then-run-eq0-via-else-run-eq0+else-run-eq0-2+else-run-least+then-run-remaining}
 
 pub loop-place-init : goal.loop-place-init
 loop-place-init c = none_tested c.args.runs.now
 
 pub loop-place-preserved : goal.loop-place-preserved
 loop-place-preserved c =
-    one_more_tested c.args.runs.now c.loop-place.place c.loop-place.least c.loop-place.left c.loop-place.invariant c.loop-place-test.true
-    (omega (arith, c.if-run-eq0.false)) (omega (arith, c.if-run-eq0-2.false)) c.if-run-least.false c.if-run-left.false
+    one_more_tested c.args.runs.now c.loop-place.place c.loop-place.least c.loop-place.remaining c.loop-place.invariant c.loop-place-test.true
+    (omega (arith, c.if-run-eq0.false)) (omega (arith, c.if-run-eq0-2.false)) c.if-run-least.false c.if-run-remaining.false
 
 pub returns-then-run-eq0 : goal.returns-then-run-eq0
 returns-then-run-eq0 c = elim c.then-run-eq0.branch [
   | then-run-eq0-via-then-run-eq0 w ↦ wrong (λ may. absurd (omega (arith, may.degree, w.if-run-eq0.true)))
   | then-run-eq0-via-else-run-eq0+then-run-eq0-2 w ↦ wrong (λ may. absurd (omega (arith, may.keys, w.if-run-eq0-2.true)))
   | then-run-eq0-via-else-run-eq0+else-run-eq0-2+then-run-least w ↦ wrong
-      (rises c.args.runs.now c.loop-place.place c.loop-place.least c.loop-place.left c.loop-place.invariant c.loop-place-test.true (omega arith) w.if-run-least.true)
-  | then-run-eq0-via-else-run-eq0+else-run-eq0-2+else-run-least+then-run-left w ↦ wrong
-      (passes c.args.runs.now c.loop-place.place c.loop-place.least c.loop-place.left c.loop-place.invariant c.loop-place-test.true
-      (omega (arith, w.if-run-eq0.false)) w.if-run-left.true)
+      (rises c.args.runs.now c.loop-place.place c.loop-place.least c.loop-place.remaining c.loop-place.invariant c.loop-place-test.true (omega arith) w.if-run-least.true)
+  | then-run-eq0-via-else-run-eq0+else-run-eq0-2+else-run-least+then-run-remaining w ↦ wrong
+      (exceeds c.args.runs.now c.loop-place.place c.loop-place.least c.loop-place.remaining c.loop-place.invariant c.loop-place-test.true
+      (omega (arith, w.if-run-eq0.false)) w.if-run-remaining.true)
 ]
   where
     wrong : (IsRightAt c.args.runs.now c.loop-place.place → ⊥) → IsFirstWrong (IsRightAt c.args.runs.now) (length c.args.runs.now) c.loop-place.place

@@ -6,18 +6,18 @@ use Rattle.safebound_plans.specs.Trees.{node_of}
 use Rattle.safebound_plans.proofs.shaping.write_joins.Goals as goal
 
 -- a look-up past the end of a list gives this join, or this node
-abbrev no_join : Join
-no_join = record { left = 0; right = 0; bound = 0 }
+abbrev default_join : Join
+default_join = record { left = 0; right = 0; bound = 0 }
 
-abbrev no_node : JoinNode
-no_node = record { left = 0; right = 0; bound = 0 }
+abbrev default_node : JoinNode
+default_node = record { left = 0; right = 0; bound = 0 }
 
 pub loop-place-init : goal.loop-place-init
 loop-place-init c = filled_none c.args.into.now
 
 pub loop-place-preserved : goal.loop-place-preserved
 loop-place-preserved c =
-    one_more_made node_of c.args.joins.now c.args.into.now c.loop-place.into c.loop-place.place c.node_of.result no_join no_node c.loop-place.invariant c.loop-place-test.true
+    one_more_made node_of c.args.joins.now c.args.into.now c.loop-place.into c.loop-place.place c.node_of.result default_join default_node c.loop-place.invariant c.loop-place-test.true
     (omega (arith, c.loop-place-test.true, c.requires)) c.node_of.ensures
 
 pub returns : goal.returns

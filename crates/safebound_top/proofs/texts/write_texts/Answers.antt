@@ -2,7 +2,7 @@ use Rattle.std.proofs.Common.{◌≡◌, ℕ, List, ◌++◌, ap, ◌∙◌}
 use Rattle.printed_texts.specs.Memory.{memory_text}
 use Rattle.query_types.specs.declared.types.Source.{Source}
 use Rattle.sql_meaning.proofs.AnswerFacts.{own_entries}
-use Rattle.prepared_runs.specs.PreparedQuery.{accepted_of, plan_left}
+use Rattle.prepared_runs.specs.PreparedQuery.{accepted_of, pending_plan}
 use Rattle.prepared_runs.specs.Shapes.{shape_bytes, shape_lines}
 use Rattle.safebound_top.specs.Texts.{plan_text}
 use Rattle.prepared_runs.specs.declared.prepare.PreparedQuery.{PreparedQuery}
@@ -11,11 +11,11 @@ use Rattle.safebound_top.proofs.RestTexts.{rest_is}
 use Rattle.safebound_top.proofs.TextSteps.{both_wrote, notes_cut, out_cut}
 use Rattle.safebound_top.proofs.texts.write_texts.Goals as goal
 
-text_is : (p : PreparedQuery) {sources : List Source} → sources ≡ p.query.from → p.bytes ≡ shape_bytes (plan_left p.rest)
-    → shape_lines sources (plan_left p.rest) ++ memory_text p.memory p.bytes ≡ plan_text (accepted_of p)
+text_is : (p : PreparedQuery) {sources : List Source} → sources ≡ p.query.from → p.bytes ≡ shape_bytes (pending_plan p.rest)
+    → shape_lines sources (pending_plan p.rest) ++ memory_text p.memory p.bytes ≡ plan_text (accepted_of p)
 text_is p from bytes =
-    ap (λ (s : List Source). shape_lines s (plan_left p.rest) ++ memory_text p.memory p.bytes) from
-    ∙ ap (λ (b : ℕ). shape_lines p.query.from (plan_left p.rest) ++ memory_text p.memory b) bytes
+    ap (λ (s : List Source). shape_lines s (pending_plan p.rest) ++ memory_text p.memory p.bytes) from
+    ∙ ap (λ (b : ℕ). shape_lines p.query.from (pending_plan p.rest) ++ memory_text p.memory b) bytes
 
 pub write_plan_text-requires : goal.write_plan_text-requires
 write_plan_text-requires g c = rw c.as_slice.ensures c.requires.ready.plan
@@ -25,20 +25,20 @@ returns-in-Err-clause-texts g c =
     let p = c.args.prepared in
     notes_cut _ _ _ _ _ _ (accepted_of p) _ _ (text_is p c.as_slice.ensures c.requires.ready.bytes) c.in-Err.ensures
 
-pub returns-in-Ok-write_rest-clause-texts : goal.returns-in-Ok-write_rest-clause-texts
-returns-in-Ok-write_rest-clause-texts g c =
+pub returns-in-Ok-join_and_write-clause-texts : goal.returns-in-Ok-join_and_write-clause-texts
+returns-in-Ok-join_and_write-clause-texts g c =
     let p = c.args.prepared in
     both_wrote _ _ _ _ _ _ _ _ (accepted_of p) _ _ tt tt (text_is p c.as_slice.ensures c.requires.ready.bytes)
-    (rest_is p.query p.db p.source (accepted_of p).lists p.memory p.rest (own_entries p.query p.db c.requires.ready.database) c.requires.ready.plan c.requires.ready.tables c.requires.ready.room c.requires.ready.lists) c.in-Ok.ensures c.in-Ok-write_rest.ensures.text
+    (rest_is p.query p.db p.source (accepted_of p).lists p.memory p.rest (own_entries p.query p.db c.requires.ready.database) c.requires.ready.plan c.requires.ready.tables c.requires.ready.room c.requires.ready.lists) c.in-Ok.ensures c.in-Ok-join_and_write.ensures.text
 
 pub returns-clause-texts : goal.returns-clause-texts
 returns-clause-texts g c =
     let p = c.args.prepared in
     out_cut _ _ _ _ _ _ _ _ (accepted_of p) _ _ tt _ (text_is p c.as_slice.ensures c.requires.ready.bytes)
-    (rest_is p.query p.db p.source (accepted_of p).lists p.memory p.rest (own_entries p.query p.db c.requires.ready.database) c.requires.ready.plan c.requires.ready.tables c.requires.ready.room c.requires.ready.lists) c.in-Ok.ensures c.in-Err-write_rest.ensures.text
+    (rest_is p.query p.db p.source (accepted_of p).lists p.memory p.rest (own_entries p.query p.db c.requires.ready.database) c.requires.ready.plan c.requires.ready.tables c.requires.ready.room c.requires.ready.lists) c.in-Ok.ensures c.in-Err-join_and_write.ensures.text
 
-pub returns-in-Ok-write_rest-clause-kept : goal.returns-in-Ok-write_rest-clause-kept
-returns-in-Ok-write_rest-clause-kept g c =
+pub returns-in-Ok-join_and_write-clause-kept : goal.returns-in-Ok-join_and_write-clause-kept
+returns-in-Ok-join_and_write-clause-kept g c =
     let p = c.args.prepared in
     let ready = c.requires.ready in
-    kept_is p.query p.db p.source (accepted_of p).lists p.memory ready.tables p.bytes p.rest _ ready.lists ready.held ready.bytes c.in-Ok-write_rest.ensures.kept
+    kept_is p.query p.db p.source (accepted_of p).lists p.memory ready.tables p.bytes p.rest _ ready.lists ready.held ready.bytes c.in-Ok-join_and_write.ensures.kept

@@ -15,8 +15,8 @@ returns-in-Ok-clause-kept g c done =
 
 pub returns-in-Err-clause-course : goal.returns-in-Err-clause-course
 returns-in-Err-clause-course g c words command =
-    course_stopped c.args.command.now words command c.stopped.result _ _ _ c.in-Err.ending c.stopped.ensures.status c.in-Err.ensures.reads
-    (refl, refl) c.stopped.ensures.told
+    course_stopped c.args.command.now words command c.report_failure.result _ _ _ c.in-Err.failure c.report_failure.ensures.status c.in-Err.ensures.reads
+    (refl, refl) c.report_failure.ensures.told
 
 pub returns-in-Err-clause-kept : goal.returns-in-Err-clause-kept
-returns-in-Err-clause-kept g c done = absurd (ended_not_done c.in-Err.ending (sym c.stopped.ensures.status ∙ done))
+returns-in-Err-clause-kept g c done = absurd (ended_not_done c.in-Err.failure (sym c.report_failure.ensures.status ∙ done))

@@ -1,6 +1,6 @@
 use Rattle.std.proofs.Common.{inl, inr, refl, ap, sym, ◌∙◌, Some, arith}
 use Rattle.base_io.specs.Causes.{Rose}
-use Rattle.outcomes.specs.declared.ending.Ending.TheVariants as ending
+use Rattle.outcomes.specs.declared.failure.Failure.TheVariants as failure
 use Rattle.outcomes.proofs.StatusFacts.{ended_not_done}
 use Rattle.safebound_top.proofs.ShopCourses.{course_shop, course_unmade}
 use Rattle.safebound_top.proofs.top_call.run_shop.Goals as goal
@@ -15,11 +15,11 @@ returns-in-Ok-clause-course g c words command =
 
 pub returns-in-Err-clause-course : goal.returns-in-Err-clause-course
 returns-in-Err-clause-course g c words command =
-    course_unmade c.args.command.now words command c.args.number c.stopped.result _ _ c.stopped.ensures.status (refl, refl)
-    c.stopped.ensures.told
+    course_unmade c.args.command.now words command c.args.number c.report_failure.result _ _ c.report_failure.ensures.status (refl, refl)
+    c.report_failure.ensures.told
 
 pub returns-in-Ok-clause-kept : goal.returns-in-Ok-clause-kept
 returns-in-Ok-clause-kept g c done files told = c.run.ensures.kept done files (ap (λ files. Some files) c.in-Ok.ensures ∙ told)
 
 pub returns-in-Err-clause-kept : goal.returns-in-Err-clause-kept
-returns-in-Err-clause-kept g c done = absurd (ended_not_done ending.NoMemory (sym c.stopped.ensures.status ∙ done))
+returns-in-Err-clause-kept g c done = absurd (ended_not_done failure.NoMemory (sym c.report_failure.ensures.status ∙ done))

@@ -2,7 +2,7 @@ use Rattle.std.proofs.Common.{arith}
 use Rattle.std.proofs.lemmas.Grind.{common_steps}
 use Rattle.std.proofs.lemmas.Result.{err_from_is_err_and}
 use Rattle.schema_types.specs.Offences.{listed_offences, list_offences}
-use Rattle.schema_types.proofs.Told.{told_first, told_more}
+use Rattle.schema_types.proofs.EarlierChecks.{told_first, told_more}
 use Rattle.schema_types.proofs.lists.check_list.Goals as goal
 
 pub returns-in_err-check_listed : goal.returns-in_err-check_listed

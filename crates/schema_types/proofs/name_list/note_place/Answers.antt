@@ -3,7 +3,7 @@ use Rattle.std.proofs.lemmas.Grind.{common_steps}
 use Rattle.std.proofs.lemmas.Map.Text.{hash_map_updates_text}
 use Rattle.std.specs.HashMap.{get_by_text}
 use Rattle.std.specs.String.{string_bytes}
-use Rattle.schema_types.proofs.Places.{place_added}
+use Rattle.schema_types.proofs.NameIndexes.{place_added}
 use Rattle.schema_types.proofs.name_list.note_place.Goals as goal
 
 pub returns-in_ok-insert-clause-ok : goal.returns-in_ok-insert-clause-ok

@@ -1,7 +1,7 @@
 use Rattle.std.proofs.Common.{subst}
 use Rattle.std.specs.List.{AllByRecursion}
 use Rattle.set_bounds.specs.Alike.{AreInOneClass}
-use Rattle.set_bounds.proofs.Classed.{alike_by_classes}
+use Rattle.set_bounds.proofs.ColumnClasses.{alike_by_classes}
 use Rattle.set_bounds.proofs.alike.are_alike.Goals as goal
 
 pub returns-then-are_in_classes : goal.returns-then-are_in_classes

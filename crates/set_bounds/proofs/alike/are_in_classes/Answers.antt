@@ -2,7 +2,7 @@ use Rattle.std.proofs.Common.{add-one, sym, subst, take, ◌∙◌}
 use Rattle.std.specs.List.{AllByRecursion}
 use Rattle.berge_tree.proofs.NoCycle.{same_place-true}
 use Rattle.set_bounds.specs.Alike.{AreInOneClass}
-use Rattle.set_bounds.proofs.Classed.{all_more}
+use Rattle.set_bounds.proofs.ColumnClasses.{all_more}
 use Rattle.set_bounds.proofs.alike.are_in_classes.Goals as goal
 
 pub loop-edge-preserved : goal.loop-edge-preserved

@@ -1,10 +1,10 @@
 use Rattle.std.proofs.Common.{◌≡◌, ℕ, ◌-◌, ◌^◌, ap, subst, ◌∙◌, arith}
 use Rattle.berge_tree.specs.Equalities.{ClosesNoCycle}
 use Rattle.join_graph.specs.Kept.{equalities_within}
-use Rattle.set_bounds.specs.AllSets.{bound_told, bounds_below}
+use Rattle.set_bounds.specs.AllSets.{bound_in_128_bits, bounds_below}
 use Rattle.set_bounds.proofs.Forests.{forest_within}
 use Rattle.set_bounds.proofs.Listing.{first_within}
-use Rattle.set_bounds.proofs.Telling.{sets_fit, told_more}
+use Rattle.set_bounds.proofs.SetBySet.{sets_fit, told_more}
 use Rattle.set_bounds.proofs.every_set.bounds_in_sets.Goals as goal
 
 pub next_bound-requires-clause-listed : goal.next_bound-requires-clause-listed
@@ -24,7 +24,7 @@ pub loop-bits-preserved : goal.loop-bits-preserved
 loop-bits-preserved g c =
     let known = g.K.KnownInSets.known c.args.lists.now in
     told_more known c.args.parts.now.equalities c.loop-bits.bits c.in_ok-bound.bound c.loop-bits.bounds.items c.push.new.self.items c.loop-bits.invariant
-    (c.in_ok-bound.ensures ∙ ap (λ (set : ℕ). bound_told (known set) c.args.parts.now.equalities set) c.from_bits-subset.ensures) c.in_ok-push.ensures.items
+    (c.in_ok-bound.ensures ∙ ap (λ (set : ℕ). bound_in_128_bits (known set) c.args.parts.now.equalities set) c.from_bits-subset.ensures) c.in_ok-push.ensures.items
 
 pub returns : goal.returns
 returns g c =

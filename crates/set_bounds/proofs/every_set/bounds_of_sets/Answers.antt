@@ -3,7 +3,7 @@ use Rattle.std.proofs.lemmas.Result.{IfOk-weaker}
 use Rattle.bound_fold.specs.Lists.{bounds_of}
 use Rattle.set_bounds.specs.AllSets.{bounds_of_sets}
 use Rattle.set_bounds.proofs.Listing.{first_listed}
-use Rattle.set_bounds.proofs.Telling.{AreNeverUnder, never_under}
+use Rattle.set_bounds.proofs.SetBySet.{AreNeverUnder, never_under}
 use Rattle.set_bounds.proofs.every_set.bounds_of_sets.Goals as goal
 
 pub bounds_in_sets-requires-clause-listed : goal.bounds_in_sets-requires-clause-listed

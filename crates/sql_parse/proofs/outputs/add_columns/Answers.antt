@@ -6,9 +6,9 @@ use Rattle.sql_parse.proofs.outputs.add_columns.Goals as goal
 pub all-preserved : goal.all-preserved
 all-preserved c = record {
   here = omega arith;
-  left = column_added c.args.from c.args.columns.now _ c.all.outs c.all.invariant.here c.all-test.true c.all.invariant.left
+  rest = column_added c.args.from c.args.columns.now _ c.all.outs c.all.invariant.here c.all-test.true c.all.invariant.rest
       (c.in_ok-name.ensures ∙ c.as_str.ensures ∙ ap (λ (column : Column). column.name) c.column-item.is) c.in_ok-push.ensures.ok;
 }
 
 pub returns : goal.returns
-returns c = columns_added c.args.from c.args.columns.now c.all.number c.all-test.false c.all.invariant.left
+returns c = columns_added c.args.from c.args.columns.now c.all.number c.all-test.false c.all.invariant.rest

@@ -1,4 +1,4 @@
-use Rattle.stats_file_bounds.proofs.Under.{known_stands}
+use Rattle.stats_file_bounds.proofs.NeverUnder.{known_stands}
 use Rattle.stats_file_bounds.proofs.laws.files_are_never_under.Goals as goal
 
 pub returns : goal.returns

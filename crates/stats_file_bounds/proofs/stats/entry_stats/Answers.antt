@@ -6,7 +6,7 @@ use Rattle.gathered_stats.specs.Asked.{asked_columns, column_asked}
 use Rattle.predicate_bounds.specs.declared.steps.Step.{Step}
 use Rattle.stats_file.specs.declared.types.TableStats.{TableStats}
 use Rattle.stats_file_of_query.specs.Standing.{section_of}
-use Rattle.stats_file_bounds.specs.Entries.{IsFromStatsFile}
+use Rattle.stats_file_bounds.specs.Entries.{IsSectionOfSome}
 use Rattle.stats_file_bounds.proofs.EntryFacts.{asks_among, entry_told, its_needs, its_section}
 use Rattle.stats_file_bounds.proofs.Finding.{found_one}
 use Rattle.stats_file_bounds.proofs.Small.{section_filed}
@@ -14,8 +14,8 @@ use Rattle.stats_file_bounds.proofs.stats.entry_stats.Goals as goal
 
 pub list_columns-requires-clause-section : goal.list_columns-requires-clause-section
 list_columns-requires-clause-section c =
-    found_one IsFromStatsFile (λ (s : TableStats). s.table == c.table_of.result) c.args.file.now.tables c.in-Some.section.now
-    (recursion_from_All IsFromStatsFile c.args.file.now.tables (section_filed c.args.file.now c.requires.file)) (sym c.in-Some.ensures)
+    found_one IsSectionOfSome (λ (s : TableStats). s.table == c.table_of.result) c.args.file.now.tables c.in-Some.section.now
+    (recursion_from_All IsSectionOfSome c.args.file.now.tables (section_filed c.args.file.now c.requires.file)) (sym c.in-Some.ensures)
 
 pub list_columns-requires-clause-asks : goal.list_columns-requires-clause-asks
 list_columns-requires-clause-asks c =

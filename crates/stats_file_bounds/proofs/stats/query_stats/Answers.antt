@@ -2,7 +2,7 @@ use Rattle.std.proofs.Common.{length, arith}
 use Rattle.std.proofs.lemmas.Result.{err_from_is_err_and}
 use Rattle.predicate_bounds.specs.declared.columns.QueryStats.{QueryStats}
 use Rattle.stats_file_of_query.proofs.Finding.{none_found}
-use Rattle.stats_file_bounds.specs.Entries.{EntryIsTold}
+use Rattle.stats_file_bounds.specs.Entries.{HasStatsFromFile}
 use Rattle.stats_file_bounds.specs.Found.{is_missing}
 use Rattle.stats_file_bounds.proofs.EntryFacts.{need_cause}
 use Rattle.stats_file_bounds.proofs.Telling.{all_told, one_each}
@@ -18,7 +18,7 @@ returns-in_err-entry_stats-clause-missing c =
 
 pub loop-entry-preserved : goal.loop-entry-preserved
 loop-entry-preserved c = (
-  one_each (EntryIsTold c.args.query.now c.args.file.now) c.loop-entry.entry c.loop-entry.entries c.push.new.self c.in_ok-entry_stats.field-0 c.loop-entry.invariant.0 c.in_ok-entry_stats.ensures.told
+  one_each (HasStatsFromFile c.args.query.now c.args.file.now) c.loop-entry.entry c.loop-entry.entries c.push.new.self c.in_ok-entry_stats.field-0 c.loop-entry.invariant.0 c.in_ok-entry_stats.ensures.told
       c.in_ok-push.ensures.ok,
   below_more _ _ c.loop-entry.invariant.1 c.in_ok-entry_stats.ensures.there,
 )

@@ -3,7 +3,7 @@ use Rattle.stats_file_of_query.specs.Databases.{section_of_cells}
 use Rattle.stats_file_of_query.specs.Files.{first_entry}
 use Rattle.stats_file_of_query.proofs.Few.{few_columns}
 use Rattle.stats_file_of_query.proofs.SameSections.{first_is}
-use Rattle.stats_file_of_query.proofs.Walks.{none_made, one_made}
+use Rattle.stats_file_of_query.proofs.Walks.{same_if_none, append_if_some}
 use Rattle.stats_file_of_query.proofs.files.sections_of.Goals as goal
 use Rattle.stats_file_of_query.proofs.files.sections_of.Goals.{in-Some+in_ok-section+in_ok-push, in_default}
 
@@ -17,11 +17,11 @@ section_of-requires-clause-few c =
 
 pub loop-table-preserved : goal.loop-table-preserved
 loop-table-preserved c = elim c.match-first_entry.branch [
-  | in-Some+in_ok-section+in_ok-push w ↦ one_made (λ table. option_map (section_of_cells c.args.query.now c.args.db.now c.args.accuracy table) (first_entry c.args.query.now table))
+  | in-Some+in_ok-section+in_ok-push w ↦ append_if_some (λ table. option_map (section_of_cells c.args.query.now c.args.db.now c.args.accuracy table) (first_entry c.args.query.now table))
       c.loop-table.table c.loop-table.sections c.match-first_entry.sections w.in_ok-section.section c.loop-table.invariant
       (ap (option_map (section_of_cells c.args.query.now c.args.db.now c.args.accuracy c.loop-table.table)) (sym c.first_entry.ensures ∙ w.in-Some.is) ∙ ap Some (sym w.in_ok-section.ensures))
       (w.sections-is ∙ w.in_ok-push.ensures.ok)
-  | in_default w ↦ none_made (λ table. option_map (section_of_cells c.args.query.now c.args.db.now c.args.accuracy table) (first_entry c.args.query.now table))
+  | in_default w ↦ same_if_none (λ table. option_map (section_of_cells c.args.query.now c.args.db.now c.args.accuracy table) (first_entry c.args.query.now table))
       c.loop-table.table c.loop-table.sections c.match-first_entry.sections c.loop-table.invariant
       (ap (option_map (section_of_cells c.args.query.now c.args.db.now c.args.accuracy c.loop-table.table)) (sym c.first_entry.ensures ∙ w.in_default.is)) w.sections-is
 ]

@@ -1,9 +1,9 @@
 use Rattle.std.proofs.Common.{length}
-use Rattle.stats_words.proofs.ListFacts.{Listed}
+use Rattle.stats_words.proofs.ListFacts.{RunsReadSoFar}
 use Rattle.stats_words.proofs.lists.runs.Given as goal
 
 abbrev pub invariant-runs : goal.invariant-runs
-invariant-runs l = Listed l.rows l.word l.rest l.list l.below l.left
+invariant-runs l = RunsReadSoFar l.rows l.word l.rest l.list l.below l.left
 
 abbrev pub decreases-runs : goal.decreases-runs
 decreases-runs l = length l.rest

@@ -21,5 +21,5 @@ returns-in-Ok-clause-file g c = (c.as_slice.result.now, c.in-Ok.ensures.rows)
 
 pub returns-clause-reads : goal.returns-clause-reads
 returns-clause-reads g c =
-    rw c.table_ending.ensures (rows_refused c.args.number c.args.table.now c.args.name.now _ c.as_slice.result.now c.in-Err.error c.as_slice.ensures
+    rw c.table_failure.ensures (rows_refused c.args.number c.args.table.now c.args.name.now _ c.as_slice.result.now c.in-Err.error c.as_slice.ensures
     c.in-Err.ensures.refused c.in_ok-bytes.ensures.reads)

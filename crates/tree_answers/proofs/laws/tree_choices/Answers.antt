@@ -1,4 +1,4 @@
-use Rattle.tree_answers.proofs.OneChoice.{allowed, only, never_memory, chosen, refused}
+use Rattle.tree_answers.proofs.OneAnswer.{allowed, only, never_memory, chosen, refused}
 use Rattle.tree_answers.proofs.laws.tree_choices.Goals as goal
 
 pub returns : goal.returns

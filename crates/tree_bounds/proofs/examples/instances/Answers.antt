@@ -2,7 +2,7 @@ use Rattle.std.proofs.Common.{◌≢◌, ℕ, zero, suc, ◌<◌, get_or, map, a
 use Rattle.entry_sets.specs.Sets.{entries_of_set}
 use Rattle.tree_bounds.proofs.Premises.{left_list, right_list, left_dominates, right_dominates, left_near_list, right_near_list, left_near, right_near}
 use Rattle.berge_tree.specs.Trees.{entries}
-use Rattle.tree_bounds.specs.Examples.{two, two_choices}
+use Rattle.tree_bounds.specs.Examples.{r_and_s, two_choices}
 use Rattle.tree_bounds.proofs.examples.instances.Goals as goal
 
 pub returns-clause-lists : goal.returns-clause-lists
@@ -43,7 +43,7 @@ returns-clause-satisfy c =
 pub returns-clause-different : goal.returns-clause-different
 returns-clause-different c = pairs
   where
-    pairs : (i j : ℕ) (d : ℕ → ℕ) → i < j → j < 2 → map (get_or two_choices i d) (entries two) ≢ map (get_or two_choices j d) (entries two)
+    pairs : (i j : ℕ) (d : ℕ → ℕ) → i < j → j < 2 → map (get_or two_choices i d) (entries r_and_s) ≢ map (get_or two_choices j d) (entries r_and_s)
     pairs zero (suc zero) d h k = λ same. absurd (omega (arith, ap (λ l. get_or l 1 0) same))
     pairs zero (suc (suc j)) d h k = absurd (omega (arith, k))
     pairs i zero d h k = absurd (omega (arith, h))

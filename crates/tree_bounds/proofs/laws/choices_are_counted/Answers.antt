@@ -1,6 +1,6 @@
-use Rattle.tree_bounds.proofs.Counted.{number_within}
+use Rattle.tree_bounds.proofs.BoundsSuffice.{number_within}
 use Rattle.tree_bounds.proofs.Injected.{choice_listed}
-use Rattle.tree_bounds.proofs.Listed.{length-chosen_rows}
+use Rattle.tree_bounds.proofs.ChoiceLists.{length-chosen_rows}
 use Rattle.tree_bounds.proofs.laws.choices_are_counted.Goals as goal
 
 pub returns-clause-stand : goal.returns-clause-stand

@@ -1,5 +1,5 @@
-use Rattle.bound_fold.specs.Known.{same_pair}
-use Rattle.bound_fold.proofs.Held.{put, lists_after, others_stay}
+use Rattle.bound_fold.specs.BoundMaps.{same_pair}
+use Rattle.bound_fold.proofs.MapInsertions.{put, lists_after, others_stay}
 use Rattle.bound_fold.proofs.lists.EntryLists.add.Goals as goal
 
 pub invariant_of-self : goal.invariant_of-self

@@ -1,6 +1,6 @@
 use Rattle.std.proofs.Common.{arith}
 use Rattle.std.specs.Prelude.{nat_eq}
-use Rattle.bound_fold.proofs.Held.{put, bounds_after, rows_after}
+use Rattle.bound_fold.proofs.MapInsertions.{put, bounds_after, rows_after}
 use Rattle.bound_fold.proofs.lists.EntryLists.set_rows.Goals as goal
 
 pub invariant_of-self : goal.invariant_of-self

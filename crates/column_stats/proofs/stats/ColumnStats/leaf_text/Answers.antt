@@ -3,7 +3,7 @@ use Rattle.csv_tables.specs.Cells.{value_of_cell}
 use Rattle.csv_tables.specs.Values.{Text}
 use Rattle.cond_stats.specs.Columns.{value_le}
 use Rattle.cond_stats.specs.Leaves.{last_place}
-use Rattle.column_stats.proofs.Answers.{leaf_below}
+use Rattle.column_stats.proofs.GivenLists.{leaf_below}
 use Rattle.column_stats.proofs.stats.ColumnStats.leaf_text.Goals as goal
 
 pub returns-clause-leaf : goal.returns-clause-leaf

@@ -9,8 +9,8 @@ use Rattle.cond_stats.specs.Sorted.{keys_at}
 use Rattle.cond_stats.proofs.OnDemand.{places_fit, places_many, at_zero, node_within, starts_ascend, node_list}
 use Rattle.cond_stats.proofs.column.FilterColumn.list_of_node.Goals as goal
 
-pub stretch-places-requires-clause-order : goal.stretch-places-requires-clause-order
-stretch-places-requires-clause-order c =
+pub places_between-places-requires-clause-order : goal.places_between-places-requires-clause-order
+places_between-places-requires-clause-order c =
     let joined : List ℕ = c.args.joined.now in
     let starts : List ℕ = c.self.inside.starts.items in
     let same : length joined ≡ length c.self.inside.cells.now = c.requires.joined ∙ ap (λ (v : CellColumn). length v.cells) (sym c.self.view_is) in
@@ -21,8 +21,8 @@ stretch-places-requires-clause-order c =
     let to_is : c.index-to.result.now ≡ get_or starts (first + size) 0 = at_zero starts (first + size) c.index-to.result.now c.index-to.result.now (omega (arith, c.self.invariant.starts_are.length_is, node.1)) c.index-to.ensures in
     omega (arith, from_is, to_is, starts_ascend c.self.invariant joined same first (first + size) (omega arith) node.1)
 
-pub stretch-places-requires-clause-within : goal.stretch-places-requires-clause-within
-stretch-places-requires-clause-within c =
+pub places_between-places-requires-clause-within : goal.places_between-places-requires-clause-within
+places_between-places-requires-clause-within c =
     let joined : List ℕ = c.args.joined.now in
     let starts : List ℕ = c.self.inside.starts.items in
     let same : length joined ≡ length c.self.inside.cells.now = c.requires.joined ∙ ap (λ (v : CellColumn). length v.cells) (sym c.self.view_is) in
@@ -38,7 +38,7 @@ list_at-requires-clause-places c =
     let joined : List ℕ = c.args.joined.now in
     let same : length joined ≡ length c.self.inside.cells.now = c.requires.joined ∙ ap (λ (v : CellColumn). length v.cells) (sym c.self.view_is) in
     let all : All (λ place. place < length joined) c.as_slice.result.now = subst (λ (s : List ℕ). All (λ place. place < length joined) s) (sym c.as_slice.ensures.value) (places_fit c.self.invariant joined same) in
-    subst (λ (s : List ℕ). All (λ place. place < length joined) s) (sym c.stretch-places.ensures)
+    subst (λ (s : List ℕ). All (λ place. place < length joined) s) (sym c.places_between-places.ensures)
     (All-take (λ place. place < length joined) (c.index-to.result.now - c.index-from.result.now) (drop c.index-from.result.now c.as_slice.result.now) (All-drop (λ place. place < length joined) c.index-from.result.now c.as_slice.result.now all))
 
 pub list_at-requires-clause-rows : goal.list_at-requires-clause-rows
@@ -47,7 +47,7 @@ list_at-requires-clause-rows c =
     let same : length joined ≡ length c.self.inside.cells.now = c.requires.joined ∙ ap (λ (v : CellColumn). length v.cells) (sym c.self.view_is) in
     omega (
       arith,
-      ap length c.stretch-places.ensures,
+      ap length c.places_between-places.ensures,
       length-take (c.index-to.result.now - c.index-from.result.now) (drop c.index-from.result.now c.as_slice.result.now),
       length-drop c.index-from.result.now c.as_slice.result.now,
       ap length c.as_slice.ensures.value,
@@ -67,11 +67,11 @@ returns c =
     let to_is : c.index-to.result.now ≡ get_or starts (first + size) 0 = at_zero starts (first + size) c.index-to.result.now c.index-to.result.now (omega (arith, c.self.invariant.starts_are.length_is, node.1)) c.index-to.ensures in
     let places : List ℕ = c.self.inside.places.items in
     let k : ℕ = c.args.accuracy in
-    IfOk-weaker c.list_at.result (λ list. list ≡ compressed_degrees k (keys_at joined c.stretch-places.result.now))
+    IfOk-weaker c.list_at.result (λ list. list ≡ compressed_degrees k (keys_at joined c.places_between-places.result.now))
     (λ list. list ≡ list_of_node (cell_le c.args.self.now.texts c.args.self.now.kind) k (zip c.args.self.now.cells joined) size c.args.leaf)
     (λ list is. is
     ∙ ap (λ (s : List ℕ). compressed_degrees k (keys_at joined s))
-    (c.stretch-places.ensures ∙ ap (λ (s : List ℕ). slice_range s c.index-from.result.now c.index-to.result.now) c.as_slice.ensures.value
+    (c.places_between-places.ensures ∙ ap (λ (s : List ℕ). slice_range s c.index-from.result.now c.index-to.result.now) c.as_slice.ensures.value
     ∙ ap (λ m. slice_range places m c.index-to.result.now) from_is ∙ ap (slice_range places (get_or starts first 0)) to_is)
     ∙ node_list c.self.invariant joined same k size c.args.leaf node.0 node.1
     ∙ ap (λ (v : CellColumn). list_of_node (cell_le v.texts v.kind) k (zip v.cells joined) size c.args.leaf) c.self.view_is)

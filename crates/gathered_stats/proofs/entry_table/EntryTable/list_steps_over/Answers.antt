@@ -1,7 +1,7 @@
 use Rattle.std.proofs.Common.{List, map, ap, sym, ◌∙◌}
 use Rattle.std.proofs.lemmas.List.{take_all}
 use Rattle.std.proofs.lemmas.List.Folds.{list_any_at}
-use Rattle.predicate_bounds.specs.ListRuns.{listed}
+use Rattle.predicate_bounds.specs.ListRuns.{with_list}
 use Rattle.predicate_bounds.specs.declared.steps.Step.{Step}
 use Rattle.gathered_stats.specs.Asked.{is_whole}
 use Rattle.gathered_stats.proofs.Asking.{one_listed}
@@ -22,4 +22,4 @@ loop-step-preserved c = (
 
 pub returns-clause-steps : goal.returns-clause-steps
 returns-clause-steps c = λ lists have.
-    c.loop-step.invariant.1 lists have ∙ ap (λ (s : List Step). map (listed lists) s) (take_all c.loop-step.step-index c.args.steps.now c.loop-step-test.false)
+    c.loop-step.invariant.1 lists have ∙ ap (λ (s : List Step). map (with_list lists) s) (take_all c.loop-step.step-index c.args.steps.now c.loop-step-test.false)

@@ -9,7 +9,7 @@ loop-places-init c = rw c.empty-list.ensures (lesser_start c.pieces-a.result.now
 pub put-requires-clause-falls : goal.put-requires-clause-falls
 put-requires-clause-falls c pos some =
     run_falls c.loop-places.invariant.built
-    (before_run c.pieces-a.ensures.whole c.pieces-b.ensures.whole c.loop-places.invariant c.next_turn-turn.ensures c.lower_line-lower.ensures)
+    (before_run c.pieces-a.ensures.whole c.pieces-b.ensures.whole c.loop-places.invariant c.next_stretch-stretch.ensures c.lower_line-lower.ensures)
     (lesser_falls c.pieces-a.ensures.whole c.pieces-b.ensures.whole) some
 
 pub put-requires-clause-room : goal.put-requires-clause-room
@@ -18,13 +18,13 @@ put-requires-clause-room c pos some =
       arith,
       lesser_fits c.pieces-a.ensures.whole c.pieces-b.ensures.whole,
       run_fits c.loop-places.invariant.built
-          (before_run c.pieces-a.ensures.whole c.pieces-b.ensures.whole c.loop-places.invariant c.next_turn-turn.ensures c.lower_line-lower.ensures) pos,
+          (before_run c.pieces-a.ensures.whole c.pieces-b.ensures.whole c.loop-places.invariant c.next_stretch-stretch.ensures c.lower_line-lower.ensures) pos,
     )
 
 pub put-requires-in-loop-places-clause-falls : goal.put-requires-in-loop-places-clause-falls
 put-requires-in-loop-places-clause-falls c pos some =
-    run_falls (built_before c.pieces-a.ensures.whole c.pieces-b.ensures.whole c.loop-places.invariant c.next_turn-turn.ensures c.lower_line-lower.ensures c.in_ok-put.ensures)
-    (between_run c.pieces-a.ensures.whole c.pieces-b.ensures.whole c.loop-places.invariant c.next_turn-turn.ensures c.lower_line-lower.ensures)
+    run_falls (built_before c.pieces-a.ensures.whole c.pieces-b.ensures.whole c.loop-places.invariant c.next_stretch-stretch.ensures c.lower_line-lower.ensures c.in_ok-put.ensures)
+    (between_run c.pieces-a.ensures.whole c.pieces-b.ensures.whole c.loop-places.invariant c.next_stretch-stretch.ensures c.lower_line-lower.ensures)
     (lesser_falls c.pieces-a.ensures.whole c.pieces-b.ensures.whole) some
 
 pub put-requires-in-loop-places-clause-room : goal.put-requires-in-loop-places-clause-room
@@ -32,14 +32,14 @@ put-requires-in-loop-places-clause-room c pos some =
     omega (
       arith,
       lesser_fits c.pieces-a.ensures.whole c.pieces-b.ensures.whole,
-      run_fits (built_before c.pieces-a.ensures.whole c.pieces-b.ensures.whole c.loop-places.invariant c.next_turn-turn.ensures c.lower_line-lower.ensures c.in_ok-put.ensures)
-          (between_run c.pieces-a.ensures.whole c.pieces-b.ensures.whole c.loop-places.invariant c.next_turn-turn.ensures c.lower_line-lower.ensures) pos,
+      run_fits (built_before c.pieces-a.ensures.whole c.pieces-b.ensures.whole c.loop-places.invariant c.next_stretch-stretch.ensures c.lower_line-lower.ensures c.in_ok-put.ensures)
+          (between_run c.pieces-a.ensures.whole c.pieces-b.ensures.whole c.loop-places.invariant c.next_stretch-stretch.ensures c.lower_line-lower.ensures) pos,
     )
 
 pub put-requires-in-loop-places-2-clause-falls : goal.put-requires-in-loop-places-2-clause-falls
 put-requires-in-loop-places-2-clause-falls c pos some =
-    run_falls (built_between c.pieces-a.ensures.whole c.pieces-b.ensures.whole c.loop-places.invariant c.next_turn-turn.ensures c.lower_line-lower.ensures c.in_ok-put.ensures c.in_ok-put-2.ensures)
-    (after_run c.pieces-a.ensures.whole c.pieces-b.ensures.whole c.loop-places.invariant c.next_turn-turn.ensures c.lower_line-lower.ensures)
+    run_falls (built_between c.pieces-a.ensures.whole c.pieces-b.ensures.whole c.loop-places.invariant c.next_stretch-stretch.ensures c.lower_line-lower.ensures c.in_ok-put.ensures c.in_ok-put-2.ensures)
+    (after_run c.pieces-a.ensures.whole c.pieces-b.ensures.whole c.loop-places.invariant c.next_stretch-stretch.ensures c.lower_line-lower.ensures)
     (lesser_falls c.pieces-a.ensures.whole c.pieces-b.ensures.whole) some
 
 pub put-requires-in-loop-places-2-clause-room : goal.put-requires-in-loop-places-2-clause-room
@@ -47,30 +47,30 @@ put-requires-in-loop-places-2-clause-room c pos some =
     omega (
       arith,
       lesser_fits c.pieces-a.ensures.whole c.pieces-b.ensures.whole,
-      run_fits (built_between c.pieces-a.ensures.whole c.pieces-b.ensures.whole c.loop-places.invariant c.next_turn-turn.ensures c.lower_line-lower.ensures c.in_ok-put.ensures c.in_ok-put-2.ensures)
-          (after_run c.pieces-a.ensures.whole c.pieces-b.ensures.whole c.loop-places.invariant c.next_turn-turn.ensures c.lower_line-lower.ensures) pos,
+      run_fits (built_between c.pieces-a.ensures.whole c.pieces-b.ensures.whole c.loop-places.invariant c.next_stretch-stretch.ensures c.lower_line-lower.ensures c.in_ok-put.ensures c.in_ok-put-2.ensures)
+          (after_run c.pieces-a.ensures.whole c.pieces-b.ensures.whole c.loop-places.invariant c.next_stretch-stretch.ensures c.lower_line-lower.ensures) pos,
     )
 
 pub overflow_mul-left_sum : goal.overflow_mul-left_sum
 overflow_mul-left_sum c =
-    rw c.from.ensures (omega (arith, left_fits c.pieces-a.ensures.whole c.pieces-b.ensures.whole c.loop-places.invariant c.next_turn-turn.ensures, ap sum c.pieces-a.ensures.stands_for, c.requires.own_total))
+    rw c.from.ensures (omega (arith, left_fits c.pieces-a.ensures.whole c.pieces-b.ensures.whole c.loop-places.invariant c.next_stretch-stretch.ensures, ap sum c.pieces-a.ensures.stands_for, c.requires.own_total))
 
 pub overflow_add-left_sum : goal.overflow_add-left_sum
 overflow_add-left_sum c =
-    rw c.from.ensures (omega (arith, left_fits c.pieces-a.ensures.whole c.pieces-b.ensures.whole c.loop-places.invariant c.next_turn-turn.ensures, ap sum c.pieces-a.ensures.stands_for, c.requires.own_total))
+    rw c.from.ensures (omega (arith, left_fits c.pieces-a.ensures.whole c.pieces-b.ensures.whole c.loop-places.invariant c.next_stretch-stretch.ensures, ap sum c.pieces-a.ensures.stands_for, c.requires.own_total))
 
 pub overflow_mul-right_sum : goal.overflow_mul-right_sum
 overflow_mul-right_sum c =
-    rw c.from-in-loop-places.ensures (omega (arith, right_fits c.pieces-a.ensures.whole c.pieces-b.ensures.whole c.loop-places.invariant c.next_turn-turn.ensures, ap sum c.pieces-b.ensures.stands_for, c.requires.other_total))
+    rw c.from-in-loop-places.ensures (omega (arith, right_fits c.pieces-a.ensures.whole c.pieces-b.ensures.whole c.loop-places.invariant c.next_stretch-stretch.ensures, ap sum c.pieces-b.ensures.stands_for, c.requires.other_total))
 
 pub overflow_add-right_sum : goal.overflow_add-right_sum
 overflow_add-right_sum c =
-    rw c.from-in-loop-places.ensures (omega (arith, right_fits c.pieces-a.ensures.whole c.pieces-b.ensures.whole c.loop-places.invariant c.next_turn-turn.ensures, ap sum c.pieces-b.ensures.stands_for, c.requires.other_total))
+    rw c.from-in-loop-places.ensures (omega (arith, right_fits c.pieces-a.ensures.whole c.pieces-b.ensures.whole c.loop-places.invariant c.next_stretch-stretch.ensures, ap sum c.pieces-b.ensures.stands_for, c.requires.other_total))
 
 pub loop-places-preserved : goal.loop-places-preserved
 loop-places-preserved c =
     rw (c.from.ensures, c.from-in-loop-places.ensures)
-    (lesser_step c.pieces-a.ensures.whole c.pieces-b.ensures.whole c.loop-places.invariant c.next_turn-turn.ensures c.lower_line-lower.ensures c.in_ok-put.ensures c.in_ok-put-2.ensures c.in_ok-put-3.ensures)
+    (lesser_step c.pieces-a.ensures.whole c.pieces-b.ensures.whole c.loop-places.invariant c.next_stretch-stretch.ensures c.lower_line-lower.ensures c.in_ok-put.ensures c.in_ok-put-2.ensures c.in_ok-put-3.ensures)
 
 pub returns-clause-value : goal.returns-clause-value
 returns-clause-value c =

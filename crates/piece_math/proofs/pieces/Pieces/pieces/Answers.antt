@@ -1,16 +1,16 @@
 use Rattle.std.proofs.Common.{◌<◌, subst}
 use Rattle.std.specs.List.{All}
 use Rattle.std.proofs.lemmas.List.Elements.{All-from_recursion}
-use Rattle.degree_sequences.specs.Falling.{IsFalling}
+use Rattle.degree_sequences.specs.Descending.{IsDescending}
 use Rattle.piece_math.specs.Expanded.{expanded}
-use Rattle.piece_math.proofs.Expansion.{runs-expanded, IsFalling-expanded, positive-expanded}
+use Rattle.piece_math.proofs.Expansion.{runs-expanded, IsDescending-expanded, positive-expanded}
 use Rattle.piece_math.proofs.pieces.Pieces.pieces.Goals as goal
 
 pub returns-clause-one_per_run : goal.returns-clause-one_per_run
 returns-clause-one_per_run c = rw (c.as_slice.ensures, ← c.self.view_is) (runs-expanded c.self.inside.parts.items c.self.invariant.falls)
 
 pub returns-clause-list_falls : goal.returns-clause-list_falls
-returns-clause-list_falls c = subst IsFalling c.self.view_is (IsFalling-expanded c.self.inside.parts.items c.self.invariant.falls)
+returns-clause-list_falls c = subst IsDescending c.self.view_is (IsDescending-expanded c.self.inside.parts.items c.self.invariant.falls)
 
 pub returns-clause-positive : goal.returns-clause-positive
 returns-clause-positive c =

@@ -1,6 +1,6 @@
 use Rattle.std.proofs.Common.{◌≡◌, Some, ap, sym, ◌∙◌}
-use Rattle.predicate_bounds.specs.Told.{column_steps}
-use Rattle.predicate_bounds.proofs.Telling.{found_here, list_answer, list_here, told_dominates}
+use Rattle.predicate_bounds.specs.StatsLists.{column_steps}
+use Rattle.predicate_bounds.proofs.StatsListFacts.{found_here, list_answer, list_here, list_from_steps_dominates}
 use Rattle.predicate_bounds.proofs.columns.QueryStats.bound_list.Goals as goal
 
 pub returns-then-joined-column-clause-exact : goal.returns-then-joined-column-clause-exact
@@ -22,5 +22,5 @@ returns-then-joined-column-clause-never_under c = λ query lists tables key tell
     let here : column_steps c.args.self.now c.args.from c.args.column ≡ Some c.as_slice.result.now =
     c.loop-joined.invariant ∙ found_here c.columns-joined-items.result.now c.loop-joined.joined-index c.args.column c.joined-item.result c.loop-joined-test.true c.joined-item.is c.if-joined-column.true
     ∙ ap Some (sym c.as_slice.ensures) in
-    told_dominates query c.args.from lists tables key c.run.result stands
+    list_from_steps_dominates query c.args.from lists tables key c.run.result stands
     (list_answer query c.args.self.now c.args.from c.args.column lists c.as_slice.result.now c.run.result here tells c.run.ensures)

@@ -1,6 +1,6 @@
 use Rattle.std.proofs.Common.{◌≡◌, drop}
-use Rattle.predicate_bounds.specs.Told.{column_steps}
-use Rattle.predicate_bounds.proofs.Telling.{found}
+use Rattle.predicate_bounds.specs.StatsLists.{column_steps}
+use Rattle.predicate_bounds.proofs.StatsListFacts.{found}
 use Rattle.predicate_bounds.proofs.columns.QueryStats.bound_list.Given as goal
 
 abbrev pub invariant-loop-joined : goal.invariant-loop-joined

@@ -7,20 +7,20 @@ use Rattle.query_grammar.specs.declared.tree.CondNode.TheViews.{the_lemmas}
 use Rattle.query_names.specs.Scopes.{tests}
 use Rattle.query_names.specs.Answers.{IsNameError}
 use Rattle.query_names.specs.Binding.{test_offences_of, members_by}
-use Rattle.query_names.proofs.Meanings.{told_and, told_test, members_and, members_test, if_ok_map}
-use Rattle.query_names.proofs.LookSteps.{looked_of_equal, looked_all, wrong_in}
+use Rattle.query_names.proofs.Meanings.{tokens_of_and, tokens_of_test, members_and, members_test, if_ok_map}
+use Rattle.query_names.proofs.CheckSteps.{looked_of_equal, looked_all, wrong_in}
 use Rattle.query_names.proofs.CondFacts.{of_and, looked_at, wrong_at, one_test, one_member}
 use Rattle.query_names.proofs.binder.Binder.+add_members.Goals as goal
 
 pub add_members-requires : goal.add_members-requires
 add_members-requires t c =
     let told : All (IsCondOf (IsLexemeOf c.args.self.now.text.now)) c.as_slice-member-items.result.now =
-    told_and (IsLexemeOf c.args.self.now.text.now) c.args.condition.now c.in-And.members c.as_slice-member-items.result.now c.in-And.is c.as_slice-member-items.ensures c.requires.tokens in
+    tokens_of_and (IsLexemeOf c.args.self.now.text.now) c.args.condition.now c.in-And.members c.as_slice-member-items.result.now c.in-And.is c.as_slice-member-items.ensures c.requires.tokens in
     search (rules, the_lemmas, told)
 
 pub add_test_members-requires-clause-tokens : goal.add_test_members-requires-clause-tokens
 add_test_members-requires-clause-tokens t c =
-    told_test (IsLexemeOf c.args.self.now.text.now) c.args.condition.now c.in-Test.test c.in-Test.is c.requires.tokens
+    tokens_of_test (IsLexemeOf c.args.self.now.text.now) c.args.condition.now c.in-Test.test c.in-Test.is c.requires.tokens
 
 pub returns-in_err-add_members-in-And-clause-err : goal.returns-in_err-add_members-in-And-clause-err
 returns-in_err-add_members-in-And-clause-err t c =

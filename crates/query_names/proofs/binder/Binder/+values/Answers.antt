@@ -9,8 +9,8 @@ use Rattle.query_names.specs.Answers.{IsNameError}
 use Rattle.query_names.specs.Binding.{test_offences_of, value_by}
 use Rattle.query_grammar.specs.Lexemes.{IsCondOf}
 use Rattle.query_grammar.specs.declared.tree.CondNode.TheViews.{the_lemmas}
-use Rattle.query_names.proofs.Meanings.{told_and, told_or, told_not, told_test, one_of, if_ok_map, value_test}
-use Rattle.query_names.proofs.LookSteps.{wrong_in}
+use Rattle.query_names.proofs.Meanings.{tokens_of_and, tokens_of_or, tokens_of_not, tokens_of_test, one_of, if_ok_map, value_test}
+use Rattle.query_names.proofs.CheckSteps.{wrong_in}
 use Rattle.query_names.proofs.CondFacts.{of_and, of_or, wrong_at, one_test, and_looked, or_looked, not_looked, not_empty}
 use Rattle.query_names.proofs.binder.Binder.+values.Goals as goal
 use Rattle.query_names.proofs.binder.Binder.+values.Goals.{add_value-in-Some+in_ok-new-in-Not+in_ok-push-in-Not, add_value-in_default}
@@ -18,24 +18,24 @@ use Rattle.query_names.proofs.binder.Binder.+values.Goals.{add_value-in-Some+in_
 pub add_value-values-requires : goal.add_value-values-requires
 add_value-values-requires t c =
     let told : All (IsCondOf (IsLexemeOf c.args.self.now.text.now)) c.as_slice.result.now =
-    told_and (IsLexemeOf c.args.self.now.text.now) c.args.condition.now c.in-And.members c.as_slice.result.now c.in-And.is c.as_slice.ensures c.requires.tokens in
+    tokens_of_and (IsLexemeOf c.args.self.now.text.now) c.args.condition.now c.in-And.members c.as_slice.result.now c.in-And.is c.as_slice.ensures c.requires.tokens in
     search (rules, the_lemmas, told)
 
 pub add_value-values-requires-in-Or : goal.add_value-values-requires-in-Or
 add_value-values-requires-in-Or t c =
     let told : All (IsCondOf (IsLexemeOf c.args.self.now.text.now)) c.as_slice-in-Or.result.now =
-    told_or (IsLexemeOf c.args.self.now.text.now) c.args.condition.now c.in-Or.members c.as_slice-in-Or.result.now c.in-Or.is c.as_slice-in-Or.ensures c.requires.tokens in
+    tokens_of_or (IsLexemeOf c.args.self.now.text.now) c.args.condition.now c.in-Or.members c.as_slice-in-Or.result.now c.in-Or.is c.as_slice-in-Or.ensures c.requires.tokens in
     search (rules, the_lemmas, told)
 
 pub add_value-add_value-requires : goal.add_value-add_value-requires
 add_value-add_value-requires t c =
     let told : IsCondOf (IsLexemeOf c.args.self.now.text.now) c.get.result.now =
-    told_not (IsLexemeOf c.args.self.now.text.now) c.args.condition.now c.in-Not.member c.get.result.now c.in-Not.is c.get.ensures c.requires.tokens in
+    tokens_of_not (IsLexemeOf c.args.self.now.text.now) c.args.condition.now c.in-Not.member c.get.result.now c.in-Not.is c.get.ensures c.requires.tokens in
     search (rules, the_lemmas, told)
 
 pub add_value-add_test-requires-clause-tokens : goal.add_value-add_test-requires-clause-tokens
 add_value-add_test-requires-clause-tokens t c =
-    told_test (IsLexemeOf c.args.self.now.text.now) c.args.condition.now c.in-Test.test c.in-Test.is c.requires.tokens
+    tokens_of_test (IsLexemeOf c.args.self.now.text.now) c.args.condition.now c.in-Test.test c.in-Test.is c.requires.tokens
 
 pub values-returns-in_err-add_value-clause-err : goal.values-returns-in_err-add_value-clause-err
 values-returns-in_err-add_value-clause-err t c =

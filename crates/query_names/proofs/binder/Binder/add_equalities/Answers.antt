@@ -1,5 +1,5 @@
 use Rattle.query_names.proofs.BoundFacts.{equality_more}
-use Rattle.query_names.proofs.LookSteps.{nothing_looked}
+use Rattle.query_names.proofs.CheckSteps.{nothing_looked}
 use Rattle.query_names.proofs.binder.Binder.add_equalities.Goals as goal
 
 pub all-init : goal.all-init

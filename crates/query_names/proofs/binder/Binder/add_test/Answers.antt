@@ -1,7 +1,7 @@
 use Rattle.std.proofs.Common.{ap, ◌∙◌, [], ◌∷◌, ◌++◌}
-use Rattle.query_names.specs.Looking.{test_condition}
+use Rattle.query_names.specs.Checking.{test_condition}
 use Rattle.query_names.proofs.Meanings.{whole_is}
-use Rattle.query_names.proofs.LookSteps.{looked_wrapped}
+use Rattle.query_names.proofs.CheckSteps.{looked_wrapped}
 use Rattle.query_names.proofs.binder.Binder.add_test.Goals as goal
 
 pub returns-in_ok-push-clause-ok : goal.returns-in_ok-push-clause-ok

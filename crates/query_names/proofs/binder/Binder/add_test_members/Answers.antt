@@ -1,6 +1,6 @@
 use Rattle.std.proofs.Common.{refl, sym, ◌∙◌}
 use Rattle.query_names.proofs.Meanings.{range_members, whole_member, if_ok_map}
-use Rattle.query_names.proofs.LookSteps.{looked_of_equal}
+use Rattle.query_names.proofs.CheckSteps.{looked_of_equal}
 use Rattle.query_names.proofs.binder.Binder.add_test_members.Goals as goal
 
 pub returns-then-is_range-clause-ok : goal.returns-then-is_range-clause-ok

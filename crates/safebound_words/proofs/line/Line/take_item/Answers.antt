@@ -4,21 +4,21 @@ use Rattle.safebound_words.proofs.line.Line.take_item.Goals as goal
 pub returns-in-End-clause-ok : goal.returns-in-End-clause-ok
 returns-in-End-clause-ok c = end_step c.args.name c.args.self.now c.args.word.now c.in-End.ensures
 
-pub returns-in_ok-add_place-in-Place-clause-ok : goal.returns-in_ok-add_place-in-Place-clause-ok
-returns-in_ok-add_place-in-Place-clause-ok c =
-    place_step c.args.name c.add_place.new.self c.args.self.now c.args.word.now c.in-Place.ensures
-    c.in_ok-add_place-in-Place.ensures.ok
-    (record { values = c.in_ok-add_place-in-Place.ensures.given; times = c.in_ok-add_place-in-Place.ensures.times })
+pub returns-in_ok-add_place-in-Positional-clause-ok : goal.returns-in_ok-add_place-in-Positional-clause-ok
+returns-in_ok-add_place-in-Positional-clause-ok c =
+    place_step c.args.name c.add_place.new.self c.args.self.now c.args.word.now c.in-Positional.ensures
+    c.in_ok-add_place-in-Positional.ensures.ok
+    (record { values = c.in_ok-add_place-in-Positional.ensures.given; times = c.in_ok-add_place-in-Positional.ensures.times })
 
-pub returns-in_err-add_place-in-Place-clause-err : goal.returns-in_err-add_place-in-Place-clause-err
-returns-in_err-add_place-in-Place-clause-err c =
+pub returns-in_err-add_place-in-Positional-clause-err : goal.returns-in_err-add_place-in-Positional-clause-err
+returns-in_err-add_place-in-Positional-clause-err c =
     anyway c.from_residual.result
-    (place_refused c.args.name c.args.self.now c.args.word.now c.in-Place.ensures c.in_err-add_place-in-Place.ensures.full)
+    (place_refused c.args.name c.args.self.now c.args.word.now c.in-Positional.ensures c.in_err-add_place-in-Positional.ensures.full)
 
 pub returns-in_ok-add_flag-in-Flag-clause-ok : goal.returns-in_ok-add_flag-in-Flag-clause-ok
 returns-in_ok-add_flag-in-Flag-clause-ok c =
     flag_step c.args.name c.add_flag.new.self c.args.self.now c.args.word.now c.in-Flag.flag c.in-Flag.ensures
-    c.in_ok-add_flag-in-Flag.ensures.places c.in_ok-add_flag-in-Flag.ensures.given c.in_ok-add_flag-in-Flag.ensures.ok
+    c.in_ok-add_flag-in-Flag.ensures.positionals c.in_ok-add_flag-in-Flag.ensures.given c.in_ok-add_flag-in-Flag.ensures.ok
 
 pub returns-in_err-add_flag-in-Flag-clause-err : goal.returns-in_err-add_flag-in-Flag-clause-err
 returns-in_err-add_flag-in-Flag-clause-err c =
@@ -34,7 +34,7 @@ returns-in-Option-clause-fits c = wanted c.args.name c.args.word.now c.in-Option
 pub returns-in_ok-add_value-in-Value-clause-ok : goal.returns-in_ok-add_value-in-Value-clause-ok
 returns-in_ok-add_value-in-Value-clause-ok c =
     joined_step c.args.name c.add_value.new.self c.args.self.now c.args.word.now c.in-Value.option c.in-Value.value.now c.in-Value.ensures
-    c.in_ok-add_value-in-Value.ensures.places c.in_ok-add_value-in-Value.ensures.times c.in_ok-add_value-in-Value.ensures.ok
+    c.in_ok-add_value-in-Value.ensures.positionals c.in_ok-add_value-in-Value.ensures.times c.in_ok-add_value-in-Value.ensures.ok
 
 pub returns-in_err-add_value-in-Value-clause-err : goal.returns-in_err-add_value-in-Value-clause-err
 returns-in_err-add_value-in-Value-clause-err c =

@@ -1,7 +1,7 @@
 use Rattle.std.proofs.Common.{map, arith}
 use Rattle.std.proofs.lemmas.Grind.{common_steps}
 use Rattle.std.specs.String.{string_bytes}
-use Rattle.schema_types.proofs.Places.{place_pushed}
+use Rattle.schema_types.proofs.NameIndexes.{place_pushed}
 use Rattle.schema_types.proofs.name_list.NameList.push.Goals as goal
 
 pub invariant_of-self-2 : goal.invariant_of-self-2

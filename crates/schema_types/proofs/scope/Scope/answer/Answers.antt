@@ -1,7 +1,7 @@
 use Rattle.std.proofs.lemmas.Result.{err_from_is_err_and}
 use Rattle.schema_types.specs.Meaning.{schema_or_refusal}
 use Rattle.schema_types.specs.Offences.{offences}
-use Rattle.schema_types.specs.Refusals.{nullable_places}
+use Rattle.schema_types.specs.Refusals.{nullable_offsets}
 use Rattle.schema_types.proofs.Stages.{stage_name, stage_nullable}
 use Rattle.schema_types.proofs.scope.Scope.answer.Goals as goal
 
@@ -15,4 +15,4 @@ pub returns-in_err-check_nullability : goal.returns-in_err-check_nullability
 unfolding schema_or_refusal
 returns-in_err-check_nullability c =
     let p = err_from_is_err_and c.from_residual-in_err-check_nullability.result c.from_residual-in_err-check_nullability.ensures.1 in
-    rw (p.1, p.2, c.in_ok-check_names.ensures) (stage_nullable (nullable_places c.args.self.now.text.now c.args.self.now.tables.now) _ c.in_err-check_nullability.field-0.0 c.in_err-check_nullability.ensures)
+    rw (p.1, p.2, c.in_ok-check_names.ensures) (stage_nullable (nullable_offsets c.args.self.now.text.now c.args.self.now.tables.now) _ c.in_err-check_nullability.field-0.0 c.in_err-check_nullability.ensures)

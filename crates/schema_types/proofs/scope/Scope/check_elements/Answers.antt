@@ -4,7 +4,7 @@ use Rattle.std.proofs.lemmas.Result.{err_from_is_err_and}
 use Rattle.std.proofs.lemmas.List.Folds.{list_any_more}
 use Rattle.schema_types.specs.Offences.{element_offences}
 use Rattle.schema_types.proofs.Columns.{taken_more}
-use Rattle.schema_types.proofs.Told.{told_first, told_more}
+use Rattle.schema_types.proofs.EarlierChecks.{told_first, told_more}
 use Rattle.schema_types.proofs.scope.Scope.check_elements.Goals as goal
 
 pub returns-in_err-check_element : goal.returns-in_err-check_element

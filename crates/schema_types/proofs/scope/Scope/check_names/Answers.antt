@@ -2,7 +2,7 @@ use Rattle.std.proofs.Common.{arith}
 use Rattle.std.proofs.lemmas.Grind.{common_steps}
 use Rattle.std.proofs.lemmas.Result.{err_from_is_err_and}
 use Rattle.schema_types.specs.Offences.{table_offences, offences}
-use Rattle.schema_types.proofs.Told.{told_first, told_more}
+use Rattle.schema_types.proofs.EarlierChecks.{told_first, told_more}
 use Rattle.schema_types.proofs.scope.Scope.check_names.Goals as goal
 
 pub returns-in_err-check_table : goal.returns-in_err-check_table

@@ -3,7 +3,7 @@ use Rattle.std.proofs.lemmas.Grind.{common_steps}
 use Rattle.std.proofs.lemmas.Result.{err_from_is_err_and}
 use Rattle.std.proofs.lemmas.List.Folds.{list_any_more}
 use Rattle.schema_types.specs.Offences.{rule_offences}
-use Rattle.schema_types.proofs.Told.{told_first, told_more}
+use Rattle.schema_types.proofs.EarlierChecks.{told_first, told_more}
 use Rattle.schema_types.proofs.scope.Scope.check_rules.Goals as goal
 
 pub returns-in_err-check_rule : goal.returns-in_err-check_rule

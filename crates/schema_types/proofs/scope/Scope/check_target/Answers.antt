@@ -21,4 +21,4 @@ returns-in-Some c =
     let table = target_table c.args.self.now.text.now c.args.self.now.tables.now c.args.target.now in
     let e : option_map index table ≡ Some c.in-Some.table.now = sym c.in_ok-target.ensures ∙ ap option_copied c.in-Some.is in
     let found = some_map index table c.in-Some.table.now e in
-    rw found.1 (c.check_led.ensures found.0 found.2)
+    rw found.1 (c.check_target_columns.ensures found.0 found.2)

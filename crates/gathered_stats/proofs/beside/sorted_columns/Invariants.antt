@@ -1,8 +1,0 @@
-use Rattle.std.proofs.Common.{◌≡◌, map, take}
-use Rattle.std.specs.List.{All}
-use Rattle.gathered_stats.specs.Filters.{IsFilterOf}
-use Rattle.gathered_stats.specs.Seen.{cells_at}
-use Rattle.gathered_stats.proofs.beside.sorted_columns.Given as goal
-
-abbrev pub invariant-loop-one : goal.invariant-loop-one
-invariant-loop-one l = All (IsFilterOf l.pool (cells_at l.rows l.cells)) l.filters × (map (λ f. f.column) l.filters ≡ map (λ one. one.column) (take l.one-index l.columns))

@@ -1,0 +1,9 @@
+use Rattle.std.proofs.Common.{◌≡◌, map, take}
+use Rattle.std.specs.List.{All}
+use Rattle.gathered_stats.specs.PairedRows.{AreStepsOfPaired}
+use Rattle.gathered_stats.specs.ShownCells.{shown_cells}
+use Rattle.gathered_stats.proofs.paired_rows.gather_for_other_entry.Given as goal
+
+abbrev pub invariant-loop-column : goal.invariant-loop-column
+invariant-loop-column l = (map (λ g. g.column) l.gathered ≡ take l.column-index l.columns)
+    × All (AreStepsOfPaired l.table.pool.now (shown_cells l.table) l.table.accuracy l.cells l.rows l.steps) l.gathered

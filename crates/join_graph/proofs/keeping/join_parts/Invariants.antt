@@ -1,5 +1,0 @@
-use Rattle.join_graph.proofs.Parting.{Joining}
-use Rattle.join_graph.proofs.keeping.join_parts.Given as goal
-
-abbrev pub invariant-loop-name : goal.invariant-loop-name
-invariant-loop-name l = Joining l.initial.names l.names l.name-index l.old l.new

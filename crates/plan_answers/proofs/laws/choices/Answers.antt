@@ -1,5 +1,0 @@
-use Rattle.plan_answers.proofs.OneChoice.{allowed, only, never_memory, chosen, refused}
-use Rattle.plan_answers.proofs.laws.choices.Goals as goal
-
-pub returns : goal.returns
-returns c = record { allowed = allowed; only = only; never_memory = never_memory; chosen = chosen; refused = refused }

@@ -1,5 +1,0 @@
-use Rattle.std.proofs.Common.{◌≡◌, map, take}
-use Rattle.query_names.proofs.catalog.all_listed.Given as goal
-
-abbrev pub invariant-all : goal.invariant-all
-invariant-all l = map (λ listed. listed.table.now) l.found ≡ take l.table-index l.schema.tables

@@ -1,0 +1,11 @@
+use Rattle.level_bounds.specs.Keys.{cell_at}
+use Rattle.join_steps.specs.Lists.{lists_of}
+use Rattle.reduced_scans.specs.Lists.{AreRowLists}
+use Rattle.reduced_scans.specs.SemiJoins.{StaySifted}
+use Rattle.reduced_scans.proofs.semi_joins.semi_join_forward.Given as goal
+
+abbrev pub invariant-equalities : goal.invariant-equalities
+invariant-equalities l = record {
+  lists : AreRowLists l.db l.lists;
+  stay : StaySifted (cell_at l.db) l.equalities (lists_of l.initial.lists) (lists_of l.lists);
+}

@@ -1,9 +1,0 @@
-use Rattle.std.proofs.Common.{◌≡◌, drop}
-use Rattle.join_graph.specs.Kept.{equalities_within}
-use Rattle.safebound_bounds.specs.Meaning.{rows_met}
-use Rattle.safebound_bounds.proofs.in_sets.rows_met.Given as goal
-
-abbrev pub invariant-loop-edge : goal.invariant-loop-edge
-invariant-loop-edge l =
-    rows_met l.lists l.runs l.entry (equalities_within l.subset (drop l.edge-index l.edges)) l.rows
-    ≡ rows_met l.lists l.runs l.entry (equalities_within l.subset l.edges) l.most

@@ -1,8 +1,0 @@
-use Rattle.std.proofs.Common.{subst, sym}
-use Rattle.sql_tokens.specs.Words.{IsLexemeOf}
-use Rattle.query_grammar.specs.Lexemes.{IsPartOf}
-use Rattle.sql_parse.proofs.parts.look_at_parts.Goals as goal
-
-pub look_at_part-requires-clause-tokens : goal.look_at_part-requires-clause-tokens
-look_at_part-requires-clause-tokens c =
-    subst (IsPartOf (IsLexemeOf c.args.binder.now.text.now)) (sym c.part-item.is) (c.requires.tokens c.all.part-index c.part-item.result c.all-test.true)
