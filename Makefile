@@ -87,7 +87,7 @@ test:
 	.ci/run
 
 # What the gate does after its proofs, side by side, the longest first: each reads what was built, and writes into folders of its own.
-CHECKS := engines postgres library command install heads friendly browser differential process pages cases examples memory-there uncalled python release
+CHECKS := engines postgres library command install heads friendly browser differential process pages cases examples memory-there uncalled numbers python release
 FEATURES := run,plan,audit,stats,append,many-entries,filters,words,accuracy,reduce,count,bushy,keys
 
 .PHONY: $(CHECKS:%=check-%)
@@ -107,6 +107,8 @@ check-memory-there:
 	tests/memory-there
 check-uncalled:
 	tools/uncalled --check
+check-numbers:
+	tools/limits --check
 check-cases:
 	cases/run-cases --features $(FEATURES),demo,sql,cyclic,memory "$(PROGRAM)"
 check-examples:

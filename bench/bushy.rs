@@ -1,5 +1,6 @@
-// The plain side of bench/bushy-plan: the best join tree of twelve entries, in safe Rust. It has the same two tables over sets of entries, and
-// splits sets in the same ways. Prints the chosen trees, and the least nanoseconds of 10 choices.
+// The plain side of bench/bushy-plan: finds the best join tree of twelve entries, in safe Rust. It has the same two
+// tables over sets of entries as the proved program, and splits sets in the same ways. Prints the chosen trees, and the
+// least nanoseconds of 10 choices.
 mod twelve_entries;
 
 use twelve_entries::{all_bounds, least_time};

@@ -1,6 +1,6 @@
-//! What `falling` of crate degree_lists is measured against: a copy, the standard sort, and a walk over the runs.
-//! Build with `rustc -O bench/degree_lists.rs`. It prints the time in milliseconds for four million keys, or for as many
-//! as its word says: all different, all equal, and about as unequally frequent as words of a text.
+//! The plain side of the benchmark of `falling` of crate degree_lists: a copy, the standard sort, and a walk over the
+//! runs. Build with `rustc -O bench/degree_lists.rs`. It prints the time in milliseconds for four million keys, or for
+//! the number of keys in its argument: all different, all equal, and about as unequally frequent as words of a text.
 use std::time::Instant;
 
 const KEYS: usize = 4_000_000;

@@ -1,4 +1,4 @@
-//! What bench/one-table measures the program against: plain Rust that does the same work with std alone.
+//! The plain side of bench/one-table: plain Rust that does the same work with std alone.
 use std::io::{BufWriter, Write};
 use std::{env, fs, io, process};
 
@@ -11,7 +11,8 @@ fn words(text: &str) -> Vec<String> {
         .collect()
 }
 
-/// The bytes of one record's fields, one after another, and where each field ends. The buffers are used again for each record.
+/// The bytes of one record's fields, one after another, and where each field ends. The buffers are reused for each
+/// record.
 #[derive(Default)]
 struct Record {
     bytes: Vec<u8>,
@@ -24,7 +25,7 @@ impl Record {
         &self.bytes[start..self.ends[place]]
     }
 
-    /// Reads the next record, and hands back what comes after it.
+    /// Reads the next record. Returns the text after it.
     fn read<'a>(&mut self, rest: &'a [u8]) -> Option<&'a [u8]> {
         if rest.is_empty() {
             return None;

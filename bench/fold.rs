@@ -1,7 +1,9 @@
-//! What `set_bound` of bound_fold is measured against, and with any word on its command line `bounds_of_sets` of set_bounds: the same steps
-//! over plain vectors. Build with `rustc -O bench/fold.rs`. It prints for each measure the shape, the number of entries, of pieces of each
-//! list and of trees, the bound, the nanoseconds of one bound (the least of several), and how many pieces the lists of a tree's nodes have.
+//! The plain side of the benchmark of `set_bound` of bound_fold; with any argument, that of `bounds_of_sets` of
+//! set_bounds. It takes the same steps over plain vectors. Build with `rustc -O bench/fold.rs`. It prints for each
+//! measurement the shape, the numbers of entries, of pieces in each list and of trees, the bound, the nanoseconds of
+//! one bound (the least of several), and how many pieces the lists of a tree's nodes have.
 use std::collections::HashMap;
+use std::mem::take;
 use std::time::Instant;
 
 type Place = (u8, u32);
@@ -41,7 +43,8 @@ fn put(list: &mut Pieces, value: u128, count: u64) {
     }
 }
 
-// The value at a place of a list, and how many equal elements are from there on. `passed` gives the place after some of them.
+// The value at a place in a list, and how many elements from there on are equal to it. `passed` gives the place after
+// some of them.
 fn ahead(list: &[(u128, u64)], (at, used): (usize, u64)) -> (u128, u64) {
     list.get(at).map_or((0, u64::MAX), |&(value, count)| (value, count - used))
 }
@@ -67,26 +70,30 @@ fn walk(a: &[(u128, u64)], b: &[(u128, u64)], mut each: impl FnMut(u128, u128, u
 }
 
 fn product(a: &[(u128, u64)], b: &[(u128, u64)]) -> Pieces {
-    let mut list = Vec::new();
+    let mut list = Vec::with_capacity(a.len() + b.len());
     walk(a, b, |x, y, count| put(&mut list, x.saturating_mul(y), count));
     list
 }
 
+// The class weight of each row, by its rank in the column.
+fn spread((column, class): &(Pieces, Pieces)) -> Pieces {
+    let mut list = Vec::with_capacity(class.len());
+    walk(column, class, |x, y, count| put(&mut list, y, (x * u128::from(count)) as u64));
+    list
+}
+
 fn row_weights(children: &[(Pieces, Pieces)], rows: u64) -> Pieces {
-    let mut weights = vec![(1, rows)];
-    for (column, class) in children {
-        let mut own = Vec::new();
-        walk(column, class, |x, y, count| put(&mut own, y, (x * u128::from(count)) as u64));
-        weights = product(&weights, &own);
+    match children.split_first() {
+        None => vec![(1, rows)],
+        Some((first, others)) => others.iter().fold(spread(first), |weights, child| product(&weights, &spread(child))),
     }
-    weights
 }
 
 fn total(list: &[(u128, u64)]) -> u128 {
     list.iter().fold(0, |sum: u128, &(value, count)| sum.saturating_add(value.saturating_mul(u128::from(count))))
 }
 
-// The sum of the next `rows` weights, which may be in several pieces, and the place after them.
+// The sum of the next `rows` weights, which may be in several pieces, and the place after these weights.
 fn block(weights: &[(u128, u64)], mut place: (usize, u64), rows: u128) -> (u128, (usize, u64)) {
     let (mut sum, mut left) = (0u128, rows);
     while left > 0 && place.0 < weights.len() {
@@ -101,7 +108,7 @@ fn block(weights: &[(u128, u64)], mut place: (usize, u64), rows: u128) -> (u128,
 
 fn compose(parent: &[(u128, u64)], children: &[(Pieces, Pieces)]) -> Pieces {
     let weights = row_weights(children, total(parent) as u64);
-    let mut list = Vec::new();
+    let mut list = Vec::with_capacity(parent.len() + 2 * weights.len());
     let (mut at, mut row) = ((0, 0), (0, 0));
     while at.0 < parent.len() && row.0 < weights.len() {
         let (rows, blocks) = ahead(parent, at);
@@ -139,15 +146,18 @@ fn kept(equalities: &[Edge], turn: usize) -> Vec<Edge> {
     kept
 }
 
-// The columns of the equalities, in the order of the equalities, each with the name of its class.
+fn class_in(columns: &[(Place, Place)], place: Place) -> Place {
+    columns.iter().find(|column| column.0 == place).map_or(place, |column| column.1)
+}
+
+// The columns of the equalities, in their order, each with the name of its class.
 fn classes(edges: &[Edge]) -> Vec<(Place, Place)> {
     let mut columns: Vec<Place> = edges.iter().flat_map(|&(left, right)| [left, right]).collect();
     columns.sort();
     columns.dedup();
     let mut columns: Vec<(Place, Place)> = columns.into_iter().map(|column| (column, column)).collect();
-    let class = |columns: &[(Place, Place)], place| columns.iter().find(|column| column.0 == place).unwrap().1;
     for &(left, right) in edges {
-        let (new, old) = (class(&columns, left), class(&columns, right));
+        let (new, old) = (class_in(&columns, left), class_in(&columns, right));
         columns.iter_mut().filter(|column| column.1 == old).for_each(|column| column.1 = new);
     }
     columns
@@ -174,33 +184,36 @@ fn add_below(nodes: &mut Vec<Node>, columns: &[(Place, Place)], at: usize, entry
 
 // ---- bounds ----
 
-fn children_of(query: &Query, nodes: &[Node], done: &[Pieces], entry: u8, i: usize) -> Vec<(Pieces, Pieces)> {
-    let child = |&class: &usize| (query.lists[&(entry, nodes[class].via)].clone(), done[class].clone());
+// The lists of an entry's children: the entry's own list is copied, and that of the class is moved.
+fn children_of(query: &Query, nodes: &[Node], done: &mut [Pieces], entry: u8, i: usize) -> Vec<(Pieces, Pieces)> {
+    let child = |&class: &usize| (query.lists[&(entry, nodes[class].via)].clone(), take(&mut done[class]));
     nodes[i].children.iter().map(child).collect()
+}
+
+// The product of the lists of the entries below a class, from the last entry to the first.
+fn class_list(node: &Node, done: &mut [Pieces]) -> Pieces {
+    let (&last, others) = node.children.split_last().unwrap();
+    let list = take(&mut done[last]);
+    others.iter().rev().fold(list, |list, &child| product(&take(&mut done[child]), &list))
 }
 
 // The bound of a tree, and how many pieces the lists of its nodes have.
 fn fold(query: &Query, nodes: &[Node]) -> (u128, usize) {
     let mut done: Vec<Pieces> = vec![Vec::new(); nodes.len()];
+    let mut held = 0;
     for i in (0..nodes.len()).rev() {
         let list = match nodes[i].kind {
             Kind::Entry(entry) if i > 0 && nodes[i].children.is_empty() => query.lists[&(entry, nodes[i].via)].clone(),
             Kind::Entry(entry) => {
-                let children = children_of(query, nodes, &done, entry, i);
+                let children = children_of(query, nodes, &mut done, entry, i);
                 if i == 0 {
-                    let rows = query.rows[&entry];
-                    return (total(&row_weights(&children, rows)), done.iter().map(Vec::len).sum());
+                    return (total(&row_weights(&children, query.rows[&entry])), held);
                 }
                 compose(&query.lists[&(entry, nodes[i].via)], &children)
             }
-            Kind::Class => {
-                let mut list = done[nodes[i].children[0]].clone();
-                for &child in &nodes[i].children[1..] {
-                    list = product(&list, &done[child]);
-                }
-                list
-            }
+            Kind::Class => class_list(&nodes[i], &mut done),
         };
+        held += list.len();
         done[i] = list;
     }
     unreachable!()
@@ -247,7 +260,7 @@ fn turn_bound(query: &Query, set: u16, equalities: &[Edge], turn: usize) -> u128
     product
 }
 
-// The set's first entry, with all entries that equalities connect with it.
+// The set's first entry and all entries that equalities connect with it.
 fn first_part(equalities: &[Edge], set: u16) -> u16 {
     let mut part = set & set.wrapping_neg();
     loop {
@@ -264,37 +277,40 @@ fn first_part(equalities: &[Edge], set: u16) -> u16 {
     }
 }
 
-// The column that stands for the class of a column.
-fn class_in(classed: &[(Edge, Place)], place: Place) -> Place {
-    let found = classed.iter().find(|((left, right), _)| *left == place || *right == place);
-    found.map_or(place, |&(_, class)| class)
+// The equalities that a turn keeps, and their columns with the names of classes.
+struct Turn {
+    edges: Vec<Edge>,
+    columns: Vec<(Place, Place)>,
 }
 
-// Each equality with a column of its class.
-fn with_classes(edges: &[Edge]) -> Vec<(Edge, Place)> {
-    let mut classed: Vec<(Edge, Place)> = Vec::new();
-    for &(left, right) in edges {
-        let (new, old) = (class_in(&classed, left), class_in(&classed, right));
-        classed.iter_mut().filter(|member| member.1 == old).for_each(|member| member.1 = new);
-        classed.push(((left, right), new));
-    }
-    classed
+fn turn_of(equalities: &[Edge], turn: usize) -> Turn {
+    let edges = kept(equalities, turn);
+    let columns = classes(&edges);
+    Turn { edges, columns }
 }
 
-fn are_in_classes(others: &[(Edge, Place)], classed: &[(Edge, Place)]) -> bool {
-    classed.iter().all(|&((left, right), _)| class_in(others, left) == class_in(others, right))
+fn are_in_classes(turn: &Turn, edges: &[Edge]) -> bool {
+    edges.iter().all(|&(left, right)| class_in(&turn.columns, left) == class_in(&turn.columns, right))
 }
 
-// The least bound over the turns. A turn isn't folded if an earlier turn kept equalities with the same columns and classes.
+fn are_alike(a: &Turn, b: &Turn) -> bool {
+    are_in_classes(a, &b.edges) && are_in_classes(b, &a.edges)
+}
+
+// The least bound over the turns. If each equality joins columns of one class of turn 0, all turns are alike. Of turns
+// that are alike, only the first is folded.
 fn cyclic_bound(query: &Query, set: u16, equalities: &[Edge]) -> u128 {
-    let mut folded: Vec<Vec<(Edge, Place)>> = Vec::new();
-    let mut least = u128::MAX;
-    for turn in 0..equalities.len().min(16) {
-        let classed = with_classes(&kept(equalities, turn));
-        let is_like = |earlier: &Vec<_>| are_in_classes(earlier, &classed) && are_in_classes(&classed, earlier);
-        if !folded.iter().any(is_like) {
+    let mut least = turn_bound(query, set, equalities, 0);
+    let first = turn_of(equalities, 0);
+    if are_in_classes(&first, equalities) {
+        return least;
+    }
+    let mut folded = vec![first];
+    for turn in 1..equalities.len().min(16) {
+        let made = turn_of(equalities, turn);
+        if !folded.iter().any(|earlier| are_alike(earlier, &made)) {
             least = least.min(turn_bound(query, set, equalities, turn));
-            folded.push(classed);
+            folded.push(made);
         }
     }
     least
@@ -304,7 +320,8 @@ fn is_forest(equalities: &[Edge]) -> bool {
     kept(equalities, 0).len() == equalities.len()
 }
 
-// Where the whole query's equalities close no cycle, neither do those of a set.
+// The bound of a set, from bounds of smaller sets. If the whole query's equalities close no cycle, neither do those of
+// a set.
 fn next_bound(query: &Query, set: u16, whole: bool, smaller: &[u128]) -> u128 {
     let equalities = equalities_of(query, set);
     if !whole && !is_forest(&equalities) {

@@ -1,4 +1,5 @@
-// Chains of equal keys, laid out and mixed as link_index has them, in Rust without contracts: a part of joins.rs and link_index.rs.
+// Chains of equal keys, with the layout and the hash of link_index, in Rust without contracts: a part of joins.rs and
+// link_index.rs.
 
 pub const NONE: u32 = u32::MAX;
 pub const ODD: u64 = 0x9E37_79B9_7F4A_7C15;

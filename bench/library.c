@@ -1,5 +1,6 @@
-/* Calls of the library, measured from C. bench/library compiles it, and says what its lines mean.
-   It prints a name, the number of elements of the answer, and the nanoseconds of a call, the least of several. */
+/* Measures calls of the library from C. bench/library compiles it, and explains its lines.
+   It prints a name, the number of elements of the result, and the nanoseconds of a call, the least of several. If the
+   limit of work stops a call, as it may stop that of a clique, it prints the work in place of the number of elements. */
 #define _POSIX_C_SOURCE 199309L
 #include "safebound.h"
 
@@ -10,9 +11,12 @@
 #include <time.h>
 
 #define MOST_ENTRIES SAFEBOUND_MOST_ENTRIES
-#define MOST_LISTS (2 * MOST_ENTRIES)
+#define MOST_PAIRS (MOST_ENTRIES * (MOST_ENTRIES - 1) / 2)
+#define MOST_LISTS (2 * MOST_PAIRS)
 #define PIECES 23
 #define BUDGET SAFEBOUND_MOST_BUDGET
+/* A star of sixteen is below it, and a clique of sixteen, which would take more than a minute, is above it. */
+#define MOST_WORK UINT64_C(500000000)
 
 static uint64_t now(void) {
     struct timespec at;
@@ -26,53 +30,67 @@ static void need_ok(safebound_status status) {
     exit(1);
 }
 
-/* ---- entries in a chain, as bench/planning has them */
+/* ---- entries in a chain, a star, a ring and a clique, with lists as bench/planning has them */
+
+typedef enum { CHAIN, STAR, RING, CLIQUE } shape;
 
 typedef struct {
     uint64_t rows[MOST_ENTRIES];
-    safebound_equality equalities[MOST_ENTRIES];
+    safebound_equality equalities[MOST_PAIRS];
     safebound_list lists[MOST_LISTS];
     safebound_run runs[MOST_LISTS * PIECES];
-    size_t entries, list_count, run_count;
+    size_t entries, equality_count, list_count, run_count;
 } query;
 
-static void add_list(query *chain, uint32_t entry, uint32_t column, uint64_t pieces) {
-    uint64_t rows = chain->rows[entry], left = rows, first = chain->run_count;
+static void add_list(query *made, uint32_t entry, uint32_t column, uint64_t pieces) {
+    uint64_t rows = made->rows[entry], left = rows, first = made->run_count;
     for (uint64_t step = pieces; step >= 2; step--) {
         uint64_t degree = step * (column + 1), keys = rows / pieces / degree;
-        chain->runs[chain->run_count++] = (safebound_run){degree, keys};
+        made->runs[made->run_count++] = (safebound_run){degree, keys};
         left -= degree * keys;
     }
-    chain->runs[chain->run_count++] = (safebound_run){1, left};
-    chain->lists[chain->list_count++] = (safebound_list){entry, column, first, chain->run_count - first};
+    made->runs[made->run_count++] = (safebound_run){1, left};
+    made->lists[made->list_count++] = (safebound_list){entry, column, first, made->run_count - first};
 }
 
-static query chain_of(uint32_t entries) {
-    query chain = {.entries = entries};
-    for (uint32_t entry = 0; entry < entries; entry++) chain.rows[entry] = 1000000 + 77777 * entry;
-    for (uint32_t entry = 0; entry + 1 < entries; entry++) {
-        chain.equalities[entry] = (safebound_equality){entry, 1, entry + 1, 0};
-        add_list(&chain, entry, 1, PIECES);
-        add_list(&chain, entry + 1, 0, PIECES);
+static void join(query *made, uint32_t left, uint32_t left_column, uint32_t right, uint32_t right_column) {
+    made->equalities[made->equality_count++] = (safebound_equality){left, left_column, right, right_column};
+    add_list(made, left, left_column, PIECES);
+    add_list(made, right, right_column, PIECES);
+}
+
+/* In a star and a clique each equality has columns of its own. */
+static query *query_of(shape shape, uint32_t entries) {
+    static query made;
+    uint32_t last = entries - 1;
+    made = (query){.entries = entries};
+    for (uint32_t entry = 0; entry < entries; entry++) made.rows[entry] = 1000000 + 77777 * entry;
+    for (uint32_t entry = 0; entry < last; entry++) {
+        if (shape == CHAIN || shape == RING) join(&made, entry, 1, entry + 1, 0);
+        if (shape == STAR) join(&made, 0, entry, entry + 1, 0);
+        for (uint32_t other = entry + 1; shape == CLIQUE && other < entries; other++) join(&made, entry, other, other, entry);
     }
-    return chain;
+    if (shape == RING) join(&made, last, 1, 0, 0);
+    return &made;
 }
 
-static void time_chain(const char *name, uint32_t entries, int times) {
+static void time_bounds(const char *name, shape shape, uint32_t entries, int times) {
     static uint64_t bounds[1 << MOST_ENTRIES];
-    query chain = chain_of(entries);
+    const query *made = query_of(shape, entries);
     uint64_t least = UINT64_MAX, detail = 0;
     for (int i = 0; i < times; i++) {
         uint64_t start = now();
-        need_ok(safebound_bounds(chain.rows, entries, chain.equalities, entries - 1, chain.lists, chain.list_count,
-                                 chain.runs, chain.run_count, bounds, 1 << MOST_ENTRIES, &detail));
+        safebound_status status = safebound_bounds_within(
+            made->rows, entries, made->equalities, made->equality_count, made->lists, made->list_count, made->runs,
+            made->run_count, MOST_WORK, bounds, 1 << MOST_ENTRIES, &detail);
         uint64_t taken = now() - start;
+        if (shape != CLIQUE || status != SAFEBOUND_WORK) need_ok(status);
         if (taken < least) least = taken;
     }
     printf("%s %" PRIu64 " %" PRIu64 "\n", name, detail, least);
 }
 
-/* Bounds, each one more than the one before. */
+/* Bounds, each greater by one than the bound before. */
 static void time_plans(size_t entries, int times) {
     static uint64_t bounds[1 << MOST_ENTRIES];
     safebound_level levels[MOST_ENTRIES];
@@ -123,11 +141,16 @@ static void time_degrees(const char *kind, size_t count, int times) {
 
 int main(int count, char **words) {
     size_t keys = count > 1 ? strtoull(words[1], NULL, 10) : 10000000;
-    time_chain("bounds_3", 3, 2000);
-    time_chain("bounds_6", 6, 500);
-    time_chain("bounds_12", 12, 20);
+    time_bounds("bounds_3", CHAIN, 3, 2000);
+    time_bounds("bounds_6", CHAIN, 6, 500);
+    time_bounds("bounds_12", CHAIN, 12, 20);
+    time_bounds("chain_16", CHAIN, 16, 5);
+    time_bounds("star_16", STAR, 16, 2);
+    time_bounds("ring_16", RING, 16, 5);
+    time_bounds("clique_16", CLIQUE, 16, 5);
     time_plans(3, 2000);
     time_plans(12, 20);
+    time_plans(16, 2);
     time_degrees("different", keys, 3);
     time_degrees("equal", keys, 3);
     time_degrees("unequal", keys, 3);

@@ -2,8 +2,8 @@
 //
 // bench/link-index builds and runs it beside the proved program.
 //
-// It prints for each list of keys the nanoseconds that `load`, `first` and `after` took for all keys (the least of five rounds), and the longest
-// walk to a key.
+// It prints for each list of keys the nanoseconds of `load`, `first` and `after` for all keys (the least of five
+// rounds), and the longest walk to a key.
 mod key_chains;
 
 use key_chains::{Chains, NONE};
@@ -13,7 +13,7 @@ use std::time::Instant;
 const KEYS: u64 = 4_000_000;
 const ROUNDS: usize = 5;
 
-// How many places a call looks at, at most, until it answers.
+// The largest number of places that a call visits until it returns.
 fn longest_walk(chains: &Chains) -> usize {
     let mut longest = 0;
     for head in &chains.heads {

@@ -2,8 +2,8 @@
 //
 // bench/reduce builds and runs it beside the proved program.
 //
-// It prints for the chain and for three cycles how many rows stay, the sum of their numbers, and the nanoseconds of scans and reduction together
-// (the least of three rounds).
+// It prints for the chain and for three cycles how many rows remain, the sum of their row numbers, and the nanoseconds
+// of scans and reduction together (the least of three rounds).
 use std::hint::black_box;
 use std::time::Instant;
 
@@ -69,7 +69,7 @@ impl Values {
     }
 }
 
-// Values in a short range: a flag for each number of the range, from the least on, which says whether it is among the values.
+// Values in a short range: a flag for each number of the range, which says whether the number is among the values.
 struct Marks {
     least: u64,
     there: Vec<bool>,

@@ -14,7 +14,8 @@ struct Records<'a> {
 }
 
 impl Records<'_> {
-    /// Takes the next record into one buffer with the ends of its fields, or answers that there is none. Empty lines are passed over.
+    /// Takes the next record into one buffer with the ends of its fields, or returns that there is none. Empty lines
+    /// are skipped.
     fn next(&mut self, text: &mut Vec<u8>, ends: &mut Vec<usize>) -> bool {
         text.clear();
         ends.clear();
@@ -150,7 +151,7 @@ fn push_run(pieces: &mut Pieces, value: u64, count: u64) {
     }
 }
 
-/// The degree list compressed at accuracy 1: few runs, the same sum, and running sums that are no lower.
+/// The degree list compressed at accuracy 1. It has few runs, the same sum, and running sums that aren't lower.
 pub fn compress(falling: &[u64]) -> Pieces {
     let mut pieces = Pieces::new();
     let mut head = falling.first().copied().unwrap_or(0);

@@ -1,6 +1,6 @@
-//! What `gather` of crate column_stats and the calls of crate cond_stats are measured against: the same steps in plain Rust.
-//! Build with `rustc -O bench/stats.rs`. To standard output it writes a line for each case (its name and the runs of the lists that were
-//! made), to standard error the least nanoseconds of each part.
+//! The plain side of the benchmarks of `gather` of crate column_stats and the calls of crate cond_stats: the same steps
+//! in plain Rust. Build with `rustc -O bench/stats.rs`. It writes to standard output a line for each case (its name and
+//! the runs of its lists), and to standard error the least nanoseconds of each part.
 use std::collections::HashMap;
 use std::hash::{BuildHasherDefault, Hasher};
 use std::time::Instant;
@@ -91,7 +91,7 @@ fn whole_list(joined: &[u64], accuracy: u64) -> Pieces {
     compress(&falling(joined), accuracy)
 }
 
-/// The rows of one value: where they are among the rows in the order of values.
+/// The rows of one value: the part of the rows, sorted by value, that has this value.
 #[derive(Clone, Copy)]
 struct Group {
     first: u32,
@@ -149,7 +149,7 @@ impl<'a> FilterColumn<'a> {
         }
         groups.sort_unstable_by_key(|group| (u32::MAX - group.count, group.first));
         let n = places.len();
-        // The cuts are made since the proved side makes them too; no list here needs them.
+        // The cuts are made because the proved side makes them too; no list of this program needs them.
         let cuts: Vec<u64> = if n == 0 { Vec::new() } else { (0..32).map(|i| cells[places[n * i / 32] as usize]).collect() };
         std::hint::black_box(&cuts);
         let starts = (0..33)
@@ -250,7 +250,8 @@ fn random(state: &mut u64) -> u64 {
     *state
 }
 
-/// A number below 2^k, where each k from 0 to 21 is about as likely: numbers are as unequally frequent as words of a text.
+/// A number below 2^k, where each k from 0 to 21 is about equally likely. Numbers are then as unequally frequent as
+/// words of a text.
 fn unequal(bits: u64) -> u64 {
     (bits & 0xffff_ffff) >> (32 - (bits >> 58) % 22)
 }

@@ -1,6 +1,6 @@
-//! What bench/stats-commands measures `stats` and `plan --stats` against: plain Rust that makes all lists of the pairs of columns that the
-//! shop's query needs, and writes their file; and, with the name of such a file, plain Rust that reads it and prints how many runs its lists
-//! have. Build with `rustc -O bench/stats_commands.rs`.
+//! The plain side of bench/stats-commands for `stats` and `plan --stats`. It makes all lists of the pairs of columns
+//! that the shop's query needs, and writes their file. With the name of such a file as argument, it reads the file and
+//! prints how many runs its lists have. Build with `rustc -O bench/stats_commands.rs`.
 mod shop_tables;
 mod stats_text;
 
@@ -10,8 +10,8 @@ use std::fmt::Write;
 use std::io::Write as _;
 use std::{env, fs, io};
 
-/// The tables in the order of the schema, with their columns, the place of the first column that must not repeat, and the pairs that the
-/// query needs: a filter column and a joined one.
+/// The tables in the order of the schema: name, columns, the place of the first column that mustn't repeat, and the
+/// pairs that the query needs (a filter column and a joined column).
 const TABLES: [(&str, &[&str], Option<usize>, &[(usize, usize)]); 4] = [
     ("product", &["ID", "KIND"], Some(0), &[(1, 0)]),
     ("item", &["ORDER_ID", "PRODUCT"], None, &[(0, 0), (1, 1)]),
@@ -20,7 +20,7 @@ const TABLES: [(&str, &[&str], Option<usize>, &[(usize, usize)]); 4] = [
 ];
 const NODES: [usize; 6] = [1, 2, 4, 8, 16, 32];
 
-/// The rows of one value: where they are among the rows in the order of values.
+/// The rows of one value: the part of the rows, sorted by value, that has this value.
 struct Group {
     first: u32,
     start: u32,
@@ -36,7 +36,7 @@ struct InOrder {
     starts: Vec<u32>,
 }
 
-/// The row numbers in the order of the rows' values: by counting if the values are in a short range, else by a sort.
+/// The row numbers sorted by value: by counting if the values are in a short range, else by a sort.
 fn places_of(column: &[i64]) -> Vec<u32> {
     let (Some(least), Some(greatest)) = (column.iter().min(), column.iter().max()) else {
         return Vec::new();
@@ -94,7 +94,7 @@ impl InOrder {
         compress(&falling(&self.keys(joined, start, end)))
     }
 
-    /// One list that dominates the keys of each value that isn't frequent.
+    /// One list that dominates the keys of any value that isn't frequent.
     fn rest(&self, joined: &[i64]) -> Pieces {
         let mut maxima: Vec<u64> = Vec::new();
         for group in &self.others {

@@ -1,5 +1,5 @@
-//! How plain Rust reads a file of statistics: a part of stats_file.rs and stats_commands.rs. It checks the same rules as `read_stats` of
-//! crate stats_reading, for columns that are all of numbers.
+//! How plain Rust reads a statistics file: a part of stats_file.rs and stats_commands.rs. It checks the same rules as
+//! `read_stats` of crate stats_reading, for columns that all have numbers.
 
 #[derive(Clone, Copy, PartialEq)]
 pub struct Piece {
@@ -37,7 +37,7 @@ enum Stage {
     Done,
 }
 
-/// The file as far as it is read.
+/// The part of the file that was read so far.
 pub struct Draft {
     stage: Stage,
     pub accuracy: u64,
@@ -139,7 +139,7 @@ impl Draft {
         if pairs.last().is_some_and(|last| (last.filter, last.joined) >= (filter, joined)) {
             return None;
         }
-        // Pairs ascend, so if any pair has this filter column, the last one has it.
+        // Pairs are in ascending order, so if any pair has this filter column, the last pair has it.
         self.like = pairs.len().checked_sub(1).filter(|last| pairs[*last].filter == filter);
         self.twin = pairs.iter().position(|pair| pair.joined == joined);
         self.pair = Some(Pair {

@@ -1,4 +1,5 @@
-//! What `read_table` of crate csv_tables is measured against: plain Rust that makes the same cells with std alone.
+//! The plain side of the benchmark of `read_table` of crate csv_tables: plain Rust that makes the same cells with std
+//! alone.
 //!
 //! Build with `rustc -O bench/tables.rs`. It prints for each file its name, how many rows and different texts it has, a
 //! checksum of the cells, and the least time of several readings in milliseconds.
@@ -10,7 +11,7 @@ const MOST_BYTES: usize = 67_108_864;
 const MOST_ROWS: u32 = 4_000_000;
 const ROUNDS: u32 = 5;
 
-/// Random bits, and how many texts there were.
+/// Random bits, and how many texts there were so far.
 struct State {
     bits: u64,
     texts: u64,
@@ -31,7 +32,7 @@ fn push_number(file: &mut String, state: &mut State) {
     write!(file, "{sign}{}", state.bits >> (20 + state.bits % 44)).unwrap();
 }
 
-/// A new text, and then one of the earlier texts.
+/// Appends a new text, and then one of the earlier texts.
 fn push_texts(file: &mut String, state: &mut State) {
     let new = state.texts;
     state.texts += 1;
@@ -54,7 +55,7 @@ fn file_of(header: &str, items: u32, push: fn(&mut String, &mut State)) -> Strin
     file
 }
 
-/// The fields of one record: parts of the file, or of `unquoted` for a field that is quoted.
+/// The fields of one record. Each is a part of the file or, for a quoted field, of `unquoted`.
 #[derive(Default)]
 struct Record {
     unquoted: Vec<u8>,

@@ -1,4 +1,5 @@
-// A part of orders.rs and bushy.rs: the bounds of all sets of twelve entries, by which they choose, and how a choice is timed.
+// A part of orders.rs and bushy.rs: the bounds of all sets of twelve entries, which decide the choice, and how a choice
+// is timed.
 use std::hint::black_box;
 use std::time::Instant;
 

@@ -1,5 +1,6 @@
-"""The package has the library's version, and needs that one: a release has one number, which stands in
-python/safebound."""
+"""The package has the version of the library, which it needs. All packages of a release have one version, from
+python/safebound.
+"""
 
 import runpy
 from pathlib import Path

@@ -1,32 +1,32 @@
 /* SafeBound's library: row bounds of joins that are never too low, and the best plans by them.
 
-   A planner says for each entry of a query how many rows it has at most, and for each joined column how often its
+   A planner gives for each entry of a query the most rows that it may have, and for each joined column how often its
    values repeat. It gets a bound for every set of entries, the best left-deep order and the best join tree.
 
    For all calls:
 
-   - A call keeps nothing for the next one: no handle, no global, nothing to begin with or to end with.
+   - A call leaves nothing behind: there are no handles and no global state, and nothing to set up or tear down.
      Threads may call at the same time. No call may come from a signal handler, or from the child of a fork of a
      process with threads.
    - Numbers have 64 bits. Lengths and rooms are in elements, not in bytes.
-   - A pointer is never NULL and is aligned for its type, even if its length is 0. What a call reads isn't changed
-     meanwhile, and what it writes overlaps nothing else that it gets.
-   - Each call checks every value that it gets. It answers a status, which says what number it writes to `*detail`:
+   - A pointer is never NULL and is aligned for its type, even if its length is 0. During a call nobody may change
+     what it reads. The memory that it writes may not overlap any other argument.
+   - Each call checks every value that it gets. It returns a status. The status says what number is in `*detail`:
 
-     SAFEBOUND_OK           `detail` is how many elements were written, or the number that the call is asked for.
+     SAFEBOUND_OK           `detail` is the number of elements written, or the number that the call computes.
      SAFEBOUND_ROOM         The room is too small. `detail` is the room that is needed.
-     SAFEBOUND_NO_MEMORY    There was too little memory. `detail` is as it was.
-     SAFEBOUND_BUDGET       The best plan passes the budget. `detail` is the least budget that would do.
-     SAFEBOUND_PAST_BITS    Each plan has a part without a bound, or the number has more than 64 bits. `detail` is as it was.
-     SAFEBOUND_WORK         The work passes the limit. `detail` is the limit that would do.
+     SAFEBOUND_NO_MEMORY    There was too little memory. `detail` is unchanged.
+     SAFEBOUND_BUDGET       The best plan exceeds the budget. `detail` is the least budget that would do.
+     SAFEBOUND_PAST_BITS    Each plan has a part without a bound, or the number has more than 64 bits. `detail` is unchanged.
+     SAFEBOUND_WORK         The work exceeds the limit. `detail` is the limit that would do.
      the others             A value is wrong. `detail` says where: which element, from 0, of the array that is named
                             with the status below, or the number itself.
 
-     Nothing but `detail` is written unless the status is SAFEBOUND_OK. If several statuses apply, the one that stands
-     first in the call's list is answered. If several elements are wrong, `detail` names the first. SAFEBOUND_NO_MEMORY
-     may come in place of any other status.
+     Nothing but `detail` is written unless the status is SAFEBOUND_OK. If several statuses apply, the call returns the
+     first one in its list. If several elements are wrong, `detail` names the first. SAFEBOUND_NO_MEMORY may come in
+     place of any other status.
 
-   Memory comes from three functions. The archive has them over malloc, and a program may give its own:
+   The library takes memory by three functions. The archive defines them over malloc, and a program may replace them:
    safebound_memory.h. */
 
 #ifndef SAFEBOUND_H
@@ -46,16 +46,20 @@ extern "C" {
 #define SAFEBOUND_VERSION_NUMBER \
     (SAFEBOUND_VERSION_MAJOR * 1000000 + SAFEBOUND_VERSION_MINOR * 1000 + SAFEBOUND_VERSION_PATCH)
 
-#define SAFEBOUND_MOST_ENTRIES 12
+/* Limits. tools/limits takes their numbers from the crate limits. SafeBound's own engine takes fewer entries than are
+   bounded and planned here: calls that tell its bytes refuse more. */
+#define SAFEBOUND_MOST_ENTRIES 16
+#define SAFEBOUND_ENGINE_ENTRIES 12
 #define SAFEBOUND_MOST_EQUALITIES 256
+#define SAFEBOUND_MOST_TURNS 16
 #define SAFEBOUND_MOST_ACCURACY 64
 #define SAFEBOUND_MOST_ROWS (UINT64_C(1) << 48)
 #define SAFEBOUND_MOST_BUDGET (UINT64_C(1) << 59)
 
-/* No bound is known. It also stands for every bound that 64 bits don't hold. */
+/* No bound is known. A bound that 64 bits can't hold is given as this number too. */
 #define SAFEBOUND_NO_BOUND UINT64_MAX
 
-/* What the list of a column in which no row has a value has as `first`; its `length` is 0. */
+/* The `first` of a column's list if no row has a value in the column. Its `length` is then 0. */
 #define SAFEBOUND_NO_VALUES UINT64_MAX
 
 typedef uint32_t safebound_status;
@@ -72,7 +76,7 @@ enum {
     SAFEBOUND_BAD_ACCURACY = 17,   /* the accuracy */
     SAFEBOUND_BAD_RUN = 18,        /* an element of `runs` */
     SAFEBOUND_BAD_OTHER_RUN = 19,  /* an element of `others` */
-    SAFEBOUND_BAD_SUM = 20,        /* the sum of what two lists make */
+    SAFEBOUND_BAD_SUM = 20,        /* the sum of two lists */
     SAFEBOUND_BAD_ENTRIES = 21,    /* the number of entries */
     SAFEBOUND_BAD_ROWS = 22,       /* an element of `rows` */
     SAFEBOUND_BAD_EQUALITIES = 23, /* the number of equalities */
@@ -94,23 +98,23 @@ enum {
     SAFEBOUND_LEFT_JOIN = 1,  /* LEFT OUTER JOIN */
     SAFEBOUND_RIGHT_JOIN = 2, /* RIGHT OUTER JOIN */
     SAFEBOUND_FULL_JOIN = 3,  /* FULL OUTER JOIN */
-    SAFEBOUND_SEMI_JOIN = 4,  /* the rows of the left side that are joined, as EXISTS keeps them */
-    SAFEBOUND_ANTI_JOIN = 5   /* the rows of the left side that are not, as NOT EXISTS keeps them */
+    SAFEBOUND_SEMI_JOIN = 4,  /* the rows of the left side that have a match (EXISTS) */
+    SAFEBOUND_ANTI_JOIN = 5   /* the rows of the left side that have no match (NOT EXISTS) */
 };
 
-/* A number of keys, each of which stands in `degree` rows.
+/* `keys` different keys, each of which occurs in `degree` rows.
 
    A list of runs says how often the values of a column repeat, the most frequent first: (5, 1), (2, 3) is one value in
-   five rows and three values in two rows each. A list is right if each degree and each number of keys is at least 1, no
-   degree is above the one before it, and all degrees sum to at most 2^48. If it isn't, `detail` is the first run that
-   breaks this. A list without runs is right too, but as the list of a column it has to be marked (safebound_list). */
+   five rows and three values in two rows each. A list is valid if each degree and each number of keys is at least 1, no
+   degree is above the one before it, and all degrees sum to at most 2^48. Otherwise `detail` is the first run that breaks
+   this rule. A list without runs is valid too, but as the list of a column it has to be marked (safebound_list). */
 typedef struct safebound_run {
     uint64_t degree;
     uint64_t keys;
 } safebound_run;
 
-/* An equality between columns of two different entries. Entries are numbered from 0. A column's number may be any: it
-   tells the columns of one entry apart. */
+/* An equality between columns of two different entries. Entries are numbered from 0. A column may have any number: the
+   number only distinguishes the columns of one entry. */
 typedef struct safebound_equality {
     uint32_t left_entry;
     uint32_t left_column;
@@ -122,7 +126,7 @@ typedef struct safebound_equality {
    lists may share runs, for example if a table is joined with itself.
 
    If no row has a value in the column, the list has no runs: `first` is SAFEBOUND_NO_VALUES and `length` is 0. Any other
-   list without runs is refused, since it looks like one that was forgotten. */
+   list without runs is refused, since the caller may have forgotten to fill it. */
 typedef struct safebound_list {
     uint32_t entry;
     uint32_t column;
@@ -130,7 +134,7 @@ typedef struct safebound_list {
     uint64_t length;
 } safebound_list;
 
-/* One level of an order: the entry that is joined there, and the bound of all entries up to it, in rows. */
+/* One level of an order: the entry that is joined there, and the bound in rows of this entry and all before it. */
 typedef struct safebound_level {
     uint64_t entry;
     uint64_t bound;
@@ -144,14 +148,14 @@ typedef struct safebound_join {
     uint64_t bound;
 } safebound_join;
 
-/* The degree sequence of a column: how often each of its keys stands there, as runs, the greatest degree first.
+/* The degree sequence of a column, as runs: how many rows have each of its keys, the most frequent first.
 
    `keys` are the column's values, one for each row that has one, in any order; rows without a value (NULL) are left out.
    Any 64 bits are a key: give texts and other types a number each. The runs have different degrees.
 
    SAFEBOUND_BAD_KEYS     more than 2^48 keys; `detail` is their number
-   SAFEBOUND_NO_MEMORY    it takes about as much memory as the keys have
-   SAFEBOUND_ROOM         one run for each different degree: at most the root of twice the number of keys
+   SAFEBOUND_NO_MEMORY    it takes about as much memory as the keys do
+   SAFEBOUND_ROOM         one run for each different degree: at most the square root of twice the number of keys
    SAFEBOUND_OK
 
    Example: the keys 8, 8, 8, 8, 8, 2, 2, 2, 5 give (5, 1), (3, 1), (1, 1).
@@ -163,9 +167,9 @@ typedef struct safebound_join {
 safebound_status safebound_degrees(const uint64_t *keys, size_t keys_length, safebound_run *into, size_t room,
                                    uint64_t *detail);
 
-/* Few runs that dominate a list: what is known of a column stays true, and later calls are fast.
+/* A few runs that dominate a list. What the list says of a column stays true, and later calls are faster.
 
-   The sum of the list is kept. At accuracy K, from 1 to 64, each degree is at most (K + 1) / K times the list's degree at
+   The sum is the list's. At accuracy K, from 1 to 64, each degree is at most (K + 1) / K times the list's degree at
    the same rank. There are at most K times as many runs as the first degree has binary digits, and one more.
 
    SAFEBOUND_BAD_ACCURACY    not from 1 to 64; `detail` is the accuracy
@@ -181,14 +185,14 @@ safebound_status safebound_compress(const safebound_run *runs, size_t runs_lengt
                                     safebound_run *into, size_t room, uint64_t *detail);
 
 /* The rank-wise sum of two lists, for example of a column's list and of the list of rows that came later. At each rank it
-   has the sum of both degrees, so it dominates the old and the new rows together, whichever values repeat. Of a list of the
-   rows that satisfy condition A and a list of those that satisfy condition B, it is a list of those that satisfy A OR B.
+   has the sum of both degrees, so it dominates the old and the new rows together, whichever values repeat. If one list is of
+   the rows that satisfy condition A, and the other of those that satisfy condition B, the sum is a list for A OR B.
 
    SAFEBOUND_BAD_RUN          `detail` is the element of `runs`
    SAFEBOUND_BAD_OTHER_RUN    `detail` is the element of `others`
-   SAFEBOUND_BAD_SUM          all degrees of both sum to more than 2^48; `detail` is that sum
+   SAFEBOUND_BAD_SUM          the degrees of both lists sum to more than 2^48; `detail` is that sum
    SAFEBOUND_NO_MEMORY
-   SAFEBOUND_ROOM             at most as many as both lists have
+   SAFEBOUND_ROOM             at most as many runs as both lists have together
    SAFEBOUND_OK
 
    Example: (3, 1), (1, 2) and (2, 2) give (5, 1), (3, 1), (1, 1).
@@ -197,14 +201,14 @@ safebound_status safebound_compress(const safebound_run *runs, size_t runs_lengt
 safebound_status safebound_append(const safebound_run *runs, size_t runs_length, const safebound_run *others,
                                   size_t others_length, safebound_run *into, size_t room, uint64_t *detail);
 
-/* The lesser of two lists. Of a list of the rows that satisfy condition A and a list of those that satisfy condition B, it is
-   a list of those that satisfy A AND B. The sum of its first r degrees is the lesser of the sums of the two lists' first r
-   degrees. (The lesser degree at each rank would be too low.)
+/* The lesser of two lists. If one list is of the rows that satisfy condition A, and the other of those that satisfy
+   condition B, the result is a list for A AND B. The sum of its first r degrees is the lesser of the sums of the two lists'
+   first r degrees. (The lesser degree at each rank would be too low.)
 
    SAFEBOUND_BAD_RUN          `detail` is the element of `runs`
    SAFEBOUND_BAD_OTHER_RUN    `detail` is the element of `others`
    SAFEBOUND_NO_MEMORY
-   SAFEBOUND_ROOM             at most three times as many as both lists have
+   SAFEBOUND_ROOM             at most three times as many runs as both lists have together
    SAFEBOUND_OK
 
    Example: (3, 2) and (4, 1), (1, 2) give (3, 1), (2, 1), (1, 1).
@@ -213,15 +217,15 @@ safebound_status safebound_append(const safebound_run *runs, size_t runs_length,
 safebound_status safebound_lesser(const safebound_run *runs, size_t runs_length, const safebound_run *others,
                                   size_t others_length, safebound_run *into, size_t room, uint64_t *detail);
 
-/* The greater of two lists, rank by rank. It dominates either. So of lists of the rows that have one value in a column and of
-   those that have another value, it is a list of the rows of any one of these values, whichever it is. For the rows of both
-   values together take safebound_append.
+/* The greater of two lists, rank by rank. It dominates all that either list dominates. If one list is of the rows with one
+   value in a column, and the other of those with another value, the result is a list for the rows of either value alone. For
+   the rows of both values together take safebound_append.
 
    SAFEBOUND_BAD_RUN          `detail` is the element of `runs`
    SAFEBOUND_BAD_OTHER_RUN    `detail` is the element of `others`
    SAFEBOUND_BAD_SUM          the greater degrees sum to more than 2^48; `detail` is that sum
    SAFEBOUND_NO_MEMORY
-   SAFEBOUND_ROOM             at most as many as both lists have
+   SAFEBOUND_ROOM             at most as many runs as both lists have together
    SAFEBOUND_OK
 
    Example: (3, 1), (1, 1) and (2, 2), (1, 1) give (3, 1), (2, 1), (1, 1).
@@ -230,8 +234,8 @@ safebound_status safebound_lesser(const safebound_run *runs, size_t runs_length,
 safebound_status safebound_greater(const safebound_run *runs, size_t runs_length, const safebound_run *others,
                                    size_t others_length, safebound_run *into, size_t room, uint64_t *detail);
 
-/* A list that is cut at a number of rows. It dominates any rows that the list dominates, if there are at most so many of
-   them. Its degrees are those of the list as far as they sum to that number, and then what is left of it.
+/* A list that is cut at a number of rows. It dominates any rows that the list dominates, if there are at most that many.
+   It has the list's degrees while their sum is within that number, and then one degree for the rest of the number.
 
    SAFEBOUND_BAD_RUN      `detail` is the element of `runs`
    SAFEBOUND_NO_MEMORY
@@ -244,31 +248,32 @@ safebound_status safebound_greater(const safebound_run *runs, size_t runs_length
 safebound_status safebound_cut(const safebound_run *runs, size_t runs_length, uint64_t rows, safebound_run *into,
                                size_t room, uint64_t *detail);
 
-/* The bounds of all sets of entries, in rows. A set is the number whose bit i is 1 where entry i is in it: of the n
-   entries there are 2^n sets, `into[set]` is its bound, and `into[0]` is 1.
+/* The bounds of all sets of entries, in rows. A set is a number whose bit i is 1 if entry i is in it. With n entries
+   there are 2^n sets: `into[set]` is the set's bound, and `into[0]` is 1.
 
-   `rows` has for each entry its row bound: the most rows that it may have. `lists` has for each column that an equality
-   names a list that dominates its values: any r different values stand in no more rows than the list's first r degrees sum
-   to. What safebound_degrees gives dominates, and so does what safebound_compress and safebound_append make of it.
+   `rows` has for each entry its row bound: the most rows that it may have. `lists` has a list for each column that an
+   equality names. The list must dominate the column's values: any r different values occur in no more rows than the list's
+   first r degrees sum to. The lists of safebound_degrees dominate, and so do those that safebound_compress and
+   safebound_append make of them.
 
-   If a list sums to more than the row bound, it is cut there: the list of a whole table serves for some of its rows. If it
-   sums to less, the other rows are taken for rows without a value (NULL), which join with nothing: in a set in which an
-   equality names the column, the entry has at most as many rows as the list sums to. So the entry counts there with the
-   least of these sums and of its row bound. Alone, or if no equality of the set names one of its columns, it counts with
-   its row bound. A list of a column that no equality names is checked and not used. Runs that no list has aren't looked at.
+   If a list sums to more than the row bound, it is cut there, so the list of a whole table serves for some of its rows. If
+   it sums to less, the other rows are taken for rows without a value (NULL), which join with nothing. In a set where an
+   equality names the column, the entry then has at most as many rows as the list sums to. The entry counts with the least
+   of these sums and of its row bound. If no equality of the set names one of its columns, it counts with its row bound. The
+   list of a column that no equality names is checked but not used. Runs that belong to no list aren't read.
 
-   Then the choices of one row of each entry of a set that satisfy all equalities between these entries are at most as
-   many as its bound says, or the bound is SAFEBOUND_NO_BOUND.
+   The bound is at least the number of choices, of one row from each entry of the set, that satisfy all equalities
+   between these entries. Or the bound is SAFEBOUND_NO_BOUND.
 
-   SAFEBOUND_BAD_ENTRIES       not from 1 to 12; `detail` is their number
+   SAFEBOUND_BAD_ENTRIES       not from 1 to SAFEBOUND_MOST_ENTRIES; `detail` is their number
    SAFEBOUND_BAD_ROWS          more than 2^48; `detail` is the element of `rows`
    SAFEBOUND_BAD_EQUALITIES    more than 256; `detail` is their number
-   SAFEBOUND_BAD_EQUALITY      an entry that isn't there, or one entry on both sides; `detail` is the element
-   SAFEBOUND_BAD_LIST          an entry that isn't there, no runs and no mark, runs that aren't there, or a column that has
-                               an earlier list; `detail` is the element of `lists`
-   SAFEBOUND_BAD_RUN           `detail` is the element of `runs`, of the first list that has a wrong one
+   SAFEBOUND_BAD_EQUALITY      an entry that doesn't exist, or one entry on both sides; `detail` is the element
+   SAFEBOUND_BAD_LIST          an entry that doesn't exist, a list without runs and without the mark, runs outside
+                               `runs`, or a second list of one column; `detail` is the element of `lists`
+   SAFEBOUND_BAD_RUN           `detail` is the element of `runs`, in the first list that has a wrong run
    SAFEBOUND_MISSING_LIST      a column without a list; `detail` is the element of `equalities`
-   SAFEBOUND_ROOM              2^n
+   SAFEBOUND_ROOM              2^n bounds
    SAFEBOUND_NO_MEMORY
    SAFEBOUND_OK
 
@@ -282,23 +287,24 @@ safebound_status safebound_cut(const safebound_run *runs, size_t runs_length, ui
            safebound_bounds(rows, 2, equalities, 1, lists, 2, runs, 3, bounds, 4, &detail);
        // SAFEBOUND_OK, and bounds are 1, 6, 5, 12
 
-   With the rows 6 and 100 the bounds are 1, 6, 100, 12: at most 5 of the 100 rows have a value, and may join. */
+   With the rows 6 and 100 the bounds are 1, 6, 100, 12: at most 5 of the 100 rows have a value and may join. */
 safebound_status safebound_bounds(const uint64_t *rows, size_t entries, const safebound_equality *equalities,
                                   size_t equalities_length, const safebound_list *lists, size_t lists_length,
                                   const safebound_run *runs, size_t runs_length, uint64_t *into, size_t room,
                                   uint64_t *detail);
 
-/* The same, if its work is within a limit. The work is counted before the first set is bounded, so that a call whose work
-   passes the limit ends at once.
+/* Like safebound_bounds, with a limit on the work. The work is counted before the first set is bounded, so a call whose
+   work exceeds the limit ends at once.
 
-   A set is looked at in as many turns as it has equalities, but in one at least and in 16 at most. The work of a turn is 1,
-   and 1 more for each run of both lists of each equality of the set. The work of a call is that of all turns of all sets.
-   It is a measure of the query, and no count of steps. Turns of a set that make the same columns equal are bounded once; if
-   the equalities close no cycle, these are all turns. And lists grow on their way along a chain.
+   Each set is bounded in as many turns as it has equalities, but in at least one and at most SAFEBOUND_MOST_TURNS. The
+   work of a turn is 1, and 1 more for each run of both lists of each equality of the set. The work of a call is that of
+   all turns of all sets. It measures the query, and doesn't count steps. Turns of a set that make the same columns equal
+   are bounded only once; if the equalities close no cycle, this holds for all turns. And lists grow along a chain of
+   joins.
 
-   The statuses are those of safebound_bounds, and between SAFEBOUND_ROOM and SAFEBOUND_NO_MEMORY
+   The statuses are those of safebound_bounds. Between SAFEBOUND_ROOM and SAFEBOUND_NO_MEMORY comes
 
-   SAFEBOUND_WORK              the work passes `limit`; `detail` is the work, or 2^64 - 1 where it is more
+   SAFEBOUND_WORK              the work exceeds `limit`; `detail` is the work, at most 2^64 - 1
 
    Example: the first query above has a work of 7.
 
@@ -310,13 +316,13 @@ safebound_status safebound_bounds_within(const uint64_t *rows, size_t entries, c
                                          const safebound_run *runs, size_t runs_length, uint64_t limit, uint64_t *into,
                                          size_t room, uint64_t *detail);
 
-/* The bound of one set of entries alone: what safebound_bounds writes at that set, in the time of that set. It is for a
-   planner that comes to sets one by one, and for one number for a whole query, whose set is 2^n - 1. At SAFEBOUND_OK
+/* The bound of one set of entries: the number that safebound_bounds writes for that set, in the time of that set alone. It
+   serves a planner that comes to sets one by one. It also bounds a whole query, whose set is 2^n - 1. At SAFEBOUND_OK
    `detail` is the bound.
 
-   The statuses are those of safebound_bounds but SAFEBOUND_ROOM, and before SAFEBOUND_NO_MEMORY
+   The statuses are those of safebound_bounds without SAFEBOUND_ROOM. Before SAFEBOUND_NO_MEMORY comes
 
-   SAFEBOUND_BAD_SET           an entry that isn't there; `detail` is the set
+   SAFEBOUND_BAD_SET           an entry that doesn't exist; `detail` is the set
 
    Example: in the first query above the bound of both entries is 12.
 
@@ -327,10 +333,9 @@ safebound_status safebound_set_bound(const uint64_t *rows, size_t entries, const
                                      size_t equalities_length, const safebound_list *lists, size_t lists_length,
                                      const safebound_run *runs, size_t runs_length, uint64_t set, uint64_t *detail);
 
-/* How many rows an outer join, a semi-join or an anti-join has at most. `inner` is a bound of the inner join of both sides by
-   the same condition; `left` and `right` are bounds of the sides. A side counts with all its rows: an outer join and an
-   anti-join keep rows that their own condition (ON) leaves out, also where it names that side alone. At SAFEBOUND_OK
-   `detail` is
+/* A bound of the rows of an outer join, a semi-join or an anti-join. `inner` is a bound of the inner join of both sides by
+   the same condition; `left` and `right` are bounds of the sides. They count all rows of a side: an outer join and an
+   anti-join keep rows that fail their own condition (ON), even where it names that side alone. At SAFEBOUND_OK `detail` is
 
        SAFEBOUND_LEFT_JOIN     inner + left
        SAFEBOUND_RIGHT_JOIN    inner + right
@@ -338,10 +343,10 @@ safebound_status safebound_set_bound(const uint64_t *rows, size_t entries, const
        SAFEBOUND_SEMI_JOIN     the lesser of inner and left
        SAFEBOUND_ANTI_JOIN     left
 
-   A sum of SAFEBOUND_NO_BOUND or more is answered as SAFEBOUND_NO_BOUND. As an argument this number says that no bound is
+   A sum of SAFEBOUND_NO_BOUND or more is returned as SAFEBOUND_NO_BOUND. As an argument this number says that no bound is
    known.
 
-   SAFEBOUND_BAD_JOIN_KIND     none of these; `detail` is the kind
+   SAFEBOUND_BAD_JOIN_KIND     no kind of join; `detail` is the kind
    SAFEBOUND_OK
 
    Example: if the inner join of 6 rows and 5 rows has at most 12 rows, the left join has at most 18.
@@ -349,19 +354,19 @@ safebound_status safebound_set_bound(const uint64_t *rows, size_t entries, const
        safebound_status status = safebound_joined_rows(SAFEBOUND_LEFT_JOIN, 12, 6, 5, &detail); */
 safebound_status safebound_joined_rows(uint64_t kind, uint64_t inner, uint64_t left, uint64_t right, uint64_t *detail);
 
-/* The best left-deep order over bounds of all sets, as safebound_bounds gives them: 2^n numbers, of which the first, that
-   of no entry, isn't looked at.
+/* The best left-deep order over bounds of all sets, as safebound_bounds gives them: 2^n numbers. The first, that of the
+   empty set, isn't read.
 
-   An order's levels are the bounds of its first entry, of its first two, and so on. The best order has the least greatest
-   level; among those the least sum of levels; and among those its entries' numbers come first in lexicographic order.
-   `into` gets its n levels.
+   An order's levels are the bounds of its first entry, of its first two entries, and so on. Its cost is its largest level.
+   The best order has the least cost. Of several such orders it has the least sum of levels, and of several such again, it
+   is the first by the numbers of its entries in lexicographic order. `into` gets its n levels.
 
-   SAFEBOUND_BAD_BOUNDS    not 2^n of them, for an n from 1 to 12; `detail` is their number
+   SAFEBOUND_BAD_BOUNDS    not 2^n of them, for an n from 1 to SAFEBOUND_MOST_ENTRIES; `detail` is their number
    SAFEBOUND_BAD_BUDGET    more than 2^59; `detail` is the budget
-   SAFEBOUND_ROOM          n
+   SAFEBOUND_ROOM          n levels
    SAFEBOUND_NO_MEMORY
-   SAFEBOUND_PAST_BITS     the greatest level of each order is SAFEBOUND_NO_BOUND
-   SAFEBOUND_BUDGET        the greatest level of the best order is above the budget; `detail` is that level
+   SAFEBOUND_PAST_BITS     the largest level of each order is SAFEBOUND_NO_BOUND
+   SAFEBOUND_BUDGET        the largest level of the best order is above the budget; `detail` is that level
    SAFEBOUND_OK
 
    Example: over the bounds 1, 2, 2, 9, 2, 5, 5, 6 of three entries the best order is 0, 2, 1 with the levels 2, 5, 6. With a
@@ -375,17 +380,17 @@ safebound_status safebound_order(const uint64_t *bounds, size_t bounds_length, u
 /* The best join tree of any shape over bounds of all sets.
 
    A tree's levels are the bounds of its joins; a tree of one entry has that entry's bound as its level. The best tree has
-   the least greatest level, and among those the least sum. Ties are decided from the root on: the least left set, as a
-   number, is best; then the left tree decides in the same way, and then the right one. Each left set has the first entry of
-   the set that it splits. `into` gets the tree's n - 1 joins: each stands behind those below it, left before right, and the
-   last one is the root.
+   the least largest level, and of several such trees the least sum. Ties are decided from the root on: the least left set,
+   as a number, is best; then the left tree decides in the same way, and then the right one. The left set of each join has
+   the first entry of the set that the join splits. `into` gets the tree's n - 1 joins: each join comes after those below it,
+   left before right, and the last one is the root.
 
-   SAFEBOUND_BAD_BOUNDS    not 2^n of them, for an n from 1 to 12; `detail` is their number
+   SAFEBOUND_BAD_BOUNDS    not 2^n of them, for an n from 1 to SAFEBOUND_MOST_ENTRIES; `detail` is their number
    SAFEBOUND_BAD_BUDGET    more than 2^59; `detail` is the budget
-   SAFEBOUND_ROOM          n - 1
+   SAFEBOUND_ROOM          n - 1 joins
    SAFEBOUND_NO_MEMORY
-   SAFEBOUND_PAST_BITS     the greatest level of each tree is SAFEBOUND_NO_BOUND
-   SAFEBOUND_BUDGET        the greatest level of the best tree is above the budget; `detail` is that level
+   SAFEBOUND_PAST_BITS     the largest level of each tree is SAFEBOUND_NO_BOUND
+   SAFEBOUND_BUDGET        the largest level of the best tree is above the budget; `detail` is that level
    SAFEBOUND_OK
 
    Example: over the bounds 1, 3, 3, 5, 3, 5, 5, 9 of three entries the best tree joins 1 with 2, at most 5 rows, and 0 with
@@ -396,20 +401,22 @@ safebound_status safebound_order(const uint64_t *bounds, size_t bounds_length, u
 safebound_status safebound_tree(const uint64_t *bounds, size_t bounds_length, uint64_t budget, safebound_join *into,
                                 size_t room, uint64_t *detail);
 
-/* How many bytes the buffers of SafeBound's own engine take for an order: a list of row numbers for each entry, linked rows for
-   each level, chains of the rows of each entry but the first, and the keys of the longest list. Each buffer counts with its
-   capacity times the size of an element, and each list of buffers with its own.
+/* How many bytes the buffers of SafeBound's own engine take for an order: a list of row numbers for each entry, pairs of
+   rows for each level but the first, chains of the rows of each entry but the first, the keys of the longest list that has
+   chains, and the entries below each node. The number is the sum, over all buffers and lists of buffers, of capacity times
+   the size of an element. An order is a join tree whose right nodes are entries: safebound_tree_memory gives the same
+   number for that tree.
 
    `rows` has for each entry its row bound, as for safebound_bounds; `levels` is what safebound_order wrote. At SAFEBOUND_OK
    `detail` is the number of bytes, which is the same on every machine.
 
-   SAFEBOUND_BAD_ENTRIES    not from 1 to 12; `detail` is their number
+   SAFEBOUND_BAD_ENTRIES    not from 1 to SAFEBOUND_ENGINE_ENTRIES; `detail` is their number
    SAFEBOUND_BAD_LEVELS     not as many as entries; `detail` is their number
-   SAFEBOUND_BAD_LEVEL      an entry that isn't there; `detail` is the element of `levels`
+   SAFEBOUND_BAD_LEVEL      an entry that doesn't exist; `detail` is the element of `levels`
    SAFEBOUND_PAST_BITS      2^64 bytes or more
    SAFEBOUND_OK
 
-   Example: entries of 6 and 5 rows, in the order 1, 0 with the levels 5 and 12, take 556 bytes.
+   Example: entries of 6 and 5 rows, in the order 1, 0 with the levels 5 and 12, take 531 bytes.
 
        uint64_t rows[] = {6, 5}, detail;
        safebound_level levels[] = {{1, 5}, {0, 12}};
@@ -417,10 +424,10 @@ safebound_status safebound_tree(const uint64_t *bounds, size_t bounds_length, ui
 safebound_status safebound_memory(const uint64_t *rows, size_t entries, const safebound_level *levels,
                                   size_t levels_length, uint64_t *detail);
 
-/* The same for a join tree: for each join pairs of rows and chains of its right node's rows, and the entries below each node.
-   `joins` is what safebound_tree wrote.
+/* The same number for a join tree. Each join has pairs of rows and chains of its right node's rows, and each node has its
+   list of entries. `joins` is what safebound_tree wrote.
 
-   SAFEBOUND_BAD_ENTRIES    not from 1 to 12; `detail` is their number
+   SAFEBOUND_BAD_ENTRIES    not from 1 to SAFEBOUND_ENGINE_ENTRIES; `detail` is their number
    SAFEBOUND_BAD_JOINS      not one fewer than entries; `detail` is their number
    SAFEBOUND_BAD_JOIN       a join of a node that isn't before it; `detail` is the element of `joins`
    SAFEBOUND_PAST_BITS      2^64 bytes or more
@@ -434,14 +441,14 @@ safebound_status safebound_memory(const uint64_t *rows, size_t entries, const sa
 safebound_status safebound_tree_memory(const uint64_t *rows, size_t entries, const safebound_join *joins,
                                        size_t joins_length, uint64_t *detail);
 
-/* The library's version as text, such as 0.3.0, with a 0 at its end, which counts for the room.
+/* The library's version as text, such as 0.3.0. A 0 byte ends it, and counts for the room.
 
    SAFEBOUND_ROOM
    SAFEBOUND_OK */
 safebound_status safebound_version(char *into, size_t room, uint64_t *detail);
 
-/* The text of a status, in English and without an end of line, such as "the room is too small". Of a number that is no
-   status it is "no status of this library". It is never NULL, and stays where it is. */
+/* The text of a status, in English and without an end of line, such as "the room is too small". For a number that is no
+   status it is "no status of this library". It is never NULL, and is never freed or changed. */
 const char *safebound_status_text(safebound_status status);
 
 #ifdef __cplusplus

@@ -1,22 +1,22 @@
 /* Memory for SafeBound's library, for programs that give it an allocator of their own.
 
-   libsafebound.a calls three functions for all of its memory, and has them itself, over malloc, as weak symbols. A program
-   that defines all three gets its own in their place: a planner's memory context, or a test's allocator that fails. In
+   libsafebound.a takes all its memory by three functions. It defines them over malloc, as weak symbols. A program that
+   defines all three replaces them, for example by a planner's memory context, or in a test by an allocator that fails. In
    libsafebound.so they are bound to malloc.
 
-   All three are of one allocator. Threads that call the library at the same time may call it at the same time. A call of
-   the library gives back all that it was given before it returns.
+   All three belong to one allocator. Threads that call the library at the same time may call it at the same time. The
+   library frees all memory of a call before the call returns.
 
-   Each function has to return to its caller: no longjmp, no exception of C++, no end of the thread. If there is too little
-   memory, it says so, and the call ends with SAFEBOUND_NO_MEMORY. A program that wants to jump does so then, when the call
-   has given everything back. A function may take locks of its own, and ask others for memory. */
+   Each function has to return to its caller: no longjmp, no C++ exception, no end of the thread. If there is too little
+   memory, it says so, and the call ends with SAFEBOUND_NO_MEMORY. A program that wants to jump does so after the call,
+   which has then freed everything. A function may take locks of its own, and may call other allocators. */
 
 #ifndef SAFEBOUND_MEMORY_H
 #define SAFEBOUND_MEMORY_H
 
 #include <stddef.h>
 
-/* bool, or in C89, which has none, the same byte: 0 or 1. */
+/* bool. C89 has no bool, so there it is a byte with the value 0 or 1. */
 #if defined(__cplusplus) || (defined(__STDC_VERSION__) && __STDC_VERSION__ >= 199901L)
 #include <stdbool.h>
 typedef bool rattle_given;
@@ -28,7 +28,7 @@ typedef unsigned char rattle_given;
 extern "C" {
 #endif
 
-/* What a request gives: `given` is 0 if there is too little memory, and `at` then isn't looked at. */
+/* The answer to a request: `given` is 0 if there is too little memory; `at` is then not read. */
 typedef struct rattle_memory {
     rattle_given given;
     void *at;
@@ -37,11 +37,11 @@ typedef struct rattle_memory {
 /* `size` bytes, aligned to `align`, which is a power of two up to 16. `at` isn't NULL, even for 0 bytes. */
 rattle_memory rattle_alloc(size_t size, size_t align);
 
-/* Makes the block at `at`, of `size` bytes, one of `new_size` bytes, perhaps at another place. If there is too little
-   memory, the old block stays as it was. */
+/* Resizes the block at `at` from `size` to `new_size` bytes, and may move it. If there is too little memory, the old block
+   is unchanged. */
 rattle_memory rattle_realloc(void *at, size_t size, size_t new_size, size_t align);
 
-/* Gives a block back. */
+/* Frees a block. */
 void rattle_dealloc(void *at);
 
 #ifdef __cplusplus

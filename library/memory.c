@@ -1,12 +1,12 @@
-/* The library's memory over malloc, in the archive and in the shared object. The functions are weak: a program's own
-   functions of these names take their place. malloc aligns to 16, the most that is asked for. */
+/* The library's memory over malloc, in the archive and in the shared object. The functions are weak, so a program's own
+   functions of these names replace them. malloc aligns to 16, and no caller asks for more. */
 #include "safebound_memory.h"
 
 #include <stdlib.h>
 
 #define WEAK __attribute__((weak))
 
-/* malloc(0) may answer NULL though there is memory. */
+/* malloc(0) may return NULL although there is memory. */
 static size_t at_least_one(size_t size) { return size > 0 ? size : 1; }
 
 WEAK rattle_memory rattle_alloc(size_t size, size_t align) {

@@ -1,7 +1,7 @@
 /* Admission: a query is refused before it runs if a join of its plan may have more rows than safebound.budget.
 
-   The hook of the planner stores in the plan what the bounds of its joins are computed from. Bounds are computed when the plan starts to
-   run, with the snapshot and the parameters of that run: a plan may be of an earlier snapshot, or be kept and run many times. */
+   The hook of the planner stores in the plan all that is needed to compute the bounds of its joins. They are computed when the plan starts
+   to run, with the snapshot and the parameters of that run: a plan may come from an earlier snapshot, or be cached and run many times. */
 #include "admit.h"
 
 #include "access/parallel.h"
@@ -23,7 +23,7 @@
 #include "utils/plancache.h"
 #include "utils/snapmgr.h"
 
-/* SB is a class of SQLSTATEs that the standard leaves to implementations. */
+/* The standard leaves the SQLSTATE class SB to implementations. */
 #define ERRCODE_BUDGET MAKE_SQLSTATE('S', 'B', '0', '0', '1')
 #define ERRCODE_UNBOUNDED MAKE_SQLSTATE('S', 'B', '0', '0', '2')
 
@@ -42,7 +42,7 @@ static const struct config_enum_entry unbounded_choices[] = {
 static int	budget;
 static int	unbounded;
 
-/* True while the extension opens a query of its own, by which it counts a table. Such a query isn't checked. */
+/* True while the extension runs a query of its own to count a table. Such a query isn't checked. */
 bool		admission_paused = false;
 
 static planner_hook_type planner_before;
@@ -58,7 +58,7 @@ typedef struct Call
 
 static Call *call;
 
-/* A plan that was cached while there was no budget holds nothing to compute bounds from, so all are planned again. */
+/* A plan that was cached while there was no budget lacks the data for its bounds. So all plans are made again. */
 static void
 on_budget(int changed, void *extra)
 {
@@ -106,14 +106,14 @@ on_planner(Query *parse, const char *text, int options, ParamListInfo parameters
 	return plan;
 }
 
-/* Whether a table is a catalog of the system or one of this extension's. */
+/* Whether a table is a system catalog or one of this extension's tables. */
 static bool
 is_exempt(Oid relation)
 {
 	return IsCatalogRelationOid(relation) || get_rel_namespace(relation) == get_namespace_oid("safebound", true);
 }
 
-/* Whether a plan reads tables, and only exempt ones. Such a plan is always admitted: psql makes some to describe a table. */
+/* Whether a plan reads tables and all of them are exempt. Such a plan is always admitted: psql makes some to describe a table. */
 static bool
 all_exempt(PlannedStmt *plan)
 {
@@ -156,7 +156,7 @@ names_of(PlannerInfo *root, List *join)
 	return names.data;
 }
 
-/* Why a relation of a join has no bound, and what would give it one; NULL where it has one. */
+/* Why a relation of a join has no bound, and how to give it one. NULL if it has a bound. */
 static char *
 why_entry(BoundedQuery *query, int relid)
 {
@@ -176,7 +176,7 @@ why_entry(BoundedQuery *query, int relid)
 	return why_not_known(entry->relid);
 }
 
-/* Why a join has no bound: by its first relation without one, or else by the limit that the join passes. */
+/* Why a join has no bound: its first relation without a bound, or else the limit that the join exceeds. */
 static char *
 why_unbounded(BoundedQuery *query, List *join, Relids relids)
 {
@@ -287,7 +287,7 @@ admit(QueryDesc *query)
 	MemoryContextDelete(own);
 }
 
-/* EXPLAIN without ANALYZE runs nothing, and what a parallel worker runs was checked in its leader. So neither is checked here. */
+/* EXPLAIN without ANALYZE runs nothing, and a parallel worker's query was checked in its leader. So neither is checked. */
 static void
 on_start(QueryDesc *query, int flags)
 {
@@ -321,7 +321,7 @@ apply_settings(void)
 		CommitTransactionCommand();
 }
 
-/* Whether a setting was given a value before it was defined, and that value was refused: it has its default now. */
+/* Whether a setting got a value before it was defined, and that value was refused. The setting then has its default. */
 static bool
 was_denied(const char *name, bool given)
 {
@@ -343,8 +343,8 @@ define_settings(void)
 							 NULL, &unbounded, UNBOUNDED_REFUSE, unbounded_choices, PGC_SUSET, 0, NULL, NULL, NULL);
 }
 
-/* Before the library is loaded, a session can begin with any value of these settings. When they are defined here, PostgreSQL refuses a value
-   that the user may not set. But that value has replaced what the role, the database or the server says, so these are applied again. */
+/* Before the library is loaded, a session can begin with any value of these settings. When they are defined here, PostgreSQL refuses a value that
+   the user may not set. But that value has replaced the value from the role, the database or the server, so these values are applied again. */
 static void
 define_guarded_settings(void)
 {

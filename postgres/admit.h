@@ -1,4 +1,4 @@
-/* Admission: which joins a plan has, what their bounds are computed from, and the refusal. */
+/* Admission: the joins of a plan, the data from which their bounds are computed, and the refusal. */
 #ifndef SAFEBOUND_ADMIT_H
 #define SAFEBOUND_ADMIT_H
 
@@ -6,7 +6,7 @@
 
 #include "nodes/plannodes.h"
 
-/* A join of a plan: the relations that it joins, by their numbers in one PlannerInfo; root is NULL if they aren't known. */
+/* A join of a plan: the relations that it joins, by their numbers in one PlannerInfo. If they aren't known, root is NULL. */
 typedef struct PlanJoin
 {
 	PlannerInfo *root;
@@ -17,7 +17,7 @@ typedef struct PlanJoin
 extern bool has_joins(PlannedStmt *plan);
 extern List *joins_of_plan(PlannedStmt *plan, List *roots);
 
-/* recipe.c: what bounds are computed from, kept with the plan */
+/* recipe.c: the data from which bounds are computed, stored in the plan */
 extern void put_recipe(PlannedStmt *plan, List *joins);
 extern List *recipe_of(PlannedStmt *plan);
 extern PlannerInfo *root_of_part(List *part, ParamListInfo parameters);

@@ -1,4 +1,4 @@
-/* safebound.bounds: the joins of a query's plan, each with its bound, PostgreSQL's estimate and the statistics that were used. */
+/* safebound.bounds: the joins of a query's plan, each with its bound, PostgreSQL's estimate and the statistics used. */
 #include "admit.h"
 
 #include "executor/executor.h"
@@ -49,7 +49,7 @@ put_columns(StringInfo into, const char *front, Oid relation, Bitmapset *columns
 	}
 }
 
-/* Which statistics a relation has in a join: its joined columns, and the columns whose conditions have lists. */
+/* The statistics of a relation in a join: its joined columns, and the columns whose conditions have lists. */
 static char *
 statistics_of(BoundedQuery *query, Relids relids, int relid)
 {
@@ -123,7 +123,7 @@ put_bounds(FunctionCallInfo fcinfo, const char *asked)
 	PlannedStmt *plan = plan_and_tell(analysed(asked), asked, &queries);
 	ListCell   *cell;
 
-	/* A user who may not run the query sees nothing of it. */
+	/* A user who may not run the query gets no information about it. */
 	ExecCheckRTPerms(plan->rtable, true);
 	foreach(cell, queries)
 		roots = lappend(roots, ((BoundedQuery *) lfirst(cell))->root);
@@ -138,7 +138,7 @@ put_bounds(FunctionCallInfo fcinfo, const char *asked)
 	}
 }
 
-/* Statistics stay in memory after the planning, since the bounds are computed from them only then. */
+/* Statistics stay in memory after planning, since the bounds are computed from them afterwards. */
 Datum
 safebound_bounds_of(PG_FUNCTION_ARGS)
 {

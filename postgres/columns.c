@@ -1,6 +1,6 @@
 /* Codes of columns: each column is sorted once, and each row gets the code of its value.
 
-   Along a foreign key the columns of the other table count as columns of this one: a row has the value of the row that it refers to. */
+   Along a foreign key, columns of the referred table count as columns of this one: each row has the values of the row that it refers to. */
 #include "counting.h"
 
 #include "access/genam.h"
@@ -37,14 +37,14 @@ numbered_values(Form_pg_attribute attribute)
 	return desc;
 }
 
-/* Which values are equal doesn't depend on the order. So if only equal bytes are equal values, they are sorted by bytes, which is faster. */
+/* Equal values don't depend on the sort order. If values are equal only when their bytes are, the sort compares bytes, which is faster. */
 Oid
 sort_collation(Oid collation)
 {
 	return OidIsValid(collation) && get_collation_isdeterministic(collation) ? C_COLLATION_OID : collation;
 }
 
-/* Whether the sort gives the column's own order, so that a part of the sorted values is a range. */
+/* Whether the sort uses the column's own order, so that consecutive sorted values form a range. */
 static bool
 keeps_order(Oid collation)
 {
@@ -74,7 +74,7 @@ put_value(Tuplesortstate *sort, TupleTableSlot *slot, Datum value, bool null, ui
 	tuplesort_puttupleslot(sort, slot);
 }
 
-/* Reads the column of all rows that the snapshot sees, always in the same order, and answers how many they are. */
+/* Reads the column of all rows that the snapshot sees, always in the same order. Returns the number of rows. */
 static uint32
 sort_rows(Relation relation, AttrNumber number, Tuplesortstate *sort, TupleTableSlot *put)
 {
@@ -96,22 +96,22 @@ sort_rows(Relation relation, AttrNumber number, Tuplesortstate *sort, TupleTable
 	return rows;
 }
 
-/* What is known of a column while its sorted values come. */
+/* The state of coding a column, while its sorted values arrive. */
 typedef struct Coding
 {
 	Column	   *column;
 	int			most_common;
 	int			most_leaves;
-	const uint32 *weights;		/* how many rows each counts for; NULL: one */
-	uint64		total;			/* of all weights */
+	const uint32 *weights;		/* how many rows each row counts for; NULL: one */
+	uint64		total;			/* the sum of all weights */
 	uint64		nulls;
-	uint64		passed;			/* of the rows of values that have ended */
-	uint64		count;			/* of the last value's rows */
+	uint64		passed;			/* the rows of all values before the last one */
+	uint64		count;			/* the rows of the last value so far */
 	Datum		last;
 	Sorted	   *by_row;
 } Coding;
 
-/* Keeps the most common values. A value takes the place of the least common one if it is more common. */
+/* Keeps the most common values. A more common value replaces the least common one. */
 static void
 note_common(Coding *coding)
 {
@@ -136,7 +136,7 @@ note_common(Coding *coding)
 	into->value = datumCopy(coding->last, column->attribute->attbyval, column->attribute->attlen);
 }
 
-/* Ends a leaf with the last value, if the leaves so far have their share of the rows. The last leaf gets its share with the last row. */
+/* Ends a leaf at the last value, once the leaves have their share of the rows. The last leaf reaches its share only at the last row. */
 static void
 note_leaf(Coding *coding)
 {
@@ -271,7 +271,7 @@ read_columns(Making *making)
 	}
 }
 
-/* The columns of a referred table, by their numbers, on which conditions are looked at along a reference to its key. */
+/* The columns of a referred table, by number, whose conditions can be used along a reference to its key. */
 static List *
 columns_beside(Relation referred, AttrNumber key)
 {
@@ -302,7 +302,7 @@ full_name(Relation relation)
 	return quote_qualified_identifier(get_namespace_name(RelationGetNamespace(relation)), RelationGetRelationName(relation));
 }
 
-/* A query for the columns of the rows to which the values of the referring column refer, in the order of these values' codes. */
+/* A query for columns of the referred rows, one row for each value of the referring column, in the order of these values' codes. */
 static char *
 query_along(const Making *making, const Column *along, Relation referred, const ForeignKeyCacheInfo *reference, List *numbers)
 {
@@ -345,7 +345,7 @@ open_own(const char *query)
 	return portal;
 }
 
-/* Puts each column of the query's rows into a sort of its own. Row 0 stands for NULL, which refers to nothing. */
+/* Puts each column of the query's rows into a sort of its own. Row 0 is for NULL, which refers to no row. */
 static void
 sort_referred(const char *query, int length, Tuplesortstate **sorts, TupleTableSlot **slots, uint32 rows)
 {
@@ -386,7 +386,7 @@ weights_of(const Making *making, const Column *column)
 	return weights;
 }
 
-/* The codes of a column of the other table become those of the rows that refer to it. */
+/* Turns the codes of a column of the referred table into codes of the rows that refer to it. */
 static void
 spread_codes(const Making *making, const Column *along, Column *column)
 {
@@ -404,7 +404,7 @@ spread_codes(const Making *making, const Column *along, Column *column)
 	pfree(map);
 }
 
-/* The columns of a table to which a column refers, as columns of the referring rows. */
+/* The columns of the table to which a column refers, as columns of the referring rows. */
 Column *
 referred_columns(const Making *making, const Column *along, ForeignKeyCacheInfo *reference, int *length)
 {

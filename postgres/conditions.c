@@ -1,4 +1,4 @@
-/* The lists of a relation under its own conditions. A condition that isn't understood leaves the list of all rows. */
+/* The lists of a relation under its own conditions. A condition that this code doesn't know leaves the list of all rows unchanged. */
 #include "statistics.h"
 
 #include "access/stratnum.h"
@@ -13,24 +13,24 @@
 #include "utils/pg_locale.h"
 #include "utils/typcache.h"
 
-/* IN and = ANY with more values are not looked at. */
+/* IN and = ANY with more values are ignored. */
 #define MOST_VALUES 1000
 
-/* Whose conditions are looked at, and which lists are taken for them: those of the relation itself, or of one that refers to it. */
+/* The relation whose conditions are used, and the relation that has the lists: the same one, or one that refers to it. */
 typedef struct Conditioned
 {
 	Oid			relation;
 	Index		entry;			/* the relation's number in the query */
-	const KeptTable *table;		/* that has the lists */
+	const KeptTable *table;		/* the table that has the lists */
 	AttrNumber	joined;
 	const Reference *reference; /* NULL: the relation has them itself */
 	Bitmapset **used;			/* the columns whose conditions had lists */
-	bool	   *loose;			/* set if a list may count more rows than pass: one of other values, or of one of several conditions */
+	bool	   *loose;			/* set if a list may count more rows than satisfy the conditions */
 } Conditioned;
 
 static bool list_of_clause(const Conditioned *of, Node *clause, DegreeList *list);
 
-/* The column of this relation that an expression is, below conversions that keep the bytes; 0 where it is none. */
+/* The column of this relation that an expression is, apart from conversions that keep the bytes; 0 if it isn't a column. */
 static AttrNumber
 column_of(const Conditioned *of, Node *node)
 {
@@ -47,8 +47,8 @@ pair_of(const Conditioned *of, AttrNumber column)
 	return kept_pair_along(of->table, of->joined, column, of->reference);
 }
 
-/* The operator family whose = said which values of a column are equal when it was counted, if under `collation` the same ones are equal;
-   else InvalidOid. */
+/* The operator family whose = decided which values of a column are equal when it was counted, if the values equal under `collation` are the same.
+   Otherwise InvalidOid. */
 Oid
 equality_family(Oid relation, AttrNumber column, Oid collation)
 {
@@ -63,7 +63,7 @@ equality_family(Oid relation, AttrNumber column, Oid collation)
 	return lookup_type_cache(type, TYPECACHE_BTREE_OPFAMILY)->btree_opf;
 }
 
-/* Whether an operator is the = that said which values are equal when the column was counted. */
+/* Whether an operator is the = by which equal values were found when the column was counted. */
 bool
 is_equality(Oid relation, AttrNumber column, Oid operator, Oid collation)
 {
@@ -81,7 +81,7 @@ typedef struct Range
 	int			last;			/* below `first`: the range is empty */
 } Range;
 
-/* The first leaf whose greatest value isn't before `value`, by the operator `before`; the number of leaves if there is none. */
+/* The first leaf whose greatest value isn't before `value`, by the operator `before`. If there is none, the number of leaves. */
 static int
 leaf_at(const KeptPair *pair, Oid before, Oid collation, Datum value)
 {
@@ -102,7 +102,7 @@ leaf_at(const KeptPair *pair, Oid before, Oid collation, Datum value)
 	return from;
 }
 
-/* Sets the range to the leaves with values that a comparison lets pass. `value` may be of another type than the column. */
+/* Narrows the range to the leaves with values that satisfy a comparison. `value` may have another type than the column. */
 static void
 set_range(Range *range, const KeptPair *pair, int strategy, Oid less, Oid less_equal, Oid collation, Datum value)
 {
@@ -162,7 +162,7 @@ range_of_comparison(const Conditioned *of, OpExpr *clause, Range *range)
 	return true;
 }
 
-/* How many bytes of a LIKE pattern stand before its first wildcard or escape. */
+/* How many bytes of a LIKE pattern come before its first wildcard or escape. */
 static int
 front_of(const char *pattern, int length)
 {
@@ -262,7 +262,7 @@ list_of_kind(const KeptPair *pair, ListKind kind)
 	return NULL;
 }
 
-/* The list of a value: its own where it is common, else the one for all others. */
+/* The list of a value: its own list if it is common, else the list of all other values. */
 static const KeptList *
 list_of_value(const KeptPair *pair, FmgrInfo *equal, Oid collation, bool column_left, Datum value)
 {
@@ -310,7 +310,7 @@ list_of_equality(const Conditioned *of, OpExpr *clause, DegreeList *list)
 	return true;
 }
 
-/* The sum of the lists of the values of an array. A common value that the array has twice counts once, any other value counts each time. */
+/* The sum of the lists of an array's values. A common value that occurs twice in the array counts once; any other value counts each time. */
 static bool
 sum_of_values(const Conditioned *of, const KeptPair *pair, ScalarArrayOpExpr *clause, ArrayType *array, DegreeList *list)
 {
@@ -376,7 +376,7 @@ list_of_null_test(const Conditioned *of, NullTest *test, DegreeList *list)
 	return true;
 }
 
-/* Adds a range. If there is one of the same column already, that one becomes what both have in common. */
+/* Adds a range. If the same column has a range already, that range becomes the intersection. */
 static void
 add_range(List **ranges, const Range *range)
 {
@@ -398,7 +398,7 @@ add_range(List **ranges, const Range *range)
 	*ranges = lappend(*ranges, known);
 }
 
-/* Lowers a list, which is of the `taken` conditions before, by the list of one more condition. */
+/* Lowers a list by the list of one more condition. `taken` says how many conditions the list already has. */
 static void
 add_list(const Conditioned *of, DegreeList *list, const DegreeList *one, int taken)
 {
@@ -406,7 +406,7 @@ add_list(const Conditioned *of, DegreeList *list, const DegreeList *one, int tak
 	*list = taken > 0 ? lesser(*list, *one) : *one;
 }
 
-/* AND: the lesser of the lists of the conditions that are understood. */
+/* AND: the lesser of the lists of the conditions that this code knows. */
 static bool
 list_of_all(const Conditioned *of, List *clauses, DegreeList *list)
 {
@@ -441,7 +441,7 @@ list_of_all(const Conditioned *of, List *clauses, DegreeList *list)
 	return taken > 0;
 }
 
-/* OR: the sum, where each side is understood. */
+/* OR: the sum, if this code knows both sides. */
 static bool
 list_of_any(const Conditioned *of, List *clauses, DegreeList *list)
 {
@@ -481,7 +481,7 @@ list_of_clause(const Conditioned *of, Node *clause, DegreeList *list)
 	return false;
 }
 
-/* The list of a joined column over the rows that pass the relation's own conditions. If joined is 0, only its number of rows counts. */
+/* The list of a joined column over the rows that satisfy the relation's own conditions. If joined is 0, only its number of rows is used. */
 DegreeList
 list_under(const KeptTable *table, RelOptInfo *rel, AttrNumber joined, Bitmapset **used)
 {
@@ -495,8 +495,8 @@ list_under(const KeptTable *table, RelOptInfo *rel, AttrNumber joined, Bitmapset
 	return with_deltas(table, joined, list);
 }
 
-/* The list of a joined column over the rows that refer to a row that passes the conditions of its relation. False if there is no list.
-   If the table is watched, the table that it refers to has to be unchanged: a change there may let other rows of this table pass. */
+/* The list of a joined column over the rows that refer to a row that satisfies the conditions of its relation. False if there is no list. If the
+   table is watched, the referred table has to be unchanged: after a change there, other rows of this table may satisfy the conditions. */
 bool
 list_along(const KeptTable *table, const Reference *reference, RelOptInfo *referred, AttrNumber joined, DegreeList *list, Bitmapset **used, bool *loose)
 {

@@ -1,4 +1,4 @@
-/* How a table's columns are counted: each value has a code, in the order of the column's sort, and lists are counted over codes. */
+/* How a table's columns are counted. Each value gets a code, in the order of the column's sort, and lists are counted over codes. */
 #ifndef SAFEBOUND_COUNTING_H
 #define SAFEBOUND_COUNTING_H
 
@@ -8,7 +8,7 @@
 #include "executor/tuptable.h"
 #include "utils/rel.h"
 
-/* sorted.c: sorts numbers below 2^63, in memory if that many fit, else in files. */
+/* sorted.c: sorts numbers below 2^63, in memory if `most` numbers fit, else in files. */
 typedef struct Sorted Sorted;
 extern Sorted *sorted_begin(uint64 most, int from, int bits);
 extern void sorted_put(Sorted *sorted, uint64 number);
@@ -38,24 +38,24 @@ typedef struct CommonValue
 	Datum		value;
 } CommonValue;
 
-/* A range of a column's values, which begins after the last value of the leaf before it. All leaves have about as many rows. */
+/* A range of a column's values. It begins after the last value of the leaf before it. All leaves have about the same number of rows. */
 typedef struct Leaf
 {
 	uint32		last;			/* the highest code */
-	uint64		end;			/* how many rows with a value come up to here */
+	uint64		end;			/* the rows with a value in this leaf and all before it */
 	Datum		greatest;
 } Leaf;
 
-/* A column by the codes of its rows; 0 is NULL. */
+/* A column, as the codes of its rows. Code 0 is NULL. */
 typedef struct Column
 {
 	AttrNumber	number;
 	Form_pg_attribute attribute;
 	bool		joined;
 	bool		filter;
-	const struct Column *along; /* for a column of a table that this one refers to: the referring column */
+	const struct Column *along; /* the referring column, if this is a column of a referred table */
 	Oid			referred;
-	AttrNumber	key;			/* the column that it refers to */
+	AttrNumber	key;			/* the column to which `along` refers */
 	Codes	   *codes;
 	uint32		highest;		/* the highest code */
 	int			common_length;
@@ -73,7 +73,7 @@ typedef struct Making
 	int			accuracy;
 	int			length;
 	Column	   *columns;
-	int64		lists;			/* how many were made */
+	int64		lists;			/* how many lists were made */
 } Making;
 
 /* columns.c */

@@ -1,4 +1,4 @@
-/* The lists of a joined column by a filter column: rows sorted by the codes of both, and counted. */
+/* Counts the lists of a joined column by a filter column: sorts the rows by the codes of both columns, and counts. */
 #include "counting.h"
 
 #include "miscadmin.h"
@@ -9,14 +9,14 @@
 /* Degrees below this one are counted in an array, without a search. */
 #define FEW 32
 
-/* How many keys have each degree. */
+/* How many keys there are of each degree. */
 typedef struct Degrees
 {
 	uint64		rows;
 	uint64		few[FEW];		/* the keys of each low degree */
 	int			length;
 	int			capacity;
-	safebound_run *runs;		/* the higher ones, the lowest degree first */
+	safebound_run *runs;		/* the keys of higher degrees, the lowest degree first */
 } Degrees;
 
 static void
@@ -26,7 +26,7 @@ empty(Degrees *degrees)
 	memset(degrees->few, 0, sizeof(degrees->few));
 }
 
-/* The place of a degree, or where it belongs. */
+/* The place of a degree among the runs, or the place where it would be inserted. */
 static int
 place_of(const Degrees *degrees, uint64 degree)
 {
@@ -66,7 +66,7 @@ add_high_degree(Degrees *degrees, uint64 degree)
 	degrees->length++;
 }
 
-/* Degree 0 isn't counted: it has no key. */
+/* Degree 0 is skipped, since no key has it. */
 static inline void
 add_degree(Degrees *degrees, uint64 degree)
 {
@@ -76,7 +76,7 @@ add_degree(Degrees *degrees, uint64 degree)
 		degrees->few[degree]++;
 }
 
-/* The same as a list, the greatest degree first. */
+/* The degrees as a list, the greatest degree first. */
 static DegreeList
 list_of_degrees(const Degrees *degrees)
 {
@@ -90,7 +90,7 @@ list_of_degrees(const Degrees *degrees)
 	return list;
 }
 
-/* Lists of one joined column by one filter column, as they are counted. */
+/* The lists of one joined column by one filter column, while they are counted. */
 typedef struct Counting
 {
 	Making	   *making;
@@ -126,7 +126,7 @@ put_kept_list(Counting *counting, ListKind kind, const Datum *value, DegreeList 
 	counting->making->lists++;
 }
 
-/* Raises a list to the greater degree at each rank. Its memory outlives the group's. */
+/* Raises a list to the greater degree at each rank. The memory of `into` outlives that of the group. */
 static void
 take_greatest(Counting *counting, DegreeList *into, const DegreeList *list)
 {
@@ -143,7 +143,7 @@ take_greatest(Counting *counting, DegreeList *into, const DegreeList *list)
 	MemoryContextSwitchTo(before);
 }
 
-/* The lists of one group: NULL's or a common value's own, or a part of the other values' list. */
+/* Stores the lists of one group: for NULL or a common value its own list, otherwise a part of the list of all other values. */
 static void
 put_group(Counting *counting, uint32 code, const Degrees *degrees, int *common)
 {
@@ -171,19 +171,19 @@ end_group(Counting *counting, uint32 code, const Degrees *degrees, int *common)
 	MemoryContextReset(counting->group);
 }
 
-/* The bits of a column's codes. */
+/* How many bits the codes of a column take. */
 static int
 bits_of(const Column *column)
 {
 	return column && column->highest ? pg_leftmost_one_pos32(column->highest) + 1 : 0;
 }
 
-/* The rows of a table in the order of their codes of a joined column. This order is made once for all filter columns. */
+/* The rows of a table, sorted by their codes of a joined column. This order is made once for all filter columns. */
 typedef struct Order
 {
 	const Column *joined;
-	uint32	   *ends;			/* by code: how many rows have it or a lower one */
-	uint32	   *rows;			/* NULL: the rows don't fit into the memory, and are sorted for each pair of columns */
+	uint32	   *ends;			/* by code: how many rows have this code or a lower one */
+	uint32	   *rows;			/* NULL: the rows don't fit in memory, and are sorted for each pair of columns */
 } Order;
 
 static bool
@@ -205,7 +205,7 @@ count_codes(const Making *making, const Column *column)
 	return counts;
 }
 
-/* Turns the number of rows of each code into the number of rows of lower codes. */
+/* Replaces the number of rows of each code by the number of rows of all lower codes. */
 static void
 sum_up(uint32 *counts, uint32 highest)
 {
@@ -237,7 +237,7 @@ order_rows(const Making *making, const Column *joined)
 	return order;
 }
 
-/* The codes of both columns of each row, in the order of the joined column's codes. */
+/* The pairs of codes of both columns, one for each row, in the order of the joined column's codes. */
 typedef struct Pairs
 {
 	const Order *order;
@@ -323,7 +323,7 @@ pairs_end(Pairs *pairs)
 		pfree(pairs->filter);
 }
 
-/* The leaf of the filter column's values that has a code. */
+/* The leaf of the filter column that has this code. */
 static int
 leaf_of(const Column *filter, uint32 code)
 {
@@ -342,15 +342,15 @@ leaf_of(const Column *filter, uint32 code)
 	return from;
 }
 
-/* Leaves and the nodes above them: each node has two of the level below, and the last one of a level may have one alone. */
+/* Leaves and the nodes above them. Each node has two children of the level below; the last node of a level may have only one. */
 typedef struct Nodes
 {
 	int			leaves;
-	int			length;			/* of all levels */
-	int		   *above;			/* the node above each one; -1 above the last */
+	int			length;			/* the number of nodes in all levels */
+	int		   *above;			/* the parent of each node; -1 for the root */
 	Degrees    *degrees;
-	uint64	   *counts;			/* how often the joined value stands in each node */
-	int		   *touched;		/* the nodes that it stands in */
+	uint64	   *counts;			/* how often the joined value occurs in each node */
+	int		   *touched;		/* the nodes in which it occurs */
 	int			touched_length;
 } Nodes;
 
@@ -365,7 +365,7 @@ touch_leaf(Nodes *nodes, int leaf, uint64 count)
 	}
 }
 
-/* Adds a joined value's degrees to the nodes that it stands in; NULL joins with nothing. */
+/* Adds a joined value's degrees to the nodes in which it occurs. NULL is skipped, since it joins with nothing. */
 static void
 end_joined(Nodes *nodes, uint32 joined)
 {
@@ -417,8 +417,8 @@ put_nodes(Counting *counting, const Nodes *nodes)
 					  list_of_degrees(&nodes->degrees[i]));
 }
 
-/* Pairs of codes with their counts, in one number: the filter column's code in the highest bits, then the joined one's, then the count.
-   A count that is too high for its bits is put as several numbers. */
+/* A pair of codes with its count, in one number: the filter column's code in the highest bits, then the joined column's code, then the count. If a
+   count needs more bits, it is split into several numbers. */
 typedef struct Counted
 {
 	Sorted	   *sorted;
@@ -437,7 +437,7 @@ put_counted(Counted *counted, uint32 joined, uint32 filter, uint32 count)
 	sorted_put(counted->sorted, pair | count);
 }
 
-/* Goes through the rows in the order of the joined column. Counts for the nodes of ranges, and puts counted pairs into a sort by the filter. */
+/* Goes through the rows in the order of the joined column. Counts for the nodes of ranges, and sorts the counted pairs by the filter column. */
 static void
 count_pairs(Counting *counting, const Order *order, Counted *counted, Nodes *nodes)
 {
@@ -469,7 +469,7 @@ count_pairs(Counting *counting, const Order *order, Counted *counted, Nodes *nod
 	pairs_end(&pairs);
 }
 
-/* One list for each code of the filter column, and one for NULL even if no row has it. Without a filter column all rows are one group. */
+/* Makes one list for each code of the filter column, and one for NULL even if no row has NULL. Without a filter column, all rows are one group. */
 static void
 put_groups(Counting *counting, Counted *counted)
 {
@@ -512,7 +512,7 @@ counted_begin(const Counting *counting)
 	return counted;
 }
 
-/* Without a joined column: how many rows have each code. */
+/* If there is no joined column: counts the rows of each code. */
 static void
 put_row_counts(Counting *counting)
 {
@@ -564,7 +564,8 @@ keep_pair(Making *making, const Order *order, const Column *filter)
 	MemoryContextDelete(pair);
 }
 
-/* Keeps the lists of a joined column by all filter columns; if it is NULL, only numbers of rows. Without filter columns: the list of all rows. */
+/* Stores the lists of a joined column by all filter columns, or, if it is NULL, only numbers of rows. Without filter columns: the list of
+   all rows. */
 static void
 keep_joined(Making *making, const Column *joined, const Column *filters, int length)
 {

@@ -1,7 +1,7 @@
-/* Rows that came: written by triggers as one delta for each statement, and added to the lists by whoever reads them.
+/* Rows that came after a table was counted. Triggers write one delta for each statement, and readers add the deltas to the lists.
 
-   Deltas are inserted, and never changed. Counting the table anew deletes those that its snapshot sees. So a snapshot that sees a row sees
-   it counted in the lists or in a delta, since both come with the same commit. */
+   Deltas are inserted, and never changed. When the table is counted again, the deltas that its snapshot sees are deleted. So if a snapshot
+   sees a row, the row is counted in the lists or deltas that it sees, since both are committed together. */
 #include "watch.h"
 
 #include "access/genam.h"
@@ -18,7 +18,7 @@
 #include "utils/rel.h"
 #include "utils/snapmgr.h"
 
-/* A sum may have as many runs as all its lists. If it has more than this, it is compressed. */
+/* A sum may have as many runs as all its lists together. If it has more than this number, it is compressed. */
 #define MANY_RUNS 64
 
 static Datum *
@@ -47,7 +47,7 @@ array_numbers(Datum array)
 	return numbers;
 }
 
-/* The referred tables of an array, which has three numbers for each. */
+/* The referred tables in an array, which has three numbers for each table. */
 static List *
 array_referred(Datum array)
 {
@@ -95,7 +95,7 @@ read_seen(Relation tables, HeapTuple tuple, Seen *seen)
 		seen->referred = array_referred(row[TABLE_REFERRED - 1]);
 }
 
-/* What a snapshot sees of a table in kept_table; with NULL, what stands there now. False if the table isn't kept. */
+/* Reads the row of a table in kept_table that a snapshot sees; with NULL, the row as it is now. Returns false if the table isn't kept. */
 bool
 see_table(Oid relation, Snapshot snapshot, Seen *seen)
 {
@@ -120,7 +120,7 @@ see_table(Oid relation, Snapshot snapshot, Seen *seen)
 	return found;
 }
 
-/* The kept tables to which a statement on `source` may bring rows, as of now; if `source` is InvalidOid, all kept tables. */
+/* The kept tables that may get rows from a statement on `source`, as of now. If `source` is InvalidOid, all kept tables. */
 List *
 followers_of(Oid source)
 {
@@ -159,7 +159,7 @@ number_of(Relation deltas, HeapTuple tuple, int column)
 	return DatumGetInt64(heap_getattr(tuple, column, RelationGetDescr(deltas), &null));
 }
 
-/* Whether there are rows that came without being counted. */
+/* Whether the table has a mark of rows that came without being counted. */
 bool
 has_mark(Oid relation, Snapshot snapshot)
 {
@@ -189,8 +189,8 @@ count_deltas(Oid relation, Snapshot snapshot)
 	return count;
 }
 
-/* The tables that a table refers to and that are unchanged since it was counted. While a table has one version, deltas are only added, so
-   if there are as many as then, they are the same ones. */
+/* The tables to which a table refers and that haven't changed since it was counted. While a table has one version, deltas are only added. So if the
+   number of deltas is the same, the deltas are. */
 List *
 unchanged_references(const Seen *seen, Snapshot snapshot)
 {
@@ -218,7 +218,7 @@ list_at(Deltas *deltas, AttrNumber number)
 	return NULL;
 }
 
-/* The list of a column for which a delta has none: all its rows may have one value. */
+/* The list of a column for which a delta has no list. All its rows may have one value. */
 static DegreeList
 one_value(uint64 rows)
 {
@@ -267,7 +267,7 @@ add_delta(Deltas *sums, const Seen *seen, Relation deltas, HeapTuple tuple)
 		*list_at(sums, number) = short_sum(*list_at(sums, number), one_value(rows), seen->accuracy);
 }
 
-/* The deltas that a snapshot sees, without their lists. */
+/* The ids of the deltas that a snapshot sees, without their lists. */
 static Deltas *
 read_ids(const Seen *seen, Relation deltas, Snapshot snapshot)
 {
@@ -309,8 +309,8 @@ same_ids(const Deltas *one, const Deltas *other)
 	return one && one->length == other->length && memcmp(one->ids, other->ids, one->length * sizeof(int64)) == 0;
 }
 
-/* The sum of the deltas that a snapshot sees, in a memory context of its own below the current one. If `known` is already the sum of the
-   same deltas, it is answered. */
+/* The sum of the deltas that a snapshot sees, in a memory context of its own below the current one. If `known` is the sum of the same deltas, it is
+   returned. */
 Deltas *
 see_deltas(const Seen *seen, Snapshot snapshot, Deltas *known)
 {
@@ -331,7 +331,7 @@ see_deltas(const Seen *seen, Snapshot snapshot, Deltas *known)
 	return known;
 }
 
-/* A list of a table with the rows that came since. */
+/* A table's list, with the rows that came later. */
 DegreeList
 with_deltas(const KeptTable *table, AttrNumber joined, DegreeList list)
 {
@@ -346,7 +346,7 @@ with_deltas(const KeptTable *table, AttrNumber joined, DegreeList list)
 	return all;
 }
 
-/* Inserts into the heap directly, since a user who writes to a table has no rights on the extension's tables. */
+/* Inserts into the heap directly, since a user who may write to a table has no rights on the extension's tables. */
 void
 write_delta(Oid relation, int64 rows, StringInfo lists)
 {
@@ -365,7 +365,7 @@ write_delta(Oid relation, int64 rows, StringInfo lists)
 	table_close(deltas, NoLock);
 }
 
-/* Deletes the deltas that a snapshot sees: what they count is counted by now. */
+/* Deletes the deltas that a snapshot sees. Their rows are now counted in the lists. */
 void
 delete_deltas(Oid relation, Snapshot snapshot)
 {

@@ -17,7 +17,7 @@
 /* The weight of a bound in the mean for a join of two relations (rows_by_mode). */
 #define WEIGHT_OF_TWO 0.25
 
-/* Whether one of both relations is on the right side of a semi- or anti-join, which makes no rows. */
+/* Whether one of the two relations is on the right side of a semi- or anti-join. Such a side adds no rows. */
 static bool
 is_in_semi_join(BoundedQuery *query, const Carried *carried)
 {
@@ -34,8 +34,8 @@ is_in_semi_join(BoundedQuery *query, const Carried *carried)
 	return false;
 }
 
-/* The share of the referring rows whose referred row passes the conditions, divided by the share of the referred relation's own rows that
-   pass. PostgreSQL takes both shares for equal. */
+/* The share of referring rows whose referred row satisfies the conditions, divided by the share of the referred relation's own rows that do.
+   PostgreSQL takes both shares for equal. */
 static double
 share_along(BoundedQuery *query, Carried *carried)
 {
@@ -82,7 +82,7 @@ static get_relation_stats_hook_type relation_stats_before;
 typedef struct CountedStatistics
 {
 	bool		looked;
-	bool		may_tell;		/* whether who asks may read the column */
+	bool		may_tell;		/* whether the current user may read the column */
 	HeapTuple	tuple;			/* NULL where there is none */
 } CountedStatistics;
 
@@ -95,8 +95,8 @@ entry_asked_for(BoundedQuery *query, const RangeTblEntry *asked)
 	return NULL;
 }
 
-/* The share of a column's rows that is found for one value on average, if each value is looked for once, or with `as_often` as often as it
-   stands there. 0 if no row has a value. */
+/* The average share of a column's rows that one value finds. Each value is looked up once, or, with `as_often`, as often as it occurs. 0 if no row
+   has a value. */
 static double
 share_of_value(const DegreeList *list, bool as_often)
 {
@@ -115,9 +115,8 @@ share_of_value(const DegreeList *list, bool as_often)
 	return as_often ? squares / (rows * rows) : 1 / values;
 }
 
-/* ANALYZE looks at a sample, and often finds far too few distinct values. Then their number is computed from the counted list. PostgreSQL
-   takes all values for equally frequent. So the number is chosen for the rows that are found for one value: a mean of both shares of
-   share_of_value. */
+/* ANALYZE reads a sample, and often finds far too few distinct values. Then their number is computed from the counted list. PostgreSQL assumes that
+   all values are equally frequent. So the number is chosen to match the rows found for one value: a mean of both shares of share_of_value. */
 static void
 set_distinct_values(Form_pg_statistic statistics, const DegreeList *list)
 {
@@ -125,7 +124,7 @@ set_distinct_values(Form_pg_statistic statistics, const DegreeList *list)
 	double		share = pow(once, 1 - WEIGHT_OF_TWO) * pow(share_of_value(list, true), WEIGHT_OF_TWO);
 	double		told = statistics->stadistinct < 0 ? -statistics->stadistinct * list->rows : statistics->stadistinct;
 
-	/* If there are many values, further rows bring further ones. So their number is given as a part of the rows, as ANALYZE does. */
+	/* If there are many values, later rows bring new ones. So the number is given as a fraction of the rows, as ANALYZE does. */
 	if (once > 0 && told < 0.95 / once)
 		statistics->stadistinct = share * list->rows < 10 ? -1 / share / list->rows : 1 / share;
 }
@@ -140,7 +139,7 @@ counted_statistics(const RangeTblEntry *asked, AttrNumber column, const DegreeLi
 	return HeapTupleIsValid(tuple) ? tuple : NULL;
 }
 
-/* What PostgreSQL checks itself if no hook gives it statistics. */
+/* Whether the current user may read the column. PostgreSQL checks this itself if no hook gives it statistics. */
 static bool
 may_read(const RangeTblEntry *entry, AttrNumber column)
 {
@@ -160,7 +159,7 @@ look_at_statistics(const Entry *entry, const RangeTblEntry *asked, AttrNumber co
 	};
 }
 
-/* They are kept while the query is planned, since PostgreSQL asks for them again and again. */
+/* The statistics of a column. They are cached while the query is planned, since PostgreSQL asks for them many times. */
 static CountedStatistics *
 statistics_asked_for(BoundedQuery *query, const RangeTblEntry *asked, AttrNumber column)
 {
@@ -183,7 +182,7 @@ keep_tuple(HeapTuple tuple)
 {
 }
 
-/* Gives PostgreSQL the counted numbers of distinct values. By these it estimates rows of joins, and costs of scans that are repeated for
+/* Gives PostgreSQL the counted numbers of distinct values. PostgreSQL uses them to estimate rows of joins, and costs of scans that are repeated for
    each row of another relation. */
 static bool
 on_relation_stats(PlannerInfo *root, RangeTblEntry *entry, AttrNumber column, VariableStatData *data)
@@ -208,8 +207,8 @@ whole_list(BoundedQuery *query, Var *var)
 	return pair ? &pair->lists[0].list : NULL;
 }
 
-/* The share of rows that an index finds by the column `looked` for a value of the column `looking`. If `looking` is unique, each value is
-   looked for once. If it is the same column, each is looked for as often as it stands there. Otherwise 0: PostgreSQL's number stays. */
+/* The share of rows that an index on the column `looked` finds for a value of the column `looking`. If `looking` is unique, each value is looked up
+   once. If both are one column, each value is looked up as often as it occurs. Otherwise 0, and PostgreSQL's number is unchanged. */
 static double
 share_found(BoundedQuery *query, Var *looked, Var *looking)
 {
@@ -243,7 +242,7 @@ share_of_scan(BoundedQuery *query, const IndexPath *path)
 	return left->varno == (int) path->indexinfo->rel->relid ? share_found(query, left, right) : share_found(query, right, left);
 }
 
-/* Costs of a B-tree scan, corrected if it is repeated for each row of other relations. */
+/* The cost of a B-tree scan, corrected if the scan is repeated for each row of other relations. */
 static void
 cost_btree(PlannerInfo *root, IndexPath *path, double loops, Cost *startup, Cost *total, Selectivity *selectivity, double *correlation, double *pages)
 {

@@ -1,8 +1,8 @@
 /* The triggers of tables that are watched.
 
-   A statement trigger counts the rows that a statement wrote. From the statement's beginning until then the table isn't known to this
-   backend, since a query within the statement may see rows that aren't counted yet; other backends don't see them before the commit.
-   For rows that a replica applies only row triggers run: they mark the table as not known. */
+   A statement trigger counts the rows that a statement wrote. From the beginning of the statement until then, the table is unknown to this
+   backend, since a query within the statement may see rows that aren't counted yet. Other backends don't see them before the commit.
+   For rows that a replica applies, only row triggers run. They mark the table as unknown. */
 #include "watch.h"
 
 #include "access/xact.h"
@@ -22,7 +22,7 @@
 
 PG_FUNCTION_INFO_V1(safebound_follow);
 
-/* A statement that began to write to a table and wasn't counted yet. */
+/* A statement that has begun to write to a table and hasn't been counted yet. */
 typedef struct Writing
 {
 	Oid			source;
@@ -57,7 +57,7 @@ end_writing(Oid source)
 	}
 }
 
-/* Whether a statement of this backend is in the middle of writing to a table. */
+/* Whether a statement of this backend is writing to a table. */
 bool
 is_writing(const Seen *seen)
 {
@@ -79,7 +79,7 @@ on_transaction_end(XactEvent event, void *argument)
 	}
 }
 
-/* Statements of a subtransaction that is rolled back write no more. */
+/* Statements of a subtransaction that was rolled back aren't writing any more. */
 static void
 on_subtransaction_end(SubXactEvent event, SubTransactionId mine, SubTransactionId parent, void *argument)
 {
@@ -98,14 +98,14 @@ on_subtransaction_end(SubXactEvent event, SubTransactionId mine, SubTransactionI
 	}
 }
 
-/* Whether a table is a part of a partitioned one. */
+/* Whether a table is a part of a partitioned table. */
 bool
 is_part_of(Oid relation, Oid whole)
 {
 	return get_rel_relispartition(relation) && list_member_oid(get_partition_ancestors(relation), whole);
 }
 
-/* Marks that rows came which aren't counted. */
+/* Marks that a table got rows which aren't counted. */
 void
 mark_not_counted(Oid relation)
 {
@@ -115,11 +115,11 @@ mark_not_counted(Oid relation)
 	write_delta(relation, NOT_COUNTED, &none);
 }
 
-/* The table to which a replica applied rows last, so that marks aren't written for each row. */
+/* The table to which a replica applied rows last. With it, marks aren't written for each row. */
 static Oid	applied_relation;
 static TransactionId applying_transaction;
 
-/* Marks that rows came to a table, and so to the tables that it is a part of. One mark in a (sub)transaction is enough. */
+/* Marks that a table got rows, and so did the tables of which it is a part. One mark in a (sub)transaction is enough. */
 static void
 mark_applied(Oid relation)
 {
@@ -138,23 +138,23 @@ mark_applied(Oid relation)
 	applying_transaction = GetCurrentTransactionId();
 }
 
-/* Counting a table deletes its marks, so rows that are applied later have to mark it again. */
+/* Counting a table deletes its marks. So rows that are applied later have to mark it again. */
 void
 marks_are_gone(void)
 {
 	applied_relation = InvalidOid;
 }
 
-/* The rows that a statement wrote to a table, to one that it inherits from, or to a part of it. */
+/* The rows that a statement wrote to the table, to a table from which it inherits, or to a part of it. */
 typedef struct NewRows
 {
 	const Seen *seen;			/* the table */
-	Oid			written;		/* what the statement names */
+	Oid			written;		/* the table that the statement names */
 	TupleDesc	desc;
 	Tuplestorestate *rows;
 	TupleTableSlot *slot;
 	uint64		length;
-	bool	   *counts;			/* by row: whether it counts; NULL: all count */
+	bool	   *counts;			/* by row: whether the row counts; NULL: all rows count */
 	uint64		counted;
 } NewRows;
 
@@ -165,7 +165,7 @@ rewind_rows(Tuplestorestate *rows)
 	tuplestore_rescan(rows);
 }
 
-/* The column of the new rows that is column `number` of the table; NULL if there is none. A part may have its columns in another order. */
+/* The column of the new rows that is column `number` of the table, or NULL. A part may have its columns in another order. */
 static Form_pg_attribute
 column_of(const NewRows *new, AttrNumber number)
 {
@@ -176,7 +176,7 @@ column_of(const NewRows *new, AttrNumber number)
 	return attribute && !attribute->attisdropped ? attribute : NULL;
 }
 
-/* Whether an updated row has the same values as before in all columns that are kept. */
+/* Whether an updated row keeps its values in all counted columns. */
 static bool
 same_values(const NewRows *new, TupleTableSlot *one, TupleTableSlot *other)
 {
@@ -202,8 +202,8 @@ same_values(const NewRows *new, TupleTableSlot *one, TupleTableSlot *other)
 	return same;
 }
 
-/* An update that changes no kept column adds nothing. Old and new rows stand in the same order, unless some were lost on their way to
-   another partition: then all new ones count. */
+/* An update that changes no counted column adds nothing. Old and new rows have the same order, unless some rows moved to another partition; then
+   all new rows count. */
 static void
 leave_unchanged(NewRows *new, Tuplestorestate *old_rows)
 {
@@ -226,7 +226,7 @@ leave_unchanged(NewRows *new, Tuplestorestate *old_rows)
 	ExecDropSingleTupleTableSlot(old);
 }
 
-/* Puts the column's values of the rows that count into a sort, and answers how many there are. */
+/* Puts the column's values in the rows that count into a sort. Returns their number. */
 static uint64
 sort_values(NewRows *new, AttrNumber number, Tuplesortstate *sort)
 {
@@ -292,7 +292,7 @@ list_of_column(NewRows *new, Form_pg_attribute attribute)
 	return list;
 }
 
-/* One row is the most frequent case: its value stands once, or it has none. */
+/* The list for a single row, the most frequent case: its value occurs once, or it has no value. */
 static DegreeList
 list_of_one(NewRows *new, AttrNumber number)
 {
@@ -319,7 +319,8 @@ put_column(StringInfo into, NewRows *new, AttrNumber number)
 	put_list(into, &list);
 }
 
-/* Writes the delta of a table for the rows of a statement on the table itself, on one that it inherits from, or on a part of it. */
+/* Writes the delta of a table for a statement's rows. The statement is on the table itself, on a table from which it inherits, or on a part
+   of it. */
 static void
 count_rows(const Seen *seen, TriggerData *trigger)
 {
@@ -334,7 +335,7 @@ count_rows(const Seen *seen, TriggerData *trigger)
 	if (own && new.length > 0 && trigger->tg_oldtable)
 		leave_unchanged(&new, trigger->tg_oldtable);
 	initStringInfo(&lists);
-	/* It isn't known which rows of a table above are this one's, so their delta has no lists. */
+	/* It isn't known which rows of the inherited-from table belong to this table, so their delta has no lists. */
 	while (own && new.counted > 0 && (number = bms_next_member(seen->joined, number)) >= 0)
 		put_column(&lists, &new, number);
 	if (new.counted > 0)

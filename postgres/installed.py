@@ -1,7 +1,7 @@
-"""A PostgreSQL with the extension. The machine's own PostgreSQL stays as it is: its programs are copied into a folder,
+"""A PostgreSQL with the extension. The machine's own PostgreSQL is unchanged: its programs are copied into a folder,
 and the rest is linked there.
 
-PostgreSQL finds its folders from the place of its program, so a copy of the program has extensions of its own.
+PostgreSQL finds its folders relative to its program, so a copy of the program has its own extensions.
 """
 
 from __future__ import annotations
@@ -19,7 +19,7 @@ from server import Alone, programs
 
 __all__ = ("SETTINGS", "Alone", "Installed", "lay_server", "missing", "programs")
 
-# What tests need of a server: plans don't depend on the compiler, and each session has the extension.
+# Settings of a test server: plans don't depend on the compiler, and each session loads the extension.
 SETTINGS = ("session_preload_libraries=safebound", "jit=off")
 
 
@@ -28,7 +28,7 @@ def pg_config(word: str) -> str:
 
 
 def missing() -> str | None:
-    """What tests need and isn't installed; None if all of it is."""
+    """The packages that tests need and that aren't installed; None if all are."""
     if not shutil.which("pg_config") or not importlib.util.find_spec("psycopg"):
         return "pg_config or psycopg"
     if not pg_config("--version").startswith("PostgreSQL 15"):
@@ -67,7 +67,7 @@ def install() -> None:
 
 
 class Installed(Alone):
-    """A server with the extension that starts on entering, and is gone on leaving."""
+    """A server with the extension for a `with`. It starts on entering, and is removed on leaving."""
 
     def __init__(self, settings: tuple[str, ...] = ()) -> None:
         self.root = tempfile.mkdtemp(prefix="safebound-installed-")

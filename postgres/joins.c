@@ -1,4 +1,4 @@
-/* Bounds, by the library, of the rows of sets of relations and of joins. A join may have outer, semi- and anti-joins in it. */
+/* Bounds of the rows of sets of relations and of joins, by the library. A join may include outer, semi- and anti-joins. */
 #include "planning.h"
 
 #include "catalog/pg_class.h"
@@ -8,14 +8,14 @@
 #include "port/pg_bitutils.h"
 #include "utils/lsyscache.h"
 
-/* A list of more runs is compressed before it is joined, since a plan waits for its bounds. */
+/* A list with more runs is compressed before it is joined, since planning waits for the bounds. */
 #define MOST_RUNS 48
 #define PLANNING_ACCURACY 6
 
-/* Only so many relations of one query can be known, since a set of them is a number of 64 bits. */
+/* A query can have at most this many known relations, since a set of them is a number of 64 bits. */
 #define MOST_KNOWN 64
 
-/* An expression as a column of this query, with changes of type alone taken off; NULL if it isn't one. */
+/* The column of this query that an expression is, apart from mere changes of type. NULL if it isn't a column. */
 Var *
 var_of(Expr *expression)
 {
@@ -26,21 +26,21 @@ var_of(Expr *expression)
 	return NULL;
 }
 
-/* What is known of a relation; NULL if nothing is. */
+/* The statistics of a relation, or NULL. */
 Entry *
 entry_of(BoundedQuery *query, int relid)
 {
 	return relid > 0 && relid < query->root->simple_rel_array_size && query->entries[relid].table ? &query->entries[relid] : NULL;
 }
 
-/* A list grows with each condition that it is made under, so a long one is compressed. */
+/* A list gets longer with each condition, so a long list is compressed. */
 static DegreeList
 shortened(DegreeList list)
 {
 	return list.length > MOST_RUNS ? compressed(list, PLANNING_ACCURACY) : list;
 }
 
-/* The place of a joined column in `columns`, to which a new one is added; -1 if no list of it is kept. */
+/* The place of a joined column in `columns`; a new column is added. -1 if no list of it is kept. */
 static int
 joined_column(BoundedQuery *query, Var *var)
 {
@@ -61,7 +61,7 @@ joined_column(BoundedQuery *query, Var *var)
 	return query->columns_length++;
 }
 
-/* Adds the columns of an equivalence class of PostgreSQL's as equal ones. */
+/* Adds the columns of one of PostgreSQL's equivalence classes as equal columns. */
 static void
 add_class(BoundedQuery *query, EquivalenceClass *class)
 {
@@ -86,7 +86,7 @@ add_class(BoundedQuery *query, EquivalenceClass *class)
 		query->equalities = lappend(query->equalities, equal);
 }
 
-/* Adds an equality that is in no equivalence class, as one of an outer join's ON. */
+/* Adds an equality that is in no equivalence class, such as one in an outer join's ON. */
 static void
 add_clause(BoundedQuery *query, RestrictInfo *info)
 {
@@ -110,7 +110,7 @@ add_clause(BoundedQuery *query, RestrictInfo *info)
 		query->equalities = lappend(query->equalities, equal);
 }
 
-/* PostgreSQL lists a clause at both of its relations. It is added at the one with the lower number. */
+/* PostgreSQL lists a clause at both of its relations. It is added only at the relation with the lower number. */
 static void
 add_clauses(BoundedQuery *query, RelOptInfo *rel)
 {
@@ -125,7 +125,7 @@ add_clauses(BoundedQuery *query, RelOptInfo *rel)
 	}
 }
 
-/* Adds a reference of one relation to another along an equality, if the other has conditions and lists are kept for the reference. */
+/* Adds a reference of one relation to another along an equality, if the referred relation has conditions and lists are kept for the reference. */
 static void
 add_carried(BoundedQuery *query, const EqualColumns *equal, const JoinedColumn *along, const JoinedColumn *key)
 {
@@ -141,7 +141,7 @@ add_carried(BoundedQuery *query, const EqualColumns *equal, const JoinedColumn *
 	query->carried = lappend(query->carried, carried);
 }
 
-/* Looks at each pair of equal columns whether the one refers to the other. */
+/* Tests for each pair of equal columns whether one refers to the other. */
 static void
 find_carried(BoundedQuery *query, const EqualColumns *equal)
 {
@@ -164,8 +164,8 @@ make_room_for_carried(BoundedQuery *query)
 	}
 }
 
-/* The list of a referring relation's column, under the conditions of the relation that it refers to; NULL if there is none. `column` is a
-   place in `columns`, or the place after the last one for the number of rows alone. */
+/* The list of a referring relation's column under the conditions of the referred relation, or NULL. `column` is a place in `columns`, or the place
+   after the last one for the number of rows alone. */
 const DegreeList *
 carried_list(BoundedQuery *query, Carried *carried, int column)
 {
@@ -182,14 +182,14 @@ carried_list(BoundedQuery *query, Carried *carried, int column)
 	return carried->lists[column];
 }
 
-/* Whether a join of these relations joins along the reference: then the referred relation's conditions hold for the referring one's rows. */
+/* Whether a join of these relations joins along the reference. If so, the referred relation's conditions apply to the referring rows. */
 bool
 is_carried(const Carried *carried, Relids relids)
 {
 	return bms_is_member(carried->referring, relids) && bms_is_member(carried->referred, relids) && bms_is_subset(carried->required, relids);
 }
 
-/* The places in `carried` of the relation's references along which a join of the set joins. */
+/* The relation's references along which a join of the set joins, as places in `carried`. */
 static Bitmapset *
 held_in_set(BoundedQuery *query, Relids relids, Index relid)
 {
@@ -202,7 +202,7 @@ held_in_set(BoundedQuery *query, Relids relids, Index relid)
 	return held;
 }
 
-/* The lesser of a column's list and of its lists by these references. */
+/* The lesser of a column's list and its lists along these references. */
 static DegreeList
 narrowed(BoundedQuery *query, const Bitmapset *held, int column, DegreeList list)
 {
@@ -218,7 +218,8 @@ narrowed(BoundedQuery *query, const Bitmapset *held, int column, DegreeList list
 	return list;
 }
 
-/* A column's list within a set, lowered by its relation's references to others there. Many sets give the same list, so it is kept. */
+/* A column's list within a set, lowered by its relation's references to other relations of the set. Many sets give the same list, so it is
+   cached. */
 static DegreeList
 list_in_set(BoundedQuery *query, Relids relids, int column)
 {
@@ -238,7 +239,7 @@ list_in_set(BoundedQuery *query, Relids relids, int column)
 	return made->list;
 }
 
-/* A relation's row bound within a set, lowered by its references to others there. */
+/* A relation's row bound within a set, lowered by its references to other relations of the set. */
 static uint64
 rows_in_set(BoundedQuery *query, Relids relids, Index relid)
 {
@@ -255,11 +256,12 @@ can_be_known(PlannerInfo *root, RelOptInfo *rel)
 	entry = root->simple_rte_array[rel->relid];
 	if (entry->tablesample != NULL)
 		return false;
-	/* A query also reads the rows of a table's children, which its statistics don't count. Those of a partitioned table count its parts. */
+	/* A query also reads the rows of a table's children, which its statistics don't count. The statistics of a partitioned table count its parts.
+	 */
 	return entry->inh ? entry->relkind == RELKIND_PARTITIONED_TABLE : entry->relkind == RELKIND_RELATION || entry->relkind == RELKIND_MATVIEW;
 }
 
-/* The bound of a set of relations: bit i of the set is the relation with number i. */
+/* The bound of a set of relations. Bit i of the set is the relation with number i. */
 typedef struct KnownBound
 {
 	uint64		set;
@@ -313,18 +315,18 @@ bounded_query(PlannerInfo *root)
 	return query;
 }
 
-/* What a call of the library is given for one set. */
+/* The arguments of a call of the library for one set. */
 typedef struct SetCall
 {
 	uint64		rows[SAFEBOUND_MOST_ENTRIES];
 	int			entries;
-	int		   *number;			/* by relid: its entry's number in the call, -1 if it isn't in the set */
+	int		   *number;			/* by relid: the entry's number in the call, -1 if the relation isn't in the set */
 	safebound_equality equalities[SAFEBOUND_MOST_EQUALITIES];
 	int			equalities_length;
 	bool	   *named;			/* by column: whether an equality names it */
 } SetCall;
 
-/* Adds an equality if there is room. Without it the bound may be higher, and holds too. */
+/* Adds an equality if there is room. Without it the bound may be higher, but is still valid. */
 static bool
 add_equality(SetCall *call, BoundedQuery *query, int left, int right)
 {
@@ -341,7 +343,7 @@ add_equality(SetCall *call, BoundedQuery *query, int left, int right)
 	return true;
 }
 
-/* Adds the equalities of columns within the set, as a chain. A column is skipped if the one before it in the chain is of the same entry. */
+/* Adds the equalities of columns within the set, as a chain. A column is skipped if the column before it in the chain belongs to the same entry. */
 static void
 add_equal_columns(SetCall *call, BoundedQuery *query, const EqualColumns *equal)
 {
@@ -400,7 +402,7 @@ call_library(SetCall *call, BoundedQuery *query, Relids relids)
 	return bound;
 }
 
-/* Asks the library for the bound of a set of so many relations; UNKNOWN if they are more than it takes. */
+/* Asks the library for the bound of a set of relations. UNKNOWN if the set has more relations than the library accepts. */
 static uint64
 new_bound(BoundedQuery *query, Relids relids, int entries)
 {
@@ -431,7 +433,7 @@ new_bound(BoundedQuery *query, Relids relids, int entries)
 	return call_library(&call, query, relids);
 }
 
-/* The bound of the inner join of a set of relations; UNKNOWN if nothing is known of one of them. The library is asked once for each set. */
+/* The bound of the inner join of a set of relations. UNKNOWN if one of them has no statistics. The library is called once for each set. */
 uint64
 bound_of_set(BoundedQuery *query, Relids relids)
 {
@@ -464,17 +466,17 @@ joined_rows(uint64 kind, uint64 inner, uint64 left, uint64 right)
 	return rows;
 }
 
-/* Whether an outer, semi- or anti-join is a part of the join of these relations. */
+/* Whether an outer, semi- or anti-join belongs to the join of these relations. */
 static bool
 is_within(SpecialJoinInfo *join, Relids relids)
 {
 	return bms_is_subset(join->min_lefthand, relids) && bms_is_subset(join->min_righthand, relids);
 }
 
-/* The bound of a join with outer, semi- and anti-joins. A row of it is made of one row of each relation, but a side of an outer join may
-   be missing. So its rows are at most those of all ways in which sides may be missing, added up; each way is an inner join of the
-   relations that are left. `joins` has the joins that aren't looked at yet. The last of them is the outermost, and is looked at next.
-   `present` has the relations that aren't missing so far. */
+/* The bound of a join with outer, semi- and anti-joins. A row of it has one row of each relation, but a side of an outer join may be missing. For
+   each way in which sides may be missing, the rows are at most those of the inner join of the other relations. The bound is the sum over all these
+   ways. `joins` has the joins that aren't handled yet; the last one is the outermost, and is handled next. `present` has the relations that aren't
+   missing so far. */
 static uint64
 bound_of_ways(BoundedQuery *query, Relids present, List *joins)
 {
@@ -498,7 +500,7 @@ bound_of_ways(BoundedQuery *query, Relids present, List *joins)
 		case JOIN_SEMI:
 			return joined_rows(SAFEBOUND_SEMI_JOIN, bound_of_ways(query, present, rest), less, UNKNOWN);
 		case JOIN_LEFT:
-			/* Where the left side is missing, a strict condition on it isn't true, so no right side is joined. */
+			/* If the left side is missing, a strict condition on it isn't true. So no right side is joined. */
 			if (join->lhs_strict && !bms_overlap(join->min_lefthand, present))
 				return less;
 			return joined_rows(SAFEBOUND_LEFT_JOIN, bound_of_ways(query, present, rest), less, UNKNOWN);
@@ -510,7 +512,7 @@ bound_of_ways(BoundedQuery *query, Relids present, List *joins)
 	}
 }
 
-/* The outer, semi- and anti-joins in the join of these relations, the outermost last. */
+/* The outer, semi- and anti-joins that belong to the join of these relations, the outermost last. */
 List *
 special_joins_within(BoundedQuery *query, Relids relids)
 {
@@ -523,7 +525,7 @@ special_joins_within(BoundedQuery *query, Relids relids)
 	return joins;
 }
 
-/* The bound of the join of these relations; UNKNOWN if more outer, semi- and anti-joins are in it than are looked at. */
+/* The bound of the join of these relations. UNKNOWN if it has more outer, semi- and anti-joins than MOST_SPECIAL_JOINS. */
 uint64
 bound_of_join(BoundedQuery *query, Relids relids)
 {

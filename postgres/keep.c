@@ -42,7 +42,7 @@ owner_of(Oid relation)
 	return owner;
 }
 
-/* Changes the extension's own tables, as their owner: who keeps a table has no rights on them. */
+/* Changes the extension's own tables as their owner, since a user who keeps a table has no rights on them. */
 uint64
 write_own(const char *statement, int length, Oid *types, Datum *values)
 {
@@ -78,7 +78,7 @@ save_pair(const Making *making, const Column *joined, const Column *filter, Stri
 	write_own("INSERT INTO safebound.kept_lists VALUES ($1, $2, $3, $4, $5, $6, $7, $8, $9, $10, $11)", 11, types, values);
 }
 
-/* Whether a column has an order, so that equal values can be told. */
+/* Whether a column's type has an order, so that equal values can be found. */
 bool
 has_order(Form_pg_attribute attribute)
 {
@@ -87,11 +87,11 @@ has_order(Form_pg_attribute attribute)
 	return OidIsValid(type->lt_opr) && OidIsValid(type->eq_opr);
 }
 
-/* The numbers of named columns; each has to be there and to have an order. */
+/* The numbers of the named columns. Each column has to exist and to have an order. */
 static Bitmapset *
 named_columns(Relation relation, ArrayType *names)
 {
-	Bitmapset  *numbers = bms_make_singleton(0);	/* 0: an empty list of names isn't all columns */
+	Bitmapset  *numbers = bms_make_singleton(0);	/* 0 is a member, since NULL would mean all columns */
 	Datum	   *values;
 	bool	   *nulls;
 	int			length;
@@ -110,7 +110,7 @@ named_columns(Relation relation, ArrayType *names)
 	return numbers;
 }
 
-/* All columns of which equal values can be told. */
+/* All columns whose equal values can be found. */
 static Bitmapset *
 all_columns(Relation relation)
 {
@@ -142,8 +142,8 @@ choose_columns(Making *making, Bitmapset *joined, Bitmapset *filters)
 	}
 }
 
-/* Whether there can be lists along a reference: the user may read the whole other table, the same = holds in both columns and between
-   them, and numbers of their values fit into the memory. */
+/* Whether there can be lists along a reference. The user may read the whole referred table, both columns have the same =, which is also the one
+   between them, and numbers of their values fit in memory. */
 static bool
 may_follow(const Making *making, const Column *along, const ForeignKeyCacheInfo *reference)
 {
@@ -160,7 +160,7 @@ may_follow(const Making *making, const Column *along, const ForeignKeyCacheInfo 
 	return may;
 }
 
-/* Lists of this table's rows under conditions on a table to which they refer. */
+/* Makes lists of this table's rows under conditions on a table to which they refer. */
 static void
 keep_along(Making *making, const Column *along, ForeignKeyCacheInfo *reference)
 {
@@ -191,7 +191,7 @@ keep_references(Making *making)
 	}
 }
 
-/* Only who owns a table keeps it. */
+/* Opens a table for its owner. Nobody else may keep it. */
 Relation
 open_owned(Oid relation)
 {
@@ -232,7 +232,7 @@ within(int value, int least, int most, const char *name)
 	return value;
 }
 
-/* Counts a table in a new snapshot. If `joined` or `filters` is NULL, it stands for all columns that have an order. */
+/* Counts a table in a new snapshot. If `joined` or `filters` is NULL, it means all columns that have an order. */
 int64
 keep_table(Oid relation, Bitmapset *joined, Bitmapset *filters, int most_common, int most_leaves, int accuracy, bool folding)
 {

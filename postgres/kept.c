@@ -1,5 +1,5 @@
-/* The backend's memory of statistics: read when a table is first planned with, and dropped when the table changes its definition or
-   is kept anew. */
+/* The backend's cache of statistics. They are read when a table is first used in a plan. They are dropped when the table's definition changes, or
+   when it is counted again. */
 #include "watch.h"
 
 #include "access/genam.h"
@@ -38,11 +38,11 @@ enum
 
 static HTAB *tables;
 
-/* Statistics that are no longer true, but that a plan in the making may still point to. */
+/* Statistics that are out of date, but that a plan being made may still point to. */
 static KeptTable *dropped;
 static List *dropped_deltas;
 
-/* A table of the extension; InvalidOid where the extension isn't created in this database. */
+/* A table of the extension, or InvalidOid if this database doesn't have the extension. */
 Oid
 extension_table(const char *name)
 {
@@ -51,7 +51,7 @@ extension_table(const char *name)
 	return OidIsValid(schema) ? get_relname_relid(name, schema) : InvalidOid;
 }
 
-/* Whether a column has the type and the collation that it had when it was counted. Otherwise its values may be others. */
+/* Whether a column still has the type and the collation with which it was counted. If not, its values may have changed. */
 static bool
 same_column(Oid relation, AttrNumber number, Oid type, Oid collation)
 {
@@ -167,7 +167,7 @@ read_table(KeptTable *table, Relation lists, Snapshot snapshot)
 	table->known = kept_pair(table, 0, 0) != NULL;
 }
 
-/* Reads the statistics into a memory context below the current one, so that nothing of them stays after an error. */
+/* Reads the statistics into a memory context below the current one, so that an error leaves nothing of them in memory. */
 static KeptTable *
 loaded(const Seen *seen, Snapshot snapshot)
 {
@@ -210,7 +210,7 @@ drop(KeptTable *table)
 	dropped = table;
 }
 
-/* How many plans are in the making or being admitted. */
+/* How many plans are being made or admitted. */
 static int	holders;
 
 void
@@ -225,7 +225,7 @@ kept_release(void)
 	holders--;
 }
 
-/* Frees what was dropped. It is called when no plan is in the making. */
+/* Frees the dropped statistics. It is called when no plan is being made. */
 void
 kept_free_dropped(void)
 {
@@ -278,16 +278,16 @@ take_deltas(KeptTable *table, const Seen *seen, Snapshot snapshot)
 
 bool		kept_fresh_only = false;
 
-/* Whether a partitioned table still has the parts that it had when it was counted. A part is attached without waiting for readers. An
-   older snapshot then sees the part's rows, and not the mark that a part came. */
+/* Whether a partitioned table still has the parts with which it was counted. A part is attached without waiting for readers. So an older snapshot
+   sees the part's rows, but not the mark that a part was attached. */
 static bool
 same_parts(const Seen *seen)
 {
 	return seen->sources == NIL || get_rel_relkind(seen->relation) != RELKIND_PARTITIONED_TABLE || equal(written_through(seen->relation), seen->sources);
 }
 
-/* The statistics of a table as the active snapshot sees them, or NULL. What is dropped meanwhile stays until no plan is in the making.
-   This backend has one version of them in its memory, and a snapshot may see another one. */
+/* The statistics of a table as the active snapshot sees them, or NULL. Statistics dropped meanwhile stay in memory until no plan is being made.
+   This backend caches one version of them, but a snapshot may see another version. */
 const KeptTable *
 kept_table(Oid relation)
 {
@@ -311,7 +311,7 @@ kept_table(Oid relation)
 	return view;
 }
 
-/* Why a table counts as unknown while only watched tables are known, and what makes it known. */
+/* Why a table counts as unknown when only watched tables are known, and what to do about it. */
 char *
 why_not_known(Oid relation)
 {
@@ -331,7 +331,7 @@ kept_pair(const KeptTable *table, AttrNumber joined, AttrNumber filter)
 	return kept_pair_along(table, joined, filter, NULL);
 }
 
-/* The same along a reference; without one (NULL) by a column of the table itself. */
+/* The pair of a joined column and a filter column along a reference. Without a reference (NULL), the filter column belongs to the table itself. */
 const KeptPair *
 kept_pair_along(const KeptTable *table, AttrNumber joined, AttrNumber filter, const Reference *reference)
 {
@@ -362,7 +362,7 @@ drop_entry(TableEntry *entry)
 	hash_search(tables, &entry->relation, HASH_REMOVE, NULL);
 }
 
-/* With InvalidOid all tables may have changed. */
+/* InvalidOid means that all tables may have changed. */
 static void
 on_invalidation(Datum argument, Oid relation)
 {

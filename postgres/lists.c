@@ -1,9 +1,9 @@
-/* Degree lists: from the library, their bytes in the extension's table, and what conditions make of them. */
+/* Degree lists: how the library makes them, their bytes in the extension's table, and how conditions combine them. */
 #include "statistics.h"
 
 #include "common/int.h"
 
-/* Raises an error if a call of the library failed. All values are checked before, so only memory can be lacking. */
+/* Raises an error if a call of the library failed. All values were checked before, so only too little memory can make it fail. */
 void
 library_check(safebound_status status, uint64 detail, const char *call)
 {
@@ -13,7 +13,7 @@ library_check(safebound_status status, uint64 detail, const char *call)
 		elog(ERROR, "%s: %s, at %llu", call, safebound_status_text(status), (unsigned long long) detail);
 }
 
-/* The degree sequence of keys, of a part of a table with so many rows. */
+/* The degree sequence of keys. They come from a part of a table with `rows` rows. */
 DegreeList
 degrees_of(const uint64 *keys, size_t length, uint64 rows)
 {
@@ -46,7 +46,7 @@ compressed(DegreeList list, int accuracy)
 	return few;
 }
 
-/* The list of rows of which each is among those of one list or of the other. */
+/* The list of rows each of which is counted by at least one of two lists. */
 DegreeList
 summed(DegreeList one, DegreeList other)
 {
@@ -66,8 +66,8 @@ summed(DegreeList one, DegreeList other)
 	return both;
 }
 
-/* The list of rows that have any one of two values, whichever it is: at each rank the greater degree. It has runs of its own, since counting
-   frees the memory of both. */
+/* The list of rows that have one of two values, whichever it is: at each rank the greater degree. It has runs of its own, since counting frees the
+   memory of both arguments. */
 DegreeList
 greater_by_rank(DegreeList one, DegreeList other)
 {
@@ -86,7 +86,7 @@ greater_by_rank(DegreeList one, DegreeList other)
 	return both;
 }
 
-/* The list of rows that are in both: its running sums are the lesser of theirs. */
+/* The list of rows counted by both lists. Each of its running sums is the lesser of theirs. */
 DegreeList
 lesser(DegreeList one, DegreeList other)
 {
@@ -101,7 +101,7 @@ lesser(DegreeList one, DegreeList other)
 	return both;
 }
 
-/* A place within a list: how many keys are passed. */
+/* A position within a list: how many keys come before it. */
 typedef struct Place
 {
 	const DegreeList *list;
@@ -132,8 +132,8 @@ advance(Place *place, uint64 keys)
 	}
 }
 
-/* Whether a list has at least the other one's degree at each rank, so that greater_by_rank wouldn't change it. Counting asks this for each
-   value. */
+/* Whether a list has at least the other list's degree at each rank, so that greater_by_rank wouldn't change it. Counting calls this for
+   each value. */
 bool
 dominates(const DegreeList *one, const DegreeList *other)
 {

@@ -1,22 +1,22 @@
 /* The joins of a finished plan, each with the relations of the planner that it joins.
 
-   A plan's scans name entries of the plan's own range table, in which the entries of all subqueries stand one behind the other. The
-   planner copies an entry there with the pointer to its names, by which it is found again. A scan below a join may be in a subquery
-   whose own scan node the planner removed. It then stands for that subquery. */
+   A plan's scans name entries of the plan's own range table, which has the entries of all subqueries one behind the other. The planner
+   copies an entry into it together with the pointer to its names, so the entry can be found again by that pointer. A scan below a join may
+   belong to a subquery whose own scan node the planner removed. It is then taken for that subquery. */
 #include "admit.h"
 
 #include "miscadmin.h"
 #include "nodes/pathnodes.h"
 #include "utils/hsearch.h"
 
-/* The scans below a node, by their numbers in the plan's range table. */
+/* The scans below a node, as numbers in the plan's range table. */
 typedef struct Scans
 {
 	Bitmapset  *numbers;
-	bool		told;			/* false: there may be rows that no scan makes */
+	bool		told;			/* false: some rows may come from no scan */
 } Scans;
 
-/* Where an entry of the range table comes from. */
+/* The origin of an entry of the range table. */
 typedef struct Origin
 {
 	Alias	   *names;
@@ -33,7 +33,7 @@ typedef struct Search
 
 static Scans scans_below(Search *search, Plan *plan);
 
-/* The entries that a scan joins itself, as a scan on a foreign server or one of another extension may. */
+/* The entries that a single scan joins, for example on a foreign server or by another extension. */
 static Bitmapset *
 joined_elsewhere(Plan *plan)
 {
@@ -48,7 +48,7 @@ is_join(Plan *plan)
 	return IsA(plan, NestLoop) || IsA(plan, MergeJoin) || IsA(plan, HashJoin);
 }
 
-/* The nodes right below one. */
+/* The nodes directly below a node. */
 static List *
 children_of(Plan *plan)
 {
@@ -100,7 +100,7 @@ has_joins(PlannedStmt *plan)
 	return any_join(plan->planTree);
 }
 
-/* Whether the planner knew that this node has no rows. */
+/* Whether the planner found that this node has no rows. */
 static bool
 is_empty(Plan *plan)
 {
@@ -111,7 +111,7 @@ is_empty(Plan *plan)
 	return condition && IsA(condition, Const) && (((Const *) condition)->constisnull || !DatumGetBool(((Const *) condition)->constvalue));
 }
 
-/* The entry that a scan reads; 0 if the node is no scan of one entry. */
+/* The entry that a scan reads; 0 if the node isn't a scan of a single entry. */
 static Index
 scanned(Plan *plan)
 {
@@ -151,7 +151,7 @@ leaf_scans(Plan *plan)
 	return (Scans) {NULL, is_empty(plan)};
 }
 
-/* The parent of a child in its own PlannerInfo; 0 where it is no child. In a finished plan the numbers of both are moved, like those of all
+/* The parent of a child in its own PlannerInfo, or 0 if it isn't a child. In a finished plan the numbers of both are shifted, like those of all
    entries of this PlannerInfo, but the array still has the child at its old number. */
 static Index
 parent_of(PlannerInfo *root, Index child)
@@ -161,7 +161,7 @@ parent_of(PlannerInfo *root, Index child)
 	return info ? info->parent_relid - (info->child_relid - child) : 0;
 }
 
-/* The number that `root` has for an entry, or for its subquery in which the entry stands; 0 if the entry isn't below `root`. */
+/* The number in `root` of an entry, or of the subquery that has the entry. 0 if the entry isn't below `root`. */
 static Index
 relid_in(PlannerInfo *root, const Origin *origin)
 {
@@ -194,7 +194,7 @@ origin_of(Search *search, int number)
 	return hash_search(search->origins, &names, HASH_FIND, NULL);
 }
 
-/* The numbers that `root` has for all these scans; NULL if one isn't below it. */
+/* The numbers in `root` of all these scans; NULL if one of them isn't below `root`. */
 static Relids
 relids_in(Search *search, PlannerInfo *root, Bitmapset *numbers)
 {
@@ -267,7 +267,7 @@ scans_below(Search *search, Plan *plan)
 		all.numbers = bms_union(all.numbers, some.numbers);
 		all.told = all.told && some.told;
 	}
-	/* A scan stands for all that is below it. */
+	/* A scan covers all that is below it. */
 	return children == NIL || scanned(plan) || IsA(plan, CustomScan) ? leaf_scans(plan) : all;
 }
 

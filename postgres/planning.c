@@ -1,5 +1,5 @@
-/* Gives row numbers from bounds to PostgreSQL's planner, in the hooks where it makes paths. Each hook calls the hook that was set
-   before it. A relation without a bound keeps PostgreSQL's number. */
+/* Gives PostgreSQL's planner row numbers from bounds, in the hooks where it makes paths. Each hook calls the hook that was set before it. A
+   relation without a bound keeps PostgreSQL's number. */
 #include "planning.h"
 
 #include <math.h>
@@ -15,7 +15,7 @@
 
 int			estimates_mode = ESTIMATES_OFF;
 
-/* PostgreSQL may expect almost no rows of many joins. A mean takes at least this many. */
+/* PostgreSQL may expect almost no rows from many joins. A mean takes this number at least. */
 #define LEAST_EXPECTED 0.01
 
 static planner_hook_type planner_before;
@@ -29,15 +29,15 @@ typedef struct Planning
 {
 	struct Planning *outer;
 	List	   *queries;		/* of BoundedQuery, one for each PlannerInfo that has joins or scans */
-	List	  **queries_out;	/* where the queries go at its end; NULL: nowhere */
+	List	  **queries_out;	/* where the queries are stored at its end; NULL: nowhere */
 } Planning;
 
 static Planning *planning;
 
-/* Where the next call of the planner puts its queries. */
+/* Where the next call of the planner stores its queries. */
 static List **next_queries_out;
 
-/* How many rows PostgreSQL by itself expects of a relation. A join relation is in the table once its bound was looked for. */
+/* How many rows PostgreSQL itself expects of a relation. A join relation is in the hash table once its bound has been asked for. */
 typedef struct OwnRows
 {
 	RelOptInfo *rel;
@@ -68,9 +68,9 @@ note_own_rows(BoundedQuery *query, RelOptInfo *rel, double rows)
 	own->rows = rows;
 }
 
-/* The number of rows to plan with: the bound, or a weighted geometric mean of bound and expectation, but at most the bound. For one
-   relation both have the same weight. A bound assumes at each join that the most frequent values meet, so it weighs less the more
-   relations there are: 1/n^2 for n of them. */
+/* The number of rows to plan with: the bound, or a weighted geometric mean of the bound and the expected rows, at most the bound. For one relation
+   both have the same weight. A bound assumes at each join that the most frequent values meet. So the bound's weight decreases with the number n of
+   relations: it is 1/n^2. */
 static double
 rows_by_mode(double bound, double expected, int relations)
 {
@@ -80,8 +80,8 @@ rows_by_mode(double bound, double expected, int relations)
 	return clamp_row_est(Min(bound, mean));
 }
 
-/* If no condition has a list, the bound is the whole table's and says nothing of the conditions. Then a mean leaves PostgreSQL's number,
-   up to the bound. */
+/* If no condition has a list, the bound is that of the whole table and ignores the conditions. A mean then keeps PostgreSQL's number, at most the
+   bound. */
 static double
 scan_rows(const Entry *entry)
 {
@@ -90,7 +90,7 @@ scan_rows(const Entry *entry)
 	return conditions_unknown ? Min(entry->rel->rows, (double) entry->rows) : rows_by_mode((double) entry->rows, entry->rel->rows, 1);
 }
 
-/* All base relations get their numbers before the first one's paths are final: what its paths cost depends on the rows of others. */
+/* All base relations get their numbers before the paths of the first one are final, since the cost of its paths depends on the rows of others. */
 static void
 set_base_rows(BoundedQuery *query)
 {
@@ -127,14 +127,14 @@ query_of(PlannerInfo *root, bool make)
 	return query;
 }
 
-/* The query of a PlannerInfo, if bounds set its rows; NULL if its rows are PostgreSQL's own. */
+/* The query of a PlannerInfo if its rows come from bounds; NULL if they are PostgreSQL's own. */
 BoundedQuery *
 query_being_planned(PlannerInfo *root)
 {
 	return estimates_mode != ESTIMATES_OFF && planning ? query_of(root, false) : NULL;
 }
 
-/* Makes the paths that allpaths.c makes for a plain table. */
+/* Makes the paths that PostgreSQL's allpaths.c makes for a plain table. */
 static void
 make_scan_paths(PlannerInfo *root, RelOptInfo *rel)
 {
@@ -152,7 +152,7 @@ make_scan_paths(PlannerInfo *root, RelOptInfo *rel)
 	create_tidscan_paths(root, rel);
 }
 
-/* Sets the rows of a scan that is repeated for each row of other relations: the bound of the join with them, divided by their bound. */
+/* Sets the rows of a scan that is repeated for each row of other relations: the bound of its join with these relations, divided by their bound. */
 static void
 set_parameterised_rows(BoundedQuery *query, RelOptInfo *rel, ParamPathInfo *info)
 {
@@ -167,8 +167,8 @@ set_parameterised_rows(BoundedQuery *query, RelOptInfo *rel, ParamPathInfo *info
 	info->ppi_rows = Min(rel->rows, rows_by_mode((double) joined / Max(outer, 1), expected, bms_num_members(both)));
 }
 
-/* PostgreSQL has made the paths already, also those of parameterized scans. For the first relation it used its own rows. For the others
-   only the rows of parameterized scans are still PostgreSQL's own. */
+/* Makes paths again. PostgreSQL has already made them, including those of parameterized scans. For the first relation it used its own rows. For the
+   other relations only parameterized scans still have PostgreSQL's own rows. */
 static void
 make_paths_again(BoundedQuery *query, RelOptInfo *rel, bool first)
 {
@@ -186,7 +186,7 @@ make_paths_again(BoundedQuery *query, RelOptInfo *rel, bool first)
 		make_scan_paths(query->root, rel);
 }
 
-/* Sets the rows of a path. If it appends a single path, it sets that path's rows too: the plan has that path in its place. */
+/* Sets the rows of a path. If it appends a single path, that path's rows are set too, since the plan uses that path in its place. */
 static void
 set_path_rows(Path *path, double rows)
 {
@@ -197,8 +197,8 @@ set_path_rows(Path *path, double rows)
 		set_path_rows(linitial(parts), rows);
 }
 
-/* The paths of a partitioned table append those of its parts, whose rows are PostgreSQL's own. The appending paths get their rows from
-   the bound of the whole table. */
+/* A partitioned table's paths append paths of its parts, whose rows are PostgreSQL's own. The appending paths get their rows from the bound of the
+   whole table. */
 static void
 set_append_rows(BoundedQuery *query, RelOptInfo *rel)
 {
@@ -238,8 +238,8 @@ on_rel_paths(PlannerInfo *root, RelOptInfo *rel, Index rti, RangeTblEntry *rte)
 		rel_paths_before(root, rel, rti, rte);
 }
 
-/* For a query over one partitioned table alone, PostgreSQL makes the table's paths once more from those of its parts. So their rows are
-   set again. */
+/* For a query over a single partitioned table, PostgreSQL makes the table's paths once more from those of its parts. So their rows are set
+   again. */
 static void
 on_upper_paths(PlannerInfo *root, UpperRelationKind stage, RelOptInfo *input, RelOptInfo *output, void *extra)
 {
@@ -262,8 +262,8 @@ own_join_rows(BoundedQuery *query, RelOptInfo *joinrel, RelOptInfo *outer, RelOp
 	return rows;
 }
 
-/* Notes PostgreSQL's own rows of a join relation. If it has a bound, sets its rows, drops its paths and answers true: the caller has to
-   make the paths again. */
+/* Notes PostgreSQL's own rows of a join relation. If the relation has a bound, sets its rows, drops its paths and returns true. The caller then has
+   to make the paths again. */
 static bool
 set_join_rows(BoundedQuery *query, RelOptInfo *joinrel, double estimate)
 {
@@ -299,7 +299,8 @@ on_join_paths(PlannerInfo *root, RelOptInfo *joinrel, RelOptInfo *outer, RelOptI
 		join_paths_before(root, joinrel, outer, inner, type, extra);
 }
 
-/* PostgreSQL doesn't call the hook above for joins with a condition that names no relation. A level with such a join is made again. */
+/* For joins with a condition that names no relation, such as 1 = 2, PostgreSQL doesn't call the hook above. A level with such a join is
+   made again. */
 static void
 search_level(PlannerInfo *root, BoundedQuery *query, int level)
 {
@@ -318,7 +319,7 @@ search_level(PlannerInfo *root, BoundedQuery *query, int level)
 		join_search_one_level(root, level);
 }
 
-/* Does what allpaths.c does once a level has its relations. */
+/* Does what PostgreSQL's allpaths.c does after it has made the relations of a level. */
 static void
 finish_level(PlannerInfo *root, int level)
 {
@@ -335,7 +336,7 @@ finish_level(PlannerInfo *root, int level)
 	}
 }
 
-/* PostgreSQL's own search, but `search_level` makes each level. */
+/* PostgreSQL's own search, except that `search_level` makes each level. */
 static RelOptInfo *
 on_join_search(PlannerInfo *root, int levels, List *initial)
 {
@@ -384,7 +385,7 @@ on_planner(Query *parse, const char *text, int options, ParamListInfo parameters
 	return plan;
 }
 
-/* Plans a query as this session would, and puts what is known of each part of it into `queries`. */
+/* Plans a query as this session would. Stores in `queries` the relations and equalities of each part of the query. */
 PlannedStmt *
 plan_and_tell(Query *query, const char *text, List **queries)
 {

@@ -1,4 +1,4 @@
-/* What is known of the relations and equalities of one PlannerInfo, in the library's terms. */
+/* The relations and equalities of one PlannerInfo, in the library's terms. */
 #ifndef SAFEBOUND_PLANNING_H
 #define SAFEBOUND_PLANNING_H
 
@@ -7,7 +7,7 @@
 #include "nodes/plannodes.h"
 #include "utils/hsearch.h"
 
-/* A join with more outer and semi-joins in it isn't bounded: each of them doubles the ways in which sides may be missing. */
+/* A join with more outer and semi-joins isn't bounded: each of them doubles the number of ways in which sides may be missing. */
 #define MOST_SPECIAL_JOINS 6
 
 /* No row bound is known. */
@@ -25,10 +25,10 @@ extern int	estimates_mode;
 /* A relation of FROM with kept statistics. */
 typedef struct Entry
 {
-	const KeptTable *table;		/* NULL: nothing is known of it */
+	const KeptTable *table;		/* NULL: it has no statistics */
 	RelOptInfo *rel;
 	uint64		rows;			/* its row bound */
-	int			number;			/* among the relations that are known */
+	int			number;			/* its number among the known relations */
 	Bitmapset  *used;			/* the columns whose conditions have lists */
 	struct CountedStatistics *statistics;	/* by column; NULL: none was asked for */
 } Entry;
@@ -42,7 +42,8 @@ typedef struct JoinedColumn
 	List	   *narrowed;		/* of Narrowed: its lists in sets so far */
 } JoinedColumn;
 
-/* A joined column's list in sets where its relation is joined to relations that it refers to, under the conditions on those too. */
+/* A joined column's list in sets where its relation is joined to relations to which it refers. The list takes the conditions on these relations
+   into account. */
 typedef struct Narrowed
 {
 	Bitmapset  *held;			/* the references along which the set joins, by their places in `carried` */
@@ -52,23 +53,24 @@ typedef struct Narrowed
 /* Columns that are equal in each row in which `required` are joined. */
 typedef struct EqualColumns
 {
-	Relids		required;		/* NULL: any two of them, as an equivalence class has it */
+	Relids		required;		/* NULL: no relation is required, as in an equivalence class */
 	int			length;
 	int		   *columns;
 } EqualColumns;
 
-/* A reference of a relation to another one, along an equality of the query. The referring one has lists under the other's conditions. */
+/* A reference of a relation to another one, along an equality of the query. The referring relation has lists under the conditions on the
+   other one. */
 typedef struct Carried
 {
 	Index		referring;
 	Index		referred;
-	Relids		required;		/* as of the equality */
+	Relids		required;		/* as in the equality */
 	Reference	reference;
-	bool	   *looked;			/* by column, and the last one is its rows alone: whether the list was looked for */
+	bool	   *looked;			/* by column, then for the number of rows: whether the list was looked for */
 	DegreeList **lists;			/* NULL where there is none */
 	Bitmapset  *used;			/* the columns of the referred relation whose conditions have lists */
 	bool		loose;			/* the lists may have more rows than refer */
-	double		share;			/* of expected.c; 0: not looked at */
+	double		share;			/* from expected.c; 0: not computed */
 } Carried;
 
 typedef struct BoundedQuery

@@ -1,7 +1,7 @@
-/* What the bounds of a plan's joins are computed from, kept with the plan, so that they can be computed when it runs.
+/* Stores in a plan all that is needed to compute the bounds of its joins when it runs.
 
-   A finished plan has no equivalence classes and no conditions as they were. They are copied into the plan, into an entry of its
-   range table that nothing refers to. It is of the kind RTE_RESULT, and its values_lists hold them. Such an entry belongs to no table, takes
+   A finished plan has neither its equivalence classes nor its original conditions. They are copied into the plan, into an entry of its
+   range table that nothing refers to. The entry has the kind RTE_RESULT, and its values_lists hold the copies. It belongs to no table, takes
    no lock and needs no rights. Plans that are cached or copied keep it. A parallel worker doesn't get it. */
 #include "admit.h"
 
@@ -47,7 +47,7 @@ relids_of(List *numbers)
 	return relids;
 }
 
-/* An entry without its columns: it only says which table it is, if it is a table. */
+/* An entry without its columns. It only says which table it is, if it is a table. */
 static RangeTblEntry *
 slim_entry(PlannerInfo *root, int relid)
 {
@@ -69,7 +69,7 @@ slim_entry(PlannerInfo *root, int relid)
 	return slim;
 }
 
-/* The conditions on a relation alone. Those with subqueries bound nothing. */
+/* The conditions on a relation alone. Conditions with subqueries are left out, since they don't lower bounds. */
 static List *
 conditions_of(RelOptInfo *rel)
 {
@@ -105,7 +105,7 @@ class_lists(EquivalenceClass *class)
 	return list_make3(list_copy(class->ec_opfamilies), list_make1_oid(class->ec_collation), members);
 }
 
-/* PostgreSQL lists a clause at each of its relations. It is taken at the first one. */
+/* PostgreSQL lists a clause at each of its relations. It is taken at the first of them. */
 static List *
 clauses_of(RelOptInfo *rel)
 {
@@ -152,7 +152,7 @@ part_of_root(PlannerInfo *root, List *joins)
 	return part;
 }
 
-/* Keeps with a plan what the bounds of its joins are computed from. The first value is how many joins have unknown relations. */
+/* Stores in a plan what is needed to compute the bounds of its joins. The first value is the number of joins with unknown relations. */
 void
 put_recipe(PlannedStmt *plan, List *joins)
 {
@@ -178,7 +178,7 @@ put_recipe(PlannedStmt *plan, List *joins)
 	plan->rtable = lappend(plan->rtable, entry);
 }
 
-/* What was kept with a plan; NIL where nothing was. */
+/* What was stored in a plan; NIL if nothing was. */
 List *
 recipe_of(PlannedStmt *plan)
 {
@@ -204,7 +204,7 @@ clause_info(PlannerInfo *root, Expr *clause, Relids required)
 	return info;
 }
 
-/* A relation with its conditions, in which parameters have their values. */
+/* A relation with its conditions. Parameters in them have the values of this run. */
 static RelOptInfo *
 rel_of(PlannerInfo *root, int relid, List *conditions)
 {
@@ -261,7 +261,7 @@ add_clause(PlannerInfo *root, Expr *clause, List *required)
 			root->simple_rel_array[relid]->joininfo = lappend(root->simple_rel_array[relid]->joininfo, info);
 }
 
-/* A PlannerInfo as far as bounded_query reads it, with the parameters of this run. */
+/* A PlannerInfo with the fields that bounded_query reads, and with the parameters of this run. */
 PlannerInfo *
 root_of_part(List *part, ParamListInfo parameters)
 {

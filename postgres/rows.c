@@ -1,5 +1,5 @@
-/* The rows of a table, or of all parts of a partitioned one, as the active snapshot sees them and always in the same order. While a table
-   is counted it is locked with its parts, so that the parts stay the same. */
+/* The rows of a table, or of all parts of a partitioned table, as the active snapshot sees them, always in the same order. While a table is
+   counted, it and its parts are locked, so that its parts don't change. */
 #include "counting.h"
 
 #include "access/table.h"
@@ -14,16 +14,16 @@
 struct Rows
 {
 	Relation	whole;
-	List	   *tables;			/* those that have rows, by their numbers */
-	int			next;			/* of the list */
-	Relation	part;			/* what is read now; NULL: the next one is to be opened */
+	List	   *tables;			/* the tables that have rows, by oid */
+	int			next;			/* the next place in the list */
+	Relation	part;			/* the table that is being read; NULL: the next one has to be opened */
 	TableScanDesc scan;
 	TupleTableSlot *read;
-	AttrMap    *map;			/* from the part's columns to the whole's; NULL where they are the same */
+	AttrMap    *map;			/* from the part's columns to those of the whole table; NULL if they are the same */
 	TupleTableSlot *mapped;
 };
 
-/* The table itself, or those parts of a partitioned table that have rows of their own. */
+/* The table itself, or the parts of a partitioned table that have rows of their own. */
 static List *
 tables_with_rows(Relation whole)
 {
@@ -73,7 +73,7 @@ close_part(Rows *rows)
 	rows->part = NULL;
 }
 
-/* The next row with the columns of the whole; NULL where there is none. */
+/* The next row, with the columns of the whole table; NULL at the end. */
 TupleTableSlot *
 rows_next(Rows *rows)
 {

@@ -2,13 +2,13 @@
 \echo Use "CREATE EXTENSION safebound" to load this file. \quit
 
 -- The statistics of tables: kept_table has a row for each kept table, and kept_lists one for each joined column with each filter column.
--- Statistics have values of the tables in them, so only the extension's owner may read them.
--- accuracy, common and ranges are what `keep` was called with.
+-- Statistics contain values of the tables, so only the extension's owner may read them.
+-- accuracy, common and ranges are the arguments of `keep`.
 -- joined and filters are the numbers of the table's own columns that were counted as joined columns and as filter columns.
--- version is a new number each time that the table is counted.
--- sources are the tables that a statement may write to when it brings rows to this one; NULL where the table isn't watched.
--- referred has three numbers for each watched table that this one refers to: its oid, and its version and how many deltas it had when this
--- table was counted.
+-- version is a new number each time the table is counted.
+-- sources are the tables on which a statement may bring rows to this table; NULL if the table isn't watched.
+-- referred has three numbers for each watched table to which this one refers: its oid, its version, and its number of deltas, both as they
+-- were when this table was counted.
 CREATE SEQUENCE versions;
 CREATE TABLE kept_table (
     relation regclass PRIMARY KEY,
@@ -26,9 +26,9 @@ CREATE TABLE kept_table (
 REVOKE ALL ON kept_table FROM PUBLIC;
 
 -- A row has the degree lists of one joined column by the values of one filter column. Columns are given by their numbers.
--- If joined is 0, it has only how many rows each value of the filter column has. If filter is 0, it has only the list of all rows.
--- If along is 0, the filter column is one of the table itself. Otherwise it is one of the table `referred`, to whose column `key` the
--- column `along` is a foreign key.
+-- If joined is 0, the row has only the number of rows of each value of the filter column. If filter is 0, it has only the list of all rows.
+-- If along is 0, the filter column belongs to the table itself. Otherwise it belongs to the table `referred`. The column `along` is then a
+-- foreign key to the column `key` of that table.
 CREATE TABLE kept_lists (
     relation regclass NOT NULL,
     joined smallint NOT NULL,
@@ -45,7 +45,7 @@ CREATE TABLE kept_lists (
 );
 REVOKE ALL ON kept_lists FROM PUBLIC;
 
--- The rows that came since a table was counted, one delta for each statement. If rows is -1, some came that weren't counted.
+-- The rows that came after a table was counted, one delta for each statement. If rows is -1, some of them weren't counted.
 CREATE TABLE kept_delta (
     relation oid NOT NULL,
     id bigint NOT NULL,

@@ -1,4 +1,4 @@
-/* The statistics that the extension keeps of tables, and the degree lists that conditions leave of them. For all files of the extension. */
+/* The statistics that the extension keeps of tables, and the degree lists under conditions. All files of the extension include this one. */
 #ifndef SAFEBOUND_STATISTICS_H
 #define SAFEBOUND_STATISTICS_H
 
@@ -9,10 +9,10 @@
 #include "safebound.h"
 #include "utils/relcache.h"
 
-/* Sets a hook of PostgreSQL to a function of ours, and keeps in `before` what it was, which our function then calls. */
+/* Sets a hook of PostgreSQL to our function. The hook's old value goes to `before`, and our function calls it. */
 #define TAKE_HOOK(hook, before, ours) ((before) = (hook), (hook) = (ours))
 
-/* A degree list, and a bound on the number of rows. Rows whose joined column is NULL count in `rows`, and not in the runs. */
+/* A degree list, and a bound on the number of rows. Rows whose joined column is NULL are counted in `rows` but not in the runs. */
 typedef struct DegreeList
 {
 	uint64		rows;
@@ -20,7 +20,7 @@ typedef struct DegreeList
 	safebound_run *runs;
 } DegreeList;
 
-/* Which rows a kept list stands for, by the filter column. The letters are those in the stored bytes. */
+/* Which rows a kept list counts, by their values in the filter column. The letters are stored in the bytes. */
 typedef enum ListKind
 {
 	LIST_ALL = 'w',				/* all rows */
@@ -29,18 +29,18 @@ typedef enum ListKind
 	LIST_OTHER = 'o',			/* dominates the list of any value that isn't common */
 	LIST_ANY = 'a',				/* dominates the list of any value */
 	LIST_LEAF = 'l',			/* a range of values in the column's order, up to `value` */
-	LIST_NODE = 'm'				/* two neighbours of the level below, or its last one alone */
+	LIST_NODE = 'm'				/* two neighbouring ranges of the level below, or its last one alone */
 } ListKind;
 
 typedef struct KeptList
 {
 	ListKind	kind;
-	Datum		value;			/* of LIST_VALUE the value, of LIST_LEAF its greatest one; unused else */
+	Datum		value;			/* for LIST_VALUE the value, for LIST_LEAF its greatest value; otherwise unused */
 	DegreeList	list;
 } KeptList;
 
-/* The lists of a joined column by a filter column. If `joined` is 0 only their numbers of rows count. If `filter` is 0 there is one list, of
-   all rows. If `along` isn't 0, the filter column is one of the table `referred`, and the column `along` refers to `key` of that table. */
+/* The lists of a joined column by a filter column. If `joined` is 0, only their numbers of rows are used. If `filter` is 0, there is one list, of
+   all rows. If `along` isn't 0, the filter column belongs to the table `referred`, and the column `along` refers to `key` of that table. */
 typedef struct KeptPair
 {
 	AttrNumber	joined;
@@ -67,12 +67,12 @@ typedef struct Deltas Deltas;
 typedef struct KeptTable
 {
 	Oid			relation;
-	int64		version;		/* of the statistics: another number each time they are made */
-	Deltas	   *deltas;			/* the rows that came since; NULL if the table isn't watched */
-	List	   *unchanged;		/* if it is watched: the tables to which it refers and that haven't changed */
-	bool		known;			/* whether there are statistics that fit the table as it is */
+	int64		version;		/* the version of the statistics, a new number each time they are made */
+	Deltas	   *deltas;			/* the rows that came later; NULL if the table isn't watched */
+	List	   *unchanged;		/* for a watched table: the tables to which it refers and that haven't changed */
+	bool		known;			/* whether the statistics are valid for the table as it is now */
 	MemoryContext context;
-	struct KeptTable *next;		/* in the list of dropped ones, whose memory is freed later */
+	struct KeptTable *next;		/* in the list of dropped statistics, which are freed later */
 	int			length;
 	KeptPair   *pairs;
 } KeptTable;
@@ -96,13 +96,13 @@ extern Oid	sort_collation(Oid collation);
 extern uint64 write_own(const char *statement, int length, Oid *types, Datum *values);
 extern int64 keep_table(Oid relation, Bitmapset *joined, Bitmapset *filters, int most_common, int most_leaves, int accuracy, bool folding);
 
-/* watch.c: the tables, this one too, on which a statement may write rows to this table. */
+/* watch.c: all tables on which a statement may write rows to this table, including the table itself. */
 extern List *written_through(Oid relation);
 
-/* admit.c: while it is true no query is refused. */
+/* admit.c: while this is true, no query is refused. */
 extern bool admission_paused;
 
-/* deltas.c: a list with the rows that came since its table was counted. Code that answers a table's list passes it through here. */
+/* deltas.c: a list with the rows that came after its table was counted. Code that returns a table's list passes it through this function. */
 extern DegreeList with_deltas(const KeptTable *table, AttrNumber joined, DegreeList list);
 
 /* kept.c: the statistics that this backend has read, in its memory. */
@@ -118,7 +118,7 @@ extern void kept_release(void);
 extern void kept_free_dropped(void);
 extern void kept_init(void);
 
-/* conditions.c: the lists of the rows that a relation's own conditions leave. */
+/* conditions.c: lists of the rows that satisfy a relation's own conditions. */
 extern Oid	equality_family(Oid relation, AttrNumber column, Oid collation);
 extern bool is_equality(Oid relation, AttrNumber column, Oid operator, Oid collation);
 extern DegreeList list_under(const KeptTable *table, RelOptInfo *rel, AttrNumber joined, Bitmapset **used);

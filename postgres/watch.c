@@ -32,17 +32,17 @@ PG_FUNCTION_INFO_V1(safebound_unwatch);
 PG_FUNCTION_INFO_V1(safebound_fold);
 PG_FUNCTION_INFO_V1(safebound_on_change);
 
-/* ANALYZE folds the deltas of a table from this many on. */
+/* ANALYZE folds the deltas of a table that has at least this many. */
 #define MANY_DELTAS 100
 
-/* How a table is counted that wasn't kept before. */
+/* The arguments for counting a table that wasn't kept before. */
 #define COMMON 100
 #define RANGES 64
 #define ACCURACY 8
 
 static ProcessUtility_hook_type utility_before;
 
-/* A table, all that it inherits from, and the parts of a partitioned one: a statement on each of them may write to it. */
+/* A table, all tables from which it inherits, and the parts of a partitioned table. A statement on any of these may write to the table. */
 List *
 written_through(Oid relation)
 {
@@ -68,14 +68,14 @@ written_through(Oid relation)
 	return sources;
 }
 
-/* Whether a replica that applies rows may write them to `source` itself, as rows of `relation`. */
+/* Whether a replica that applies rows may write rows of `relation` directly to `source`. */
 static bool
 applies_rows(Oid source, Oid relation)
 {
 	return get_rel_relkind(source) == RELKIND_RELATION && (source == relation || is_part_of(source, relation));
 }
 
-/* How many of our triggers a source has: for statements, if they always fire, and for rows, if they fire on replicas. */
+/* Counts our triggers on a source: statement triggers that always fire, and row triggers that fire on replicas. */
 static void
 count_triggers(Oid source, int *statements, int *rows)
 {
@@ -99,7 +99,7 @@ count_triggers(Oid source, int *statements, int *rows)
 		relation_close(opened, AccessShareLock);
 }
 
-/* Whether all triggers of a source are there: three for statements, and one for rows where a replica may apply them. */
+/* Whether a source has all its triggers: three for statements, and one for rows if a replica may apply them. */
 static bool
 has_triggers(Oid source, bool applies)
 {
@@ -110,7 +110,7 @@ has_triggers(Oid source, bool applies)
 	return statements == 3 && (rows == 1 || !applies);
 }
 
-/* Whether all that brings rows to a table is still followed. */
+/* Whether all tables that bring rows to a table are still followed. */
 static bool
 is_intact(Oid relation, List *followed)
 {
@@ -145,8 +145,8 @@ lock_whole(Oid relation, LOCKMODE mode)
 		find_all_inheritors(relation, mode, NULL);
 }
 
-/* Locks a table against others that count it, and takes a new snapshot. Counting that may be of other columns waits for all writers too,
-   since their triggers look at the columns. The deltas that the snapshot sees are deleted: their rows are counted now. */
+/* Locks a table against others that count it, and takes a new snapshot. If the columns may differ from those counted before, this waits for all
+   writers too, since their triggers read the columns. The deltas that the snapshot sees are deleted, since their rows are now counted. */
 void
 begin_counting(Relation relation, bool folding, Seen *before, bool *was_followed)
 {
@@ -182,7 +182,7 @@ oid_array(List *oids)
 	return PointerGetDatum(construct_array(values, list_length(oids), OIDOID, 4, true, TYPALIGN_INT));
 }
 
-/* Notes with the statistics that were just made which columns they are of, and which tables bring rows. */
+/* Stores with the new statistics which columns they count, and which tables bring rows. */
 static void
 note_sources(Oid relation, List *sources)
 {
@@ -195,7 +195,7 @@ note_sources(Oid relation, List *sources)
 			  " WHERE relation = $1", 2, types, values);
 }
 
-/* The columns of a table whose changes are followed; NULL if the table isn't watched and known. */
+/* The columns of a table whose changes are followed. NULL unless the table is watched and known. */
 static Bitmapset *
 columns_told(Oid relation, Seen *seen)
 {
@@ -204,8 +204,8 @@ columns_told(Oid relation, Seen *seen)
 	return bms_union(seen->joined, seen->filters);
 }
 
-/* The referred tables of which lists along a reference were made, as the active snapshot sees them. A table is left out if changes of a
-   column that was used aren't followed. */
+/* The referred tables that have lists along a reference, as the active snapshot sees them. A table is left out if changes of a column that was used
+   aren't followed. */
 static List *
 references_told(Oid relation, uint64 rows, SPITupleTable *lists)
 {
@@ -285,8 +285,8 @@ make_statement_triggers(const char *name)
 	execute("ALTER TABLE %s ENABLE ALWAYS TRIGGER safebound_begin, ENABLE ALWAYS TRIGGER safebound_insert, ENABLE ALWAYS TRIGGER safebound_update", name);
 }
 
-/* Makes the triggers of a source, and waits for all who are writing to it. Those that are there stay: tables below need them, and would
-   count as unknown once they are made anew. */
+/* Makes the triggers of a source, and waits for all who are writing to it. Existing triggers stay: tables below need them, and would count as
+   unknown if the triggers were made again. */
 static void
 make_triggers(Oid source, bool applies)
 {
@@ -304,7 +304,7 @@ make_triggers(Oid source, bool applies)
 	execute("ALTER TABLE %s ENABLE REPLICA TRIGGER safebound_applied", name);
 }
 
-/* Drops the triggers of a source of a table that is no longer watched, as far as no other table needs them. */
+/* Drops the triggers on a source of a table that isn't watched any more, unless another table needs them. */
 static void
 drop_triggers(Oid source)
 {
@@ -323,7 +323,7 @@ drop_triggers(Oid source)
 	execute("DROP TRIGGER IF EXISTS safebound_update ON %s", name);
 }
 
-/* Makes the statistics anew, of the same columns where there are some. */
+/* Counts a table again. If it has statistics, the same columns are counted. */
 static int64
 keep_again(Oid relation, bool folding)
 {
@@ -331,21 +331,21 @@ keep_again(Oid relation, bool folding)
 
 	if (!see_table(relation, NULL, &seen))
 		return keep_table(relation, NULL, NULL, COMMON, RANGES, ACCURACY, folding);
-	/* With 0 in it a set without columns isn't NULL, which would be all columns. */
+	/* With 0 as a member, a set without columns isn't NULL. NULL would mean all columns. */
 	return keep_table(relation, bms_add_member(seen.joined, 0), bms_add_member(seen.filters, 0), seen.common, seen.ranges, seen.accuracy, folding);
 }
 
-/* Looks whether the caller may count a table, and answers whether it has triggers: a materialized view has none. */
+/* Checks that the caller may count a table. Returns whether the table can have triggers: a materialized view can't. */
 static bool
 may_have_triggers(Oid relation)
 {
 	Relation	opened = open_owned(relation);
 	bool		may = opened->rd_rel->relkind != RELKIND_MATVIEW;
 
-	/* A temporary table is dropped at the end of the session without an event that could be seen. */
+	/* A temporary table is dropped at the end of the session without an event that the extension could see. */
 	if (opened->rd_rel->relpersistence == RELPERSISTENCE_TEMP)
 		ereport(ERROR, (errcode(ERRCODE_FEATURE_NOT_SUPPORTED), errmsg("\"%s\" is a temporary table, and can't be watched", get_rel_name(relation))));
-	/* It is closed here, since its triggers can't be changed while this backend has it open. */
+	/* The table is closed here, since its triggers can't be changed while this backend has it open. */
 	relation_close(opened, NoLock);
 	return may;
 }
@@ -373,7 +373,7 @@ safebound_watch(PG_FUNCTION_ARGS)
 	PG_RETURN_INT64(lists);
 }
 
-/* The triggers of tables above stay, since other tables may need them; without followers they count nothing. */
+/* Triggers on tables above are kept, since other tables may need them. Without followers they count nothing. */
 Datum
 safebound_unwatch(PG_FUNCTION_ARGS)
 {
@@ -404,7 +404,7 @@ safebound_fold(PG_FUNCTION_ARGS)
 	PG_RETURN_INT64(keep_again(relation, true));
 }
 
-/* ANALYZE folds: the tables that it names, or without names all that the user owns. */
+/* Folds after ANALYZE: the tables that it names, or without names all tables that the user owns. */
 static void
 fold_full(List *named)
 {
@@ -468,7 +468,7 @@ on_utility(PlannedStmt *statement, const char *text, bool read_only, ProcessUtil
 	}
 }
 
-/* Marks a table that is no longer followed completely. A mark that is there already is enough, unless somebody is about to delete it. */
+/* Marks a table that isn't followed completely any more. An existing mark is enough, unless somebody is about to delete it. */
 static void
 mark_broken(Oid relation)
 {
@@ -503,7 +503,7 @@ check_all(void)
 	}
 }
 
-/* Marks each materialized view that was refreshed, since it has other rows. */
+/* Marks each refreshed materialized view, since its rows have changed. */
 static void
 mark_refreshed(void)
 {
@@ -520,7 +520,7 @@ mark_refreshed(void)
 	}
 }
 
-/* Marks the table whose rows ALTER TABLE writes anew, maybe with other values. */
+/* Marks the table whose rows ALTER TABLE rewrites, perhaps with other values. */
 static void
 mark_rewritten(void)
 {

@@ -1,4 +1,4 @@
-/* Rows that came since a table was counted. */
+/* Rows that came after a table was counted. */
 #ifndef SAFEBOUND_WATCH_H
 #define SAFEBOUND_WATCH_H
 
@@ -32,10 +32,10 @@ enum
 	DELTA_LISTS
 };
 
-/* In DELTA_ROWS: rows came or changed in a way that was seen and not counted. */
+/* The value of DELTA_ROWS if rows came or changed without being counted. */
 #define NOT_COUNTED (-1)
 
-/* A table that another one refers to, as it was when the other one was counted. */
+/* A table to which another one refers, as it was when the other one was counted. */
 typedef struct ReferredTable
 {
 	Oid			relation;
@@ -43,7 +43,7 @@ typedef struct ReferredTable
 	int64		deltas;
 } ReferredTable;
 
-/* What a snapshot sees of a table's row in safebound.kept_table. */
+/* The row of a table in safebound.kept_table, as a snapshot sees it. */
 typedef struct Seen
 {
 	Oid			relation;
@@ -51,13 +51,13 @@ typedef struct Seen
 	int			common;
 	int			ranges;
 	int			accuracy;
-	List	   *sources;		/* the tables whose statements may bring rows; NIL where nobody follows them */
+	List	   *sources;		/* the tables on which statements may bring rows; NIL if they aren't followed */
 	Bitmapset  *joined;			/* the columns with lists */
 	Bitmapset  *filters;		/* the columns whose conditions have lists */
 	List	   *referred;		/* of ReferredTable */
 } Seen;
 
-/* The rows that came since, as far as a snapshot sees them. */
+/* The rows that came later, as far as a snapshot sees them. */
 struct Deltas
 {
 	MemoryContext context;

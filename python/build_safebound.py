@@ -1,11 +1,11 @@
 """Builds the package as a wheel and as a source archive (the build backend of pyproject.toml).
 
-It needs the standard library alone.
+It needs only the standard library.
 
-A wheel has the shared objects beside the package. If SAFEBOUND_LIBRARY_DIR names a folder, they come from there and
-from no other. Else they come from where `make library` and `make command` leave them, in a clone, or from where
-pkg-config finds this version, as after `make install`. If the folder has only an archive, the C compiler makes the
-shared object of it.
+A wheel has the shared objects beside the package. If SAFEBOUND_LIBRARY_DIR names a folder, they come only from there.
+Otherwise they come, in a clone, from where `make library` and `make command` leave them, or from the folder that
+pkg-config gives for this version, as after `make install`. If the folder has only an archive, the C compiler makes the
+shared object from it.
 
 A source archive has the package and this file. It builds where one of these folders has the library.
 """
@@ -50,7 +50,8 @@ def read(*path: str) -> bytes:
 
 
 def place_of(name: str) -> str:
-    """The path of a file of the project. In a source archive it lies beside this file, in a clone in its own folder."""
+    """The path of a file of the project. In a source archive the file is beside this one, in a clone in its own folder.
+    """
     beside = os.path.join(HERE, name)
     above = {"safebound.map": "library"}.get(name, "")
     return beside if os.path.isfile(beside) else os.path.join(HERE, "..", above, name)
@@ -60,14 +61,14 @@ def place_of(name: str) -> str:
 
 
 def files_of(folder: str, name: str) -> list[str | None]:
-    """The shared object and the archive of a library, None for each that isn't in the folder."""
+    """The paths of a library's shared object and of its archive, with None for a file that isn't in the folder."""
     ends = (".so", ".so." + VERSION.partition(".")[0]), (".a",)
     named = [[os.path.join(folder, f"lib{name}{end}") for end in some] for some in ends]
     return [next((path for path in paths if os.path.isfile(path)), None) for paths in named]
 
 
 def installed() -> str:
-    """The folder that pkg-config gives for this version; the empty text if it knows no folder."""
+    """The folder that pkg-config gives for this version, or "" if it knows none."""
     words = [os.environ.get("PKG_CONFIG", "pkg-config"), "--variable=libdir", f"safebound = {VERSION}"]
     try:
         return subprocess.run(words, capture_output=True, text=True, check=True).stdout.strip()
@@ -89,7 +90,7 @@ def folder_of_library() -> str:
 
 
 def linked(archive: str, name: str) -> bytes:
-    """The shared object that the C compiler makes of an archive."""
+    """The shared object that the C compiler makes from an archive."""
     with tempfile.TemporaryDirectory() as room:
         names, made = place_of("safebound.map"), os.path.join(room, "made.so")
         whole = ["-Wl,--whole-archive", archive, "-Wl,--no-whole-archive"]
@@ -100,7 +101,7 @@ def linked(archive: str, name: str) -> bytes:
 
 
 def libraries() -> dict[str, bytes]:
-    """The shared objects by their names in the package. The library for the whole program may be missing."""
+    """The shared objects by their names in the package. That of the whole program may be missing."""
     folder, found = folder_of_library(), {}
     for name in LIBRARIES:
         shared, archive = files_of(folder, name)
@@ -115,7 +116,7 @@ def libraries() -> dict[str, bytes]:
 
 
 def tag() -> str:
-    """The wheel's tag: a shared object is for this platform alone."""
+    """The wheel's tag: a shared object runs only on this platform."""
     return "py3-none-" + sysconfig.get_platform().replace("-", "_").replace(".", "_")
 
 
@@ -129,7 +130,7 @@ def metadata() -> bytes:
 
 
 def record(files: dict[str, bytes]) -> bytes:
-    """One line for each file, with its checksum and its size; the line of the record itself has neither."""
+    """One line for each file, with its checksum and size. The line of the record itself has neither."""
     lines = []
     for name, data in files.items():
         digest = base64.urlsafe_b64encode(hashlib.sha256(data).digest()).rstrip(b"=").decode()
@@ -138,7 +139,7 @@ def record(files: dict[str, bytes]) -> bytes:
 
 
 def write(folder: str, files: dict[str, bytes]) -> str:
-    """Makes a wheel of the files, adds those that describe it, and gives its name."""
+    """Makes a wheel from the files and the files that describe it. Returns its name."""
     wheel = f"Wheel-Version: 1.0\nGenerator: build_safebound\nRoot-Is-Purelib: false\nTag: {tag()}\n"
     own = {"METADATA": metadata(), "WHEEL": wheel.encode(), "LICENSE": read(place_of("LICENSE"))}
     files = {**files, **{f"{INFO}/{name}": data for name, data in own.items()}}
@@ -159,7 +160,8 @@ def build_wheel(
 def build_editable(
     wheel_directory: str, config_settings: dict[str, Any] | None = None, metadata_directory: str | None = None
 ) -> str:
-    """A link to the package where it lies; it finds the library where `make library` leaves it."""
+    """Installs a link to this folder instead of a copy. The package finds the library where `make library` leaves it.
+    """
     return write(wheel_directory, {"safebound.pth": (HERE + "\n").encode()})
 
 

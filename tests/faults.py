@@ -1,8 +1,8 @@
-"""What the explanation of each of these faults has to say: place, cause and remedy. The list was written before any of
-them was run, though not before the code of the explanations was read.
+"""What the explanation of each of these faults has to say: place, cause and remedy. The list was written before these
+faults were run, but after the code of the explanations was read.
 
-A string of a list may have several alternatives, separated by `|`; the explanation has to have one of them. Cause and
-remedy are looked for in the sentences only, and not in the excerpt of the text, which shows what was typed anyway.
+A string of a list may have several alternatives, separated by `|`; the explanation must have one of them. Cause and
+remedy are searched in the sentences only, and not in the excerpt, which shows the user's own text anyway.
 """
 
 from __future__ import annotations
@@ -19,7 +19,7 @@ class Fault:
     mistake: Mistake
     cause: tuple[str, ...]
     remedy: tuple[str, ...]
-    # Empty if it is the place that the mistake's text marks.
+    # Empty if the place is the one marked in the mistake's text.
     place: tuple[str, ...] = ()
 
 

@@ -1,8 +1,8 @@
-"""The first hour of somebody who has five CSV files of a school and writes no schema: ten questions, and the mistakes
-of that hour.
+"""The first hour of a user who has five CSV files of a school and writes no schema: ten questions, and mistakes of that
+hour.
 
-What the explanation of each mistake has to say was written before any of the mistakes was run. The files are in
-`folder`, a folder of the user's working folder.
+The words that each explanation must have were written before any of the mistakes was run. The files are in `folder`, a
+folder of the user's working folder.
 """
 import io
 import zipfile
@@ -12,7 +12,7 @@ from typing import Optional
 from faults import Fault
 from mistakes import Files, Mistake, placed
 
-# The tables that sqlite3 fills from the files, to get the answers.
+# The tables that sqlite3 fills from the files, to compute the answers.
 TABLES = """
 CREATE TABLE pupils (id INTEGER, name TEXT, class TEXT, born TEXT);
 CREATE TABLE teachers (id INTEGER, name TEXT, subject TEXT);
@@ -43,8 +43,8 @@ QUESTIONS = (
 def asked(
     line: Optional[str], files: Optional[Files] = None, words: Iterable[str] = ("run", "query.sql", "--data", "folder")
 ) -> Mistake:
-    """A mistake of that hour: the program's line (None: the program isn't run), files in the place of the school's,
-    and the words.
+    """A mistake of that hour: the program's line (None: the program isn't run), files that replace those of the school,
+    and the words of the command line.
     """
     return Mistake(line, (), files or {}, tuple(words))
 
@@ -55,7 +55,7 @@ def query(text: str, cause: str) -> Mistake:
 
 
 def workbook() -> bytes:
-    """The first bytes of a file that a spreadsheet program saves: an archive."""
+    """The first bytes of a spreadsheet program's file, which is a zip archive."""
     data = io.BytesIO()
     with zipfile.ZipFile(data, "w") as archive:
         archive.writestr("xl/workbook.xml", "<workbook/>")
@@ -751,7 +751,7 @@ OF_OTHERS = [
     ),
 ]
 FIRST_HOUR = OF_TABLES + OF_CELLS + OF_QUERIES + OF_LINES + OF_DECIMALS + OF_NAMES + OF_FOLDERS + OF_OTHERS
-# Mistakes whose remedy is a line to paste: after it the same run succeeds.
+# Mistakes whose remedy is a command to paste. After the command the same run succeeds.
 PASTED = (
     "a table whose file ends in .txt",
     "a table whose file is in upper case",

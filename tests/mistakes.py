@@ -1,8 +1,8 @@
-"""What people type wrong over the library of tests/library, the program's line, and the words that an explanation has
-to have.
+"""Mistakes of people who type over the library of tests/library, the program's line for each, and the words that the
+explanation must have.
 
-Each kind has at least two variants. In a text, the sign § marks the place that the program's line has to name; the sign
-is removed before the run.
+Each kind of mistake has at least two variants. In a text, the sign § marks the place that the program's line has to
+name; the sign is removed before the run.
 """
 
 from __future__ import annotations
@@ -19,8 +19,9 @@ Files = Mapping[str, Optional[bytes]]
 
 @dataclass
 class Mistake:
-    """Files that replace those of the library (None: the file is missing), the words, the program's line, and what the
-    explanation says."""
+    """A mistake: files that replace those of the library (None: the file is missing), the words of the command line,
+    the program's line, and words of the explanation.
+    """
 
     line: str | None
     says: tuple[str, ...]
@@ -29,7 +30,7 @@ class Mistake:
 
 
 def placed(text: str) -> tuple[bytes, int]:
-    """A text without its sign §, and the place of the sign in bytes."""
+    """A text without its sign §, and the byte position of the sign."""
     before, _, behind = text.partition("§")
     return (before + behind).encode(), len(before.encode())
 
@@ -183,7 +184,7 @@ WORDS = [
         query("SELECT B.T§ítle FROM BOOK B", "syntax"),
         says=("query.sql, line 1, column 10", "^^^^^", '"Títle"', "Did you mean TITLE?"),
     ),
-    # The accent as a character of its own, behind the letter.
+    # The accent is a character of its own, behind the letter.
     replace(
         query("SELECT prise§\u0301 FROM BOOK", "syntax"),
         says=("query.sql, line 1, column 8", "other letters than A to Z", "Did you mean PRICE?"),
@@ -575,8 +576,8 @@ def past_budget(text: str, line: str, *says: str, words: str = "", files: Files 
     )
 
 
-# 9 equal values on both sides meet in 81 rows, and accuracy changes nothing there; 3 x 5 x 4 rows meet without a
-# condition.
+# 9 rows with one value on both sides join to 81 rows, and accuracy changes nothing in that. Without a condition, 3 x 5
+# x 4 rows join.
 EQUAL = {
     "schema.sql": b"CREATE TABLE R (X INTEGER NOT NULL); CREATE TABLE S (X INTEGER NOT NULL)",
     "r.csv": b"X\r\n" + 9 * b"1\r\n", "s.csv": b"X\r\n" + 9 * b"1\r\n" + 5 * b"2\r\n",
@@ -605,7 +606,7 @@ BUDGETS = [
         },
     ),
 ]
-# The orders of one region's one customer. Each order refers to a customer: 4 orders to another one, and 1 to this one.
+# One customer is in the region. Each order refers to a customer: 4 orders refer to another customer, and 1 to this one.
 REGION = {
     "schema.sql": b"CREATE TABLE C (ID INTEGER PRIMARY KEY, REG INTEGER NOT NULL);"
     b" CREATE TABLE O (N INTEGER NOT NULL, CID INTEGER NOT NULL REFERENCES C)",
@@ -651,11 +652,11 @@ SMALL = {
 }
 BUFFERS = (
     Mistake(
-        "error memory-limit 556", ("take 556 bytes", "the limit is 555", "--memory 556"), SMALL,
-        ("run", "schema.sql", "query.sql", "--memory", "555"),
+        "error memory-limit 531", ("take 531 bytes", "the limit is 530", "--memory 531"), SMALL,
+        ("run", "schema.sql", "query.sql", "--memory", "530"),
     ),
     Mistake(
-        "error memory-limit 556", ("the limit is 1", "So may --count or --bushy"), SMALL,
+        "error memory-limit 531", ("the limit is 1", "So may --count or --bushy"), SMALL,
         ("audit", "schema.sql", "query.sql", "--memory=1"),
     ),
 )

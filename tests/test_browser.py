@@ -1,11 +1,11 @@
-"""Looks at the pictures and pages of plans in Debian's chromium, without a screen: nothing is cut, no number stands
-on the budget's line, and a click shows what a step joins.
+"""Looks at the pictures and pages of plans in Debian's chromium, without a screen. Nothing is cut, no number is on the
+budget's line, and a click shows what a step joins.
 
     /usr/bin/python3 -m unittest tests/test_browser.py
 
-The program is the one that PROGRAM names, and without it the proved one, which `make build` makes. SHOTS names a folder
-that gets what the browser showed, as PNG. It needs Debian's chromium, chromium-driver and python3-selenium, which
-Debian's own Python has; where one of these is missing, the tests are skipped.
+PROGRAM names the program; the default is the proved one, which `make build` makes. SHOTS names a folder for the
+screenshots, as PNG. The tests need Debian's chromium, chromium-driver and python3-selenium, which Debian's own Python
+has; if one of these is missing, they are skipped.
 """
 
 from __future__ import annotations
@@ -19,7 +19,7 @@ from typing import Any
 
 ROOT = os.path.dirname(os.path.dirname(os.path.abspath(__file__)))
 BUILT = os.path.join(ROOT, "crates", "safebound_cli", "out", "safebound_cli")
-# Each text's place within its picture, in the picture's own points, and the places of the budget's line.
+# The place of each text within its picture, in the picture's own units, and the places of the budget's line.
 PLACES = """
 const svg = document.querySelector('svg'), view = svg.viewBox.baseVal;
 const boxes = [...svg.querySelectorAll('path[stroke-dasharray]')].map(p => p.getBBox());
@@ -46,7 +46,7 @@ SHOTS = os.environ.get("SHOTS")
 
 
 def want(is_so: object, what: object) -> None:
-    """Fails where something isn't so, and says what."""
+    """Fails with `what` unless `is_so` is true."""
     if not is_so:
         raise AssertionError(what)
 
@@ -58,7 +58,7 @@ def look_at_places(driver: Any) -> list[tuple[str, float, float, float, float]]:
     for words, x, y, wide, high in texts:
         want(x >= 0 and y >= 0 and x + wide <= width and y + high <= height, f"{words!r} is cut")
         numeral = words.replace(",", "").isdigit() and x > 100
-        # A letter's box has room above and below; the digits themselves fill about its middle.
+        # A letter's box has space above and below; digits fill only about the middle of it.
         want(
             not any(numeral and y + high * 0.2 < line < y + high * 0.75 for line in lines),
             f"{words!r} stands on the budget's line",
@@ -67,7 +67,7 @@ def look_at_places(driver: Any) -> list[tuple[str, float, float, float, float]]:
 
 
 def opened(room: str) -> Any:
-    """The browser, or nothing if a part of it isn't installed."""
+    """The browser, or None if a part of it isn't installed."""
     try:
         from selenium import webdriver
         from selenium.common.exceptions import SessionNotCreatedException
@@ -90,7 +90,7 @@ def opened(room: str) -> Any:
         options.add_argument(word)
     options.set_capability("goog:loggingPrefs", {"browser": "ALL"})
     for left in (2, 1, 0):
-        # The driver gives a browser a minute to start, which a busy machine may not have.
+        # The driver gives a browser one minute to start, which may be too short on a busy machine.
         try:
             return webdriver.Chrome(service=Service(driver), options=options)
         except SessionNotCreatedException:

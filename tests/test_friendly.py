@@ -3,8 +3,8 @@ commands.
 
     python3 -m unittest tests/test_friendly.py [-k WORD]
 
-What is tested is what `make install` puts into a new folder. The program is the one that PROGRAM names, and without it
-the proved one, which `make build` makes.
+The tests run what `make install` puts into a new folder. PROGRAM names the program; the default is the proved one,
+which `make build` makes.
 """
 
 from __future__ import annotations
@@ -48,14 +48,15 @@ FEATURES = (
 )
 
 
-# A case of a test, and what the test finds of it.
+# A case of a test, and the test's result for the case.
 _Case = TypeVar("_Case")
 _Found = TypeVar("_Found")
 
 
 def want(is_so: object, what: object) -> None:
-    """Fails with `what` if something isn't so. It is a function and no method, since tests that run in parallel call it
-    too."""
+    """Fails with `what` unless `is_so` is true. It is a function and no method, since tests that run in parallel call
+    it too.
+    """
     if not is_so:
         raise AssertionError(what)
 
@@ -87,10 +88,10 @@ class Bench:
         self.command, self.program = (os.path.join(self.usr, "bin", name) for name in ("safebound", "safebound_cli"))
 
     def beside(self) -> Bench:
-        """The same command with a room of its own, so that tests may run side by side."""
+        """The same command with a room of its own, so that tests can run side by side."""
         other = copy.copy(self)
         other.room = tempfile.mkdtemp(prefix="room-", dir=self.installed)
-        # A test of files that may not be read runs the program as nobody.
+        # A test with unreadable files runs the program as the user nobody.
         os.chmod(other.room, 0o755)
         other.folder, other.temporary = (os.path.join(other.room, name) for name in ("folder", "temporary"))
         os.mkdir(other.temporary)
@@ -101,12 +102,12 @@ class Bench:
         return other
 
     def of_each(self, test: Callable[[Bench, _Case], _Found], cases: Iterable[_Case]) -> list[_Found]:
-        """What a test finds of each case. Cases run in parallel, each in a room of its own."""
+        """A test's result for each case. Cases run in parallel, each in a room of its own."""
         with ThreadPoolExecutor(os.cpu_count()) as pool:
             return list(pool.map(lambda case: test(self.beside(), case), cases))
 
     def lay(self, files: Mapping[str, bytes | None] | None = None, of: str = LIBRARY) -> None:
-        """Makes a folder with the library's files, some of them replaced by these."""
+        """Creates a folder with the library's files; `files` replace some of them."""
         shutil.rmtree(self.folder, ignore_errors=True)
         shutil.copytree(of, self.folder, ignore=shutil.ignore_patterns("expected"))
         for name, data in (files or {}).items():
@@ -141,9 +142,9 @@ class Bench:
         seen: Callable[[str], object] = lambda shown: None,
         **environment: str,
     ) -> tuple[int, str]:
-        """The exit status and what a terminal shows; standard output is the terminal as well, or else `out`.
+        """Returns the exit status and the text on the terminal. Standard output is the terminal as well, or else `out`.
 
-        `seen` gets what was shown so far.
+        `seen` gets the text so far.
         """
         ours, theirs = pty.openpty()
         fcntl.ioctl(theirs, termios.TIOCSWINSZ, struct.pack("HHHH", 24, wide, 0, 0))
@@ -199,7 +200,9 @@ def setUpModule() -> None:
 
 
 def explained(bench: Bench, mistake: Mistake) -> None:
-    """A mistake: the program's line first and unchanged, its status, and what the explanation has to say."""
+    """Checks a mistake: the program's line comes first and is unchanged, the status is the program's, and the
+    explanation has its words.
+    """
     bench.lay(mistake.files)
     bare = bench.run(*mistake.words, command=bench.program)
     status, out, told = bench.run("--explain", *mistake.words)
@@ -213,7 +216,7 @@ def explained(bench: Bench, mistake: Mistake) -> None:
 
 
 def failure(test: Callable[[Bench, _Case], object], bench: Bench, case: _Case) -> str:
-    """What a test finds wrong, or nothing."""
+    """The failure of a test, or ""."""
     try:
         test(bench, case)
     except AssertionError as fault:
@@ -222,14 +225,14 @@ def failure(test: Callable[[Bench, _Case], object], bench: Bench, case: _Case) -
 
 
 def without_excerpt(notes: str) -> str:
-    """The sentences below the line of a fault, without the excerpt of what was typed and the mark below it."""
+    """The sentences below the line of a fault, without the excerpt of the user's text and the mark below it."""
     lines = notes.split("\n")
     marked = [at for at, line in enumerate(lines) if re.fullmatch(r" {4} *\^+", line)]
     return "\n".join(line for at, line in enumerate(lines) if at not in marked and at + 1 not in marked)
 
 
-def lacking(notes: str, words: Iterable[str]) -> list[str]:
-    """The words of which the text has no form."""
+def words_missing(notes: str, words: Iterable[str]) -> list[str]:
+    """The words that occur in the text in no form."""
     said = squeezed(notes)
     return [
         word for word in words if not any(squeezed(form) in said for form in word.split(" | " if "||" in word else "|"))
@@ -237,7 +240,7 @@ def lacking(notes: str, words: Iterable[str]) -> list[str]:
 
 
 def judged(bench: Bench, fault: Fault) -> tuple[list[str], str]:
-    """What is missing in the explanation of a fault (line, place, cause or remedy), and the whole explanation."""
+    """The missing parts of a fault's explanation (line, place, cause or remedy), and the whole explanation."""
     mistake = fault.mistake
     bench.lay(mistake.files)
     notes = bench.run("--explain", *mistake.words)[2].decode()
@@ -245,31 +248,34 @@ def judged(bench: Bench, fault: Fault) -> tuple[list[str], str]:
     line = [] if mistake.line is None or notes.startswith(mistake.line + "\n") else [mistake.line]
     parts = {
         "line": line,
-        "place": lacking(notes, fault.place or mistake.says[:1]),
-        "cause": lacking(sentences, fault.cause),
-        "remedy": lacking(sentences, fault.remedy),
+        "place": words_missing(notes, fault.place or mistake.says[:1]),
+        "cause": words_missing(sentences, fault.cause),
+        "remedy": words_missing(sentences, fault.remedy),
     }
     return [f"{part} {words}" for part, words in parts.items() if words], notes
 
 
 def of_the_first_hour(bench: Bench, fault: Fault) -> tuple[list[str], str]:
-    """A mistake over the school's files, made in the folder above theirs: what is missing in the explanation below the
-    proposed schema, and all of standard error."""
+    """Makes a mistake over the school's files, in the folder above theirs. Returns the missing parts of the explanation
+    below the proposed schema, and all of standard error.
+    """
     bench.lay(fault.mistake.files, of=SCHOOL)
     notes = bench.run("--explain", *fault.mistake.words, cwd=bench.room)[2].decode()
     told = without_excerpt(re.split(r"^CREATE TABLE .*\n", notes, flags=re.M)[-1])
     line = fault.mistake.line
     parts = {
         "line": [line] if line and line not in notes.split("\n") else [],
-        "place": lacking(notes, fault.place),
-        "cause": lacking(told, fault.cause),
-        "remedy": lacking(told, fault.remedy),
+        "place": words_missing(notes, fault.place),
+        "cause": words_missing(told, fault.cause),
+        "remedy": words_missing(told, fault.remedy),
     }
     return [f"{part} {words}" for part, words in parts.items() if words], notes
 
 
 def pasted(bench: Bench, fault: Fault) -> None:
-    """A mistake whose explanation has one line to paste: the line works, and then what was typed works too."""
+    """For a mistake whose explanation has one command to paste: the command works, and then the user's own command
+    works too.
+    """
     environment = {**bench.environment, "PATH": f"{os.path.dirname(bench.command)}:{os.environ['PATH']}"}
     notes = of_the_first_hour(bench, fault)[1]
     lines = re.findall(r"^ {4}((?:safebound|mv) .*)$", notes, re.M)
@@ -309,7 +315,7 @@ class Explanations(Installed):
         want(not wrong, "\n".join(wrong))
 
     def test_decimals_are_compared_as_cents(self) -> None:
-        """Pastes the advised line, and runs the query with the advised comparison. Its rows were counted by hand."""
+        """Pastes the advised command, and runs the query with the advised comparison. Its rows were counted by hand."""
         environment = {**self.bench.environment, "PATH": f"{os.path.dirname(self.bench.command)}:{os.environ['PATH']}"}
         for name, rows in (
             ("decimals beside a whole number", b"2 3 5"),
@@ -332,7 +338,7 @@ class Explanations(Installed):
             want(status == 0 and sorted(out.split()[1:]) == rows.split(), f"{says}: {out + told!r}")
 
     def test_ten_questions_of_the_first_hour(self) -> None:
-        """The rows are those of sqlite3 over the same files."""
+        """Compares the rows with those of sqlite3 over the same files."""
         base = sqlite3.connect(":memory:")
         base.executescript(first_hour.TABLES)
         for table in ("pupils", "teachers", "rooms", "lessons", "marks"):
@@ -357,7 +363,7 @@ class Explanations(Installed):
         )
 
     def test_what_is_advised_for_rows_works(self) -> None:
-        """The advised commands after `run .. |`: they sort the rows, leave each row once, or end lines in LF."""
+        """Runs the advised commands after `run .. |`: they sort the rows, remove duplicates, or end lines in LF."""
         sys.path.insert(0, os.path.join(self.bench.usr, "lib", "safebound"))
         ADVICE: dict[str, str] = importlib.import_module("safebound_lib.explain.query_advice").WORDS
         self.bench.lay({"query.sql": b"SELECT TOWN FROM READER"})
@@ -423,7 +429,8 @@ class PassedThrough(Installed):
         want(done.returncode == 0 and ", 0 failed" in done.stdout, done.stdout)
 
     def test_broken_streams_files_and_words_pass_through(self) -> None:
-        # cases/process copies the program. A copy of the command wouldn't find its package, so a wrapper has the path.
+        # cases/process copies the program. A copy of the command wouldn't find its package, so a wrapper calls it by
+        # its path.
         wrapper = os.path.join(self.bench.room, "wrapper")
         with open(wrapper, "w") as f:
             f.write(
@@ -513,7 +520,7 @@ def read_all(number: int) -> bytes:
 
 
 def shown(page: str, first: str, last: str) -> str:
-    """The lines of a page from the one after `first` to `last`, indented as they are there."""
+    """The lines of a page between `first` and `last`, indented as in the page."""
     with open(os.path.join(ROOT, page), encoding="utf-8") as f:
         text = f.read()
     return text[text.index(first) + len(first):text.index(last) + len(last)].replace("\n    ", "\n").lstrip("\n") + "\n"
@@ -581,7 +588,7 @@ class ATerminal(Installed):
         ]
         for words in lines:
             self.bench.lay(files)
-            # Command lines stay whole, and so do the paths of pages.
+            # Command lines are never wrapped, and neither are the paths of pages.
             for wide in (64, 80, 200) if "errors" in words else (40, 64, 80, 200):
                 shown = self.bench.at_terminal(*words, wide=wide)[1]
                 long = [
@@ -623,7 +630,7 @@ class ATerminal(Installed):
         want(first == "error budget 3120\n" and rest.startswith("The best order"), repr(shown))
 
     def test_progress_of_a_read(self) -> None:
-        """A table that is read slowly, through a named pipe."""
+        """A table is read slowly, through a named pipe."""
         self.bench.lay({"genre.csv": None, "query.sql": b"SELECT NAME FROM GENRE"})
         pipe = os.path.join(self.bench.folder, "genre.csv")
         os.mkfifo(pipe)
@@ -642,7 +649,8 @@ class ATerminal(Installed):
         want(status == 0 and shown.endswith("\r\033[Kscan GENRE 1\nlevel 1 GENRE 1\nNAME\nNovel\n"), repr(shown))
 
     def test_progress_of_rows(self) -> None:
-        """More rows than a pipe holds. The pipe is read only after the terminal has shown how many bytes were written.
+        """There are more rows than a pipe holds. The pipe is read only after the terminal has shown how many bytes were
+        written.
         """
         many = b"X\r\n" + 400 * b"1\r\n"
         self.bench.lay(
@@ -700,7 +708,7 @@ def completed(bench: Bench, words: list[str]) -> list[str]:
     ).stdout.split()
 
 
-# What the library's five tables happen to show.
+# The schema that is proposed for the library's five tables.
 PROPOSED = """CREATE TABLE AUTHOR (
   ID INTEGER PRIMARY KEY,
   NAME VARCHAR(15) NOT NULL UNIQUE,
@@ -737,8 +745,8 @@ CREATE TABLE READER (
 TABLES = ("author.csv", "book.csv", "genre.csv", "loan.csv", "reader.csv")
 
 
-# Files with a problem, or of which the user has to know something: the file, its bytes, the words, and what the schema
-# has (None: no table).
+# Files with a problem, or with something that the user has to know: the file, its bytes, the words of the message, and
+# the line in the schema (None: no table).
 IN_THE_WAY = (
     ("a.csv", b"1,Ane,Hamar\r\n2,Bo,Moss\r\n", ("first line looks like a row", "line of names above it"), None),
     ("a.csv", b"", ("holds nothing", "first line names the columns"), None),
@@ -814,7 +822,9 @@ OTHER_FILES = {
 
 
 def copy_with_a_release(bench: Bench, name: str) -> str:
-    """A copy of what `make run` and the command need, in which nothing is built, with this program as its release."""
+    """A copy of all files that `make run` and the command need. Nothing is built in it, and this program is its
+    release.
+    """
     alone = os.path.join(bench.room, name)
     for part in ("bin", "python", "tools", os.path.join("examples", "trips")):
         shutil.copytree(

@@ -24,7 +24,7 @@ Equality = Tuple[Column, Column]
 
 
 class Question:
-    """A query of the profile with the file that it stands in."""
+    """A query of the profile, with its file."""
 
     def __init__(self, path: str, schema: reading.Schema) -> None:
         self.name, self.path = os.path.basename(path)[:-4], path
@@ -44,7 +44,7 @@ def questions(folder: str = os.path.join(places.QUERIES, "profile")) -> list[Que
 
 
 def is_cyclic(query: reading.Query) -> bool:
-    """Whether some equality joins two entries that other equalities connect already."""
+    """Whether some equality joins two entries that other equalities already connect."""
     equals = reading.equalities(query)
     return len(reading.kept(equals)) < len(equals)
 
@@ -64,7 +64,7 @@ def own_conjuncts(query: reading.Query, entry: int) -> list[Condition]:
 
 
 def restricted(query: reading.Query, entries: tuple[int, ...]) -> reading.Query:
-    """The query over some of its entries, with the conjuncts that name no others."""
+    """The query over some of its entries, with the conjuncts that name only these."""
     place, inner = {entry: at for at, entry in enumerate(entries)}, copy.copy(query)
     inner.entries = [query.entries[entry] for entry in entries]
     inner.conjuncts = [renumbered(cond, place) for cond in query.conjuncts if reading.named(cond) <= set(entries)]
@@ -89,7 +89,7 @@ def connected_sets(query: reading.Query) -> Iterator[tuple[int, ...]]:
                 yield entries
 
 
-# ---- as SQL, with aliases made of the entries' numbers, so that equal sets of different questions have one text
+# ---- as SQL. Aliases are made from the entries' numbers, so that equal sets of different questions have the same text
 
 
 def side_sql(query: reading.Query, side: Condition) -> str:

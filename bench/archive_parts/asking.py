@@ -14,7 +14,7 @@ PICTURE = os.path.join(places.MADE, "plan.svg")
 
 
 def ask() -> int:
-    """Runs the question and draws its plan; makes the tables first where there are none. Gives the exit status."""
+    """Runs the question and draws its plan. If the tables don't exist, makes them first. Returns the exit status."""
     if not making.is_made():
         fetching.fetch()
         print("the tables are made, which takes about a minute", file=sys.stderr, flush=True)

@@ -28,13 +28,14 @@ class Flags(NamedTuple):
 
 COMPUTED = (Flags("statistics", 1), Flags("statistics", 8), Flags("keys", 8), Flags("reduce", 1), Flags("reduce", 64))
 COUNT = Flags("count", 1)
-# The program is run with all of these. No bounds of --count are computed here: those that the program prints are
-# compared with PostgreSQL's rows and with the bounds of --reduce.
+# The program is run with all of these. The bounds of --count aren't computed here; the bounds that the program prints
+# are compared with PostgreSQL's rows and with the bounds of --reduce.
 TRIED = (*COMPUTED, COUNT)
 
 
 class Bounder:
-    """Bounds of sets, each taken as a query of its own. A set that two questions share is bounded once."""
+    """Bounds of sets. Each set is taken as a query of its own, and is bounded once even if several questions have it.
+    """
 
     def __init__(self, tables: Tables) -> None:
         self.tables = tables
@@ -48,7 +49,7 @@ class Bounder:
         return known(self.statistics[flags.accuracy], query)
 
     def of(self, query: reading.Query) -> dict[Flags, int]:
-        """The bound of all entries together."""
+        """The bound of the query's set of all entries."""
         sql = asked.sql(query)
         if sql not in self.known:
             rows = Rows(self.tables, query)

@@ -1,4 +1,4 @@
-"""What the stored cases over the sample must say: plans by cases/reading.py, and rows and levels by PostgreSQL."""
+"""The expected output of the stored cases over the sample: plans by cases/reading.py, rows and levels by PostgreSQL."""
 
 from __future__ import annotations
 
@@ -22,7 +22,7 @@ def read(path: str) -> str:
 
 
 def load(connection: psycopg.Connection[Any]) -> None:
-    """The sample in a schema of its own, each row with its number in its file."""
+    """Loads the sample into a schema of its own, with each row's number in its file."""
     connection.execute("DROP SCHEMA IF EXISTS SAMPLE CASCADE")
     connection.execute("CREATE SCHEMA SAMPLE")
     connection.execute("SET search_path = SAMPLE")
@@ -50,7 +50,7 @@ def rows_text(connection: psycopg.Connection[Any], query: reading.Query, order: 
 
 
 def bounds(query: reading.Query, options: set[str], accuracy: int) -> reading.ListBounds:
-    """The bounds that the options of a case ask for."""
+    """The bounds for the options of a case."""
     tables = [
         reading.read_rows(query.schema, table, read(os.path.join(SAMPLE, table.lower() + ".csv")))
         for table, _ in query.entries
@@ -65,7 +65,7 @@ def bounds(query: reading.Query, options: set[str], accuracy: int) -> reading.Li
 
 
 def expected(connection: psycopg.Connection[Any], folder: str) -> dict[str, str]:
-    """The text of both streams, and the status."""
+    """The expected text of both streams, and the status."""
     words = read(os.path.join(folder, "args")).split("\n")[:-1]
     command, options = words[0], dict(zip(words, words[1:] + [""]))
     query = reading.Query(asked.schema(), read(os.path.join(folder, "query.sql")))
@@ -90,8 +90,9 @@ def write(files: dict[str, str]) -> None:
 
 
 def compare(connection: psycopg.Connection[Any], writes: bool) -> int:
-    """How many stored files of the cases over the sample differ from what is expected. With `writes` they are written
-    instead."""
+    """How many stored files of the cases over the sample differ from the expected ones. With `writes` the files are
+    written instead.
+    """
     load(connection)
     folders = [os.path.dirname(path) for path in sorted(glob.glob(os.path.join(CASES, "*", "tables")))]
     files = {

@@ -1,5 +1,5 @@
-"""Degree lists and bounds of sets, after docs/DEFINITIONS.md, over columns of numbers. The results are those of
-cases/reading.py, and this is fast enough for millions of rows.
+"""Degree lists and bounds of sets, by docs/DEFINITIONS.md, over columns of numbers. The results are those of
+cases/reading.py, but this code is fast enough for millions of rows.
 
 A list is an array of degrees, the greatest first. Bounds take it as runs of equal degrees.
 """
@@ -34,7 +34,7 @@ def runs_of(degrees: np.ndarray) -> Runs:
 
 
 def compressed(degrees: np.ndarray, accuracy: int) -> np.ndarray:
-    """Each degree becomes its head, a degree that is greater by at most one K-th, until the sum is reached."""
+    """Replaces each degree by its head, a degree that is greater by at most one K-th, until the sum is reached."""
     parts, done, end, total = [np.zeros(0, np.int64)], 0, 0, int(degrees.sum())
     for head, rows in heads_of(degrees, accuracy):
         end += rows
@@ -100,8 +100,9 @@ class Pair:
 
     @cached_property
     def rest(self) -> np.ndarray:
-        """One list for any value that isn't frequent: at each rank the greatest degree, cut at the rows of the most
-        frequent one."""
+        """One list for any value that isn't frequent: at each rank the greatest degree, cut at the number of rows of
+        the most frequent of these values.
+        """
         rows = ~np.isin(self.filters, self.frequent)
         if not rows.any():
             return np.zeros(0, np.int64)
@@ -160,7 +161,7 @@ class Statistics:
 
     @lru_cache(None)
     def referring(self, table: str, reference: Reference) -> tuple[np.ndarray, np.ndarray]:
-        """The rows of a table that refer to a row of another, and which row that is."""
+        """The rows of a table that refer to a row of another table, and the rows to which they refer."""
         values = self.tables.columns[table][reference.column]
         keys = self.tables.columns[reference.target][reference.key]
         row_of_key = np.full(max(values.max(initial=0), keys.max(initial=0)) + 1, -1)
@@ -181,7 +182,7 @@ class Statistics:
 
 
 class Filtered:
-    """The list of a joined column over the rows that an entry's own conditions leave."""
+    """The list of a joined column over the rows that satisfy an entry's own conditions."""
 
     def __init__(self, tables: Tables, whole: np.ndarray, pair_of: Callable[[int], Pair]) -> None:
         self.tables, self.whole, self.pair_of = tables, whole, pair_of
@@ -221,7 +222,7 @@ class Filtered:
 
 # ---- bounds of sets
 
-# A function of ranks or of rows is kept as steps: a value, and the index where it ends. After the last step it is 0.
+# A function of ranks or of rows is stored as steps: a value, and the index where it ends. After the last step it is 0.
 Steps = List[Tuple[int, int]]
 
 
@@ -272,7 +273,7 @@ def on_ranks(degrees: Runs, by_row: Steps) -> Steps:
 
 
 def over(by_row: Steps, place: int, row: int, end: int) -> int:
-    """The sum over rows from one to another."""
+    """The sum over the rows from `row` to `end`."""
     total = 0
     while row < end:
         value, until = by_row[place]
@@ -282,7 +283,7 @@ def over(by_row: Steps, place: int, row: int, end: int) -> int:
 
 
 class Known:
-    """The lists of a query's joined columns; an entry's row bound is the sum of any of its lists."""
+    """The lists of a query's joined columns. An entry's row bound is the sum of any of its lists."""
 
     def __init__(self, query: reading.Query, lists: dict[Column, np.ndarray]) -> None:
         self.query, self.lists = query, lists
@@ -322,7 +323,7 @@ def joined_columns(query: reading.Query) -> set[Column]:
 
 
 def known(statistics: Statistics, query: reading.Query) -> Known:
-    """From statistics of whole tables."""
+    """Lists from statistics of whole tables."""
     lists = {}
     for entry, column in joined_columns(query):
         table = query.entries[entry][0]
@@ -333,7 +334,7 @@ def known(statistics: Statistics, query: reading.Query) -> Known:
 
 
 def known_by_keys(statistics: Statistics, query: reading.Query) -> Known:
-    """From statistics and the conditions of entries to which others refer; it holds for the set of all entries."""
+    """Lists from statistics and from the conditions on referred entries. They are valid for the set of all entries."""
     found = known(statistics, query)
     for one, other in reading.equalities(query):
         carry(statistics, found, one, other)
@@ -342,8 +343,9 @@ def known_by_keys(statistics: Statistics, query: reading.Query) -> Known:
 
 
 def carry(statistics: Statistics, found: Known, side: Column, carrier: Column) -> None:
-    """Where one side refers to the other by a key, its entry's lists are those of the rows that refer to a row which
-    the other's own conditions leave."""
+    """If one side refers to the other by a key, its entry gets the lists of the rows that refer to a row which
+    satisfies the other entry's own conditions.
+    """
     query, (entry, column), (of, key) = found.query, side, carrier
     own, table, target = asked.own_conjuncts(query, of), query.entries[entry][0], query.entries[of][0]
     names = query.schema[table][0][column][0], query.schema[target][0][key][0]
@@ -357,7 +359,7 @@ def carry(statistics: Statistics, found: Known, side: Column, carrier: Column) -
 
 
 def known_reduced(rows: Rows, accuracy: int) -> Known:
-    """From reduced scans."""
+    """Lists from reduced scans."""
     lists = {}
     for entry, column in joined_columns(rows.query):
         keys = rows.columns[entry][column][rows.reduced[entry]]

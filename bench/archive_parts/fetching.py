@@ -15,8 +15,9 @@ SAID = "the package index (9 MB) and the list of contents (46 MB) of Debian's ar
 
 
 def options() -> list[str]:
-    """Options with which apt reads the machine's own sources of Debian and no others, and keeps its lists in our
-    folder, so that apt's own lists stay as they are."""
+    """Options with which apt reads only the machine's own Debian sources and keeps its lists in our folder. apt's own
+    lists are unchanged.
+    """
     source = next((path for path in SOURCES if os.path.exists(path)), None)
     if source is None:
         sys.exit("archive: apt has no sources of Debian here: neither of " + ", ".join(SOURCES))
@@ -33,7 +34,7 @@ def options() -> list[str]:
 
 
 def fetch() -> None:
-    """Fetches what the archive has changed since the last time, at first all of it."""
+    """Fetches what has changed in the archive since the last time; the first time, all of it."""
     os.makedirs(os.path.join(places.LISTS, "partial"), exist_ok=True)
     os.makedirs(os.path.join(places.MADE, "cache"), exist_ok=True)
     print(f"apt-get update fetches {SAID} into {places.LISTS}", file=sys.stderr, flush=True)

@@ -1,7 +1,7 @@
 """A query's number of rows by groups, as one SQL statement, for joins with too many rows to be listed.
 
-Columns that are equal are one variable. Each entry is a table of its variables with counts, and one variable after
-another is summed out.
+Equal columns are one variable. Each entry is a table of its variables with counts, and the variables are summed out one
+after another.
 """
 
 from __future__ import annotations
@@ -17,7 +17,7 @@ Variable = int
 
 
 class Factor(NamedTuple):
-    """A table of counts by its variables, with the name that it has in the statement."""
+    """A table of counts by its variables, with its name in the statement."""
 
     name: str
     variables: frozenset[Variable]
@@ -35,7 +35,7 @@ class Grouping:
         self.factors = [self.scan(entry) for entry in range(len(query.entries))]
 
     def variables(self) -> dict[Column, Variable]:
-        """The variable of each column that some condition over two entries names."""
+        """The variable of each column that is named by some condition over two entries."""
         classes: list[set[Column]] = []
         for left, right in reading.equalities(self.query):
             classes = reading.merged(classes, left, right)
@@ -69,7 +69,7 @@ class Grouping:
         return frozenset(self.number[column] for column in columns_of(cond))
 
     def around(self, variable: Variable) -> tuple[list[Factor], frozenset[Variable]]:
-        """The factors that must be joined before a variable is summed out, and all of their variables."""
+        """The factors that must be joined before a variable is summed out, and all their variables."""
         named = [self.of_cond(cond) for cond in self.pending]
         wanted = frozenset({variable}).union(*(some for some in named if variable in some))
         chosen = [factor for factor in self.factors if variable in factor.variables]
@@ -79,7 +79,7 @@ class Grouping:
         return chosen, all_variables(chosen)
 
     def sum_away(self, variable: Variable) -> None:
-        """Joins the factors around a variable into one that has all of their variables but this one."""
+        """Joins the factors around a variable into one factor, and sums the variable out."""
         chosen, every = self.around(variable)
         at = {number: [factor for factor in chosen if number in factor.variables] for number in every}
         tests = [
@@ -101,13 +101,13 @@ class Grouping:
         self.factors.append(self.add(select, frozenset(left)))
 
     def renamed(self, cond: Condition, at: dict[Variable, list[Factor]]) -> str:
-        """A comparison of two columns, by the variables."""
+        """A comparison of two columns, in terms of the variables."""
         op, *sides = cond
         texts = [f"{at[self.number[side[1:]]][0].name}.V{self.number[side[1:]]}" for side in sides]
         return f"{texts[0]} {op} {texts[1]}"
 
     def sql(self) -> str:
-        """The statement. The variable with the fewest others around it is summed out first."""
+        """The statement. In each step the variable with the fewest other variables around it is summed out."""
         while left := all_variables(self.factors):
             self.sum_away(min(left, key=lambda variable: (len(self.around(variable)[1]), variable)))
         total = " * ".join(f"COALESCE((SELECT C FROM {factor.name}), 0)" for factor in self.factors)

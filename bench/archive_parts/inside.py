@@ -20,7 +20,7 @@ INSIDE = os.path.join(places.MADE, "inside.csv")
 INSIDE_COLUMNS = ("query", "half", "mode", "seconds", "cancelled", "planning")
 MODES = ("off", "mean", "bound")
 LONGEST = 30.0
-# Queries that took less are run again, and the least counts.
+# Queries that take less than this are run again, and the least time counts.
 AGAIN_BELOW = 0.3
 
 
@@ -41,7 +41,7 @@ class Backend:
                 self.connection.cancel()
 
     def run(self, text: str) -> tuple[float, bool]:
-        """Plans and runs a query without returning its rows: its seconds, and whether it was cancelled."""
+        """Plans and runs a query without returning its rows. Returns its seconds, and whether it was cancelled."""
         begin, done = self.seconds(), threading.Event()
         watch = threading.Thread(target=self.cancel_at, args=(begin + LONGEST, done))
         watch.start()
@@ -55,7 +55,7 @@ class Backend:
             watch.join()
 
     def planned(self, text: str) -> tuple[float, str]:
-        """Milliseconds of processor time for a plan, the least of five, and the plan without its numbers."""
+        """The milliseconds of processor time for planning, the least of five, and the plan without its numbers."""
         least = LONGEST
         for _ in range(5):
             begin = self.seconds()
@@ -82,8 +82,9 @@ def measured(backend: Backend, text: str) -> tuple[float, bool]:
 
 
 def in_modes(backend: Backend, text: str, modes: Iterable[str]) -> Iterator[tuple[str, float, bool, float]]:
-    """One question in each mode. If an earlier mode had the same plan, that run's time counts here too, and only
-    planning is measured."""
+    """Measures one question in each mode. If an earlier mode had the same plan, the time of that run is used again, and
+    only planning is measured.
+    """
     known: dict[str, tuple[float, bool, float]] = {}
     for mode in modes:
         backend.connection.execute(f"SET safebound.estimates = {mode}")
@@ -95,7 +96,8 @@ def in_modes(backend: Backend, text: str, modes: Iterable[str]) -> Iterator[tupl
 
 
 def rows(url: str) -> Iterator[list[object]]:
-    """Each question in each mode, in turn. Every second question was held out while the extension was made."""
+    """Each question in each mode, in turn. Every second question was not looked at while the extension was developed.
+    """
     backend = Backend(url)
     for number, question in enumerate(asked.questions()):
         modes = (MODES[(number + turn) % len(MODES)] for turn in range(len(MODES)))
@@ -106,7 +108,7 @@ def rows(url: str) -> Iterator[list[object]]:
 
 @dataclass
 class Taken:
-    """What one question took in each mode."""
+    """The times of one question in each mode."""
 
     seconds: dict[str, float]
     cancelled: dict[str, bool]
@@ -136,7 +138,7 @@ def table(lines: list[dict[str, str]]) -> Iterator[str]:
 
 
 def cells(told: list[Taken], mode: str) -> str:
-    """What all questions took in one mode, beside PostgreSQL's own numbers of rows."""
+    """The times of all questions in one mode, divided by those with PostgreSQL's own numbers of rows."""
     ratios = sorted(one.seconds[mode] / one.seconds["off"] for one in told)
     longer = sorted(one.planning[mode] - one.planning["off"] for one in told)
     whole = sum(one.seconds[mode] for one in told)

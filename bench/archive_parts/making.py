@@ -24,20 +24,20 @@ FIELDS = ("Package", "Source", "Maintainer", "Section", "Priority", "Size", "Ins
 PACKAGE_NAME = re.compile(r"\s*([a-z0-9][a-z0-9+.-]+)")
 BRACES = re.compile(r"(.*)\{(.*)\}")
 Row = Sequence[Union[int, str]]
-# The 7,400,000 files of the whole archive are more than the program takes in one table: those below this folder, mostly
-# documents, icons and data, are left out there.
+# The 7,400,000 files of the whole archive are more than the program accepts in one table. So its tables leave out the
+# files below this folder, mostly documents, icons and data.
 LEFT_OUT = "usr/share/"
 
 
 def paragraphs(lines: Iterable[str]) -> Iterator[dict[str, str]]:
-    """For each package those of its fields that FIELDS names. An empty line ends a package."""
+    """For each package the fields in FIELDS. An empty line ends a package."""
     for is_full, paragraph in itertools.groupby(lines, bool):
         if is_full and (found := fields_of(paragraph)):
             yield found
 
 
 def fields_of(paragraph: Iterable[str]) -> dict[str, str]:
-    """A line that begins with a blank belongs to the field before it."""
+    """The fields of a paragraph. A line that begins with a blank continues the field before it."""
     found: dict[str, str] = {}
     name = ""
     for line in paragraph:
@@ -67,13 +67,13 @@ def tags_of(field: str) -> list[str]:
 
 
 def targets_of(field: str, ids: dict[str, int]) -> list[int]:
-    """The packages that a field names, each once; a name that is no package (a virtual one) is left out."""
+    """The packages that a field names, each once. A name that isn't a package (a virtual one) is left out."""
     names = [PACKAGE_NAME.match(part) for part in re.split(r"[,|]", field)]
     return list(dict.fromkeys(ids[name[1]] for name in names if name and name[1] in ids))
 
 
 def package_tables(found: dict[str, dict[str, str]]) -> dict[str, list[Row]]:
-    """All tables but those of files and folders, out of the fields of each package by its name."""
+    """All tables except those of files and folders, from the fields of each package, by its name."""
     ids = numbered(found)
     people = numbered(without_address(fields["Maintainer"]) for fields in found.values())
     packages: list[Row] = []
@@ -92,7 +92,7 @@ def package_tables(found: dict[str, dict[str, str]]) -> dict[str, list[Row]]:
 
 
 def paths(lines: Iterable[str], ids: dict[str, int]) -> Iterator[tuple[str, str, int]]:
-    """Folder, name and package of each file; a file that several packages have comes once for each."""
+    """The folder, name and package of each file. A file of several packages comes once for each."""
     for line in lines:
         path, _, owners = line.rpartition(" ")
         folder, _, name = path.rstrip().rpartition("/")
@@ -103,7 +103,8 @@ def paths(lines: Iterable[str], ids: dict[str, int]) -> Iterator[tuple[str, str,
 
 
 class Directories:
-    """Folders by their paths, numbered in the order in which they first occur; 1 is the root, its own parent."""
+    """Folders by path, numbered in the order in which they first occur. Folder 1 is the root, which is its own parent.
+    """
 
     def __init__(self) -> None:
         self.numbers = {"": 1}
@@ -125,8 +126,9 @@ def write(folder: str, table: str, rows: Iterable[Row]) -> None:
 
 
 def write_files(ids: dict[str, int]) -> None:
-    """The tables of files and folders. The files that the program takes come first, so that their folders have the same
-    numbers in both sets of tables."""
+    """Writes the tables of files and folders. The files that the program accepts come first, so that their folders have
+    the same numbers in both sets of tables.
+    """
     found = sorted(paths(fetching.lines("Contents-deb"), ids))
     within = [one for one in found if not (one[0] + "/").startswith(LEFT_OUT)]
     others = [one for one in found if (one[0] + "/").startswith(LEFT_OUT)]
@@ -151,5 +153,5 @@ def make() -> None:
 
 
 def is_made() -> bool:
-    """Whether the last file that `make` writes is there."""
+    """Whether the last file that `make` writes exists."""
     return os.path.exists(os.path.join(places.WHOLE, "directory.csv"))

@@ -36,7 +36,7 @@ def say(text: str) -> None:
 
 
 def write(path: str, columns: Iterable[str], rows: Iterable[Iterable[object]]) -> None:
-    """Writes a CSV file. It gets its name only once it is whole."""
+    """Writes a CSV file. It gets its name only when it is complete."""
     with open(path + ".new", "w", encoding="utf-8", newline="") as f:
         out = csv.writer(f)
         out.writerow(columns)
@@ -78,7 +78,7 @@ def runs(url: str) -> Iterator[list[object]]:
 
 
 def one_run(question: asked.Question, words: list[str], out: str, true: running.Rows | None) -> list[object]:
-    """The run, or its refusal, with its rows beside PostgreSQL's."""
+    """The run or its refusal, with its rows and PostgreSQL's."""
     run = running.by_program("run", os.path.basename(question.path), words, out)
     rows = running.rows_of(out, True) if run.status == 0 else None
     last = run.levels[-1][1] if run.status == 0 else None
@@ -87,7 +87,7 @@ def one_run(question: asked.Question, words: list[str], out: str, true: running.
 
 
 def plans() -> Iterator[list[object]]:
-    """Each plan, and right after it the run of the same, with the machine's load at that time."""
+    """Each plan and then at once the run of the same question, with the machine's load at that time."""
     with tempfile.TemporaryDirectory(dir=places.MADE) as folder:
         out = os.path.join(folder, "rows.csv")
         for question in asked.questions():
@@ -97,7 +97,7 @@ def plans() -> Iterator[list[object]]:
 
 
 def one_plan(question: asked.Question, words: list[str], out: str) -> list[object]:
-    """The load before it, and the figures of both commands."""
+    """The load before the plan, and the figures of both commands."""
     load, name = os.getloadavg()[0], os.path.basename(question.path)
     both = [running.by_program(command, name, words, out) for command in COMMANDS]
     return [load, *(getattr(one, figure) for one in both for figure in FIGURES)]

@@ -1,4 +1,4 @@
-"""Where things lie: what the repository has, and the folder in which everything that is fetched and made stays."""
+"""Paths: of files in the repository, and of the folder for everything that is fetched and made."""
 
 from __future__ import annotations
 

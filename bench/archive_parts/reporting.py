@@ -13,7 +13,7 @@ from .running import BUDGET
 
 SMALL_BUDGET = 1_000_000
 SHARES = (50, 75, 90, 100)
-# The lines of a CSV file, each by the names of its columns.
+# The lines of a CSV file, each as a map from column names.
 Lines = List[Dict[str, str]]
 
 
@@ -23,7 +23,7 @@ def read(path: str) -> Lines:
 
 
 def shown(value: float) -> str:
-    """Two digits below ten, whole numbers below a thousand, then three digits, and from a million on powers of ten."""
+    """Below ten, two digits; below a thousand, a whole number; then three digits; from a million on, a power of ten."""
     if value < 10:
         return f"{value:.2g}"
     if value < 1000:
@@ -70,7 +70,7 @@ def bounded(sets: Lines, name: str) -> list[float]:
 
 
 def is_below(one: dict[str, str], bound: str, rows: str) -> bool:
-    """Whether a bound is less than the rows, where these were counted."""
+    """Whether a bound is less than the number of rows, if the rows were counted."""
     return bool(one[rows]) and int(one[bound]) < int(one[rows])
 
 
@@ -112,7 +112,7 @@ def whole_queries(sets: Lines, runs: Lines) -> None:
 
 
 def whole_by(flags: Flags, asked: Lines, runs: Lines) -> list[str]:
-    """The table's line for one set of flags."""
+    """The line of the table for one set of flags."""
     names = {one["question"] for one in asked}
     cost = {one["question"]: int(one["cost"]) for one in runs if one["flags"] == flags.name and one["cost"]}
     refused = [sum(cost.get(name, budget + 1) > budget for name in names) for budget in (BUDGET, SMALL_BUDGET)]
@@ -177,8 +177,9 @@ def times_by(flags: Flags, runs: Lines) -> list[str]:
 
 
 def sums(runs: Lines) -> None:
-    """What `--reduce` took beside PostgreSQL, and what each set of flags took for the questions that all of them
-    admit."""
+    """The times of `--reduce` beside PostgreSQL's, and the time of each set of flags for the questions that all of them
+    admit.
+    """
     ran = [one for one in runs if one["status"] == "0"]
     reduced = [one for one in ran if one["flags"] == "`--reduce`" and one["postgres_rows"]]
     both = [(float(one["seconds"]), float(one["postgres_seconds"])) for one in reduced]
@@ -200,8 +201,9 @@ FIGURES = {"seconds": "seconds", "processor": "seconds of processor", "peak": "p
 
 
 def plans(found: Lines) -> None:
-    """`plan` beside the `run` right after it, for what the budget admits: each cell has median, 90th percentile and
-    worst."""
+    """`plan` compared with the `run` right after it, for questions that the budget admits. Each cell has the median,
+    the 90th percentile and the maximum.
+    """
     loads, refused = [float(one["load"]) for one in found], [one for one in found if one["run_status"] != "0"]
     longest = {command: max((float(one[f"{command}_seconds"]) for one in refused), default=0.0) for command in COMMANDS}
     print(
@@ -222,7 +224,7 @@ def plans_by(flags: Flags, found: Lines) -> list[str]:
 
 
 def beside_reduce(found: Lines) -> None:
-    """How much longer `plan --count` takes than `plan --reduce` of the same question."""
+    """The ratio of `plan --count` to `plan --reduce` of the same question, in time."""
     took = {(one["question"], one["flags"]): float(one["plan_seconds"]) for one in found}
     counts = {question: seconds for (question, flags), seconds in took.items() if flags == COUNT.name}
     ratios = [seconds / took[question, "`--reduce`"] for question, seconds in counts.items()]

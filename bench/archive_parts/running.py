@@ -15,7 +15,7 @@ BUDGET = 20_000_000
 
 
 class Ended(NamedTuple):
-    """A process that ended: its status, seconds, seconds of processor, peak of memory in MiB, and what it noted."""
+    """A finished process: its status, seconds, seconds of processor, peak of memory in MiB, and standard error."""
 
     status: int
     seconds: float
@@ -25,7 +25,7 @@ class Ended(NamedTuple):
 
     @property
     def least(self) -> int | None:
-        """The smallest sufficient budget, where that of the run was too small."""
+        """The smallest sufficient budget, if the run's budget was too small."""
         found = re.fullmatch(r"error budget (\d+)\n", self.notes)
         return int(found[1]) if found else None
 
@@ -42,14 +42,14 @@ class Ended(NamedTuple):
 
 
 class Rows(NamedTuple):
-    """The rows of an answer, whatever their order: how many, and a sum over all of them."""
+    """The rows of an answer in any order: their number, and a sum over all of them."""
 
     number: int
     sum: int
 
 
 def ended(command: list[str], out: str, folder: str | None = None, env: dict[str, str] | None = None) -> Ended:
-    """Runs a command in a folder, its output into a file."""
+    """Runs a command in a folder, with its output in a file."""
     timed = os.path.join(os.path.dirname(os.path.abspath(__file__)), "timed.py")
     with open(out, "wb") as rows, tempfile.TemporaryFile() as notes, tempfile.NamedTemporaryFile("r") as told:
         subprocess.run(
@@ -67,7 +67,7 @@ def ended(command: list[str], out: str, folder: str | None = None, env: dict[str
 
 
 def by_program(command: str, question: str, words: list[str], out: str) -> Ended:
-    """`plan` or `run` over the tables, which are read anew."""
+    """`plan` or `run` over the tables, which are read again."""
     return ended([places.PROGRAM, command, "schema.sql", question, "--budget", str(BUDGET), *words], out, places.TABLES)
 
 

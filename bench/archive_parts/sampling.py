@@ -12,7 +12,7 @@ from . import making, places
 PACKAGES = 2_000
 FIRST = "mutt"
 TEAM = re.compile(r"team|group|maintainers|developers|project|openstack|debian", re.IGNORECASE)
-# The sample has the files of these folders, and those below /etc.
+# The folders whose files are in the sample, besides those below /etc.
 FOLDERS = ("/bin", "/sbin", "/usr/bin", "/usr/sbin", "/usr/games", "/lib/systemd/system")
 
 
@@ -22,7 +22,8 @@ def read(table: str) -> list[list[str]]:
 
 
 def reached(dependencies: list[list[str]], first: str, most: int) -> set[str]:
-    """At most `most` packages: the first one, and those that dependencies of any kind reach from it, nearest first."""
+    """At most `most` packages: the first one, and packages that dependencies of any kind reach from it, nearest first.
+    """
     targets: dict[str, list[str]] = {}
     for package, _, target in dependencies:
         targets.setdefault(package, []).append(target)
@@ -38,7 +39,7 @@ def is_kept(path: str) -> bool:
 
 
 def sample(folder: str, most: int = PACKAGES) -> None:
-    """Writes the rows of `most` packages. A maintainer who is a person and not a team is named by a number."""
+    """Writes the rows of `most` packages. A maintainer who is a person and not a team gets a number as name."""
     packages, dependencies = read("package"), read("dependency")
     kept = reached(dependencies, next(row[0] for row in packages if row[1] == FIRST), most)
     directories = {row[0]: row for row in read("directory")}
@@ -62,7 +63,7 @@ def sample(folder: str, most: int = PACKAGES) -> None:
 
 
 def with_parents(numbers: set[str], directories: dict[str, list[str]]) -> set[str]:
-    """The numbers of directories, and of all directories that they lie in."""
+    """The numbers of directories, and of all directories that contain them."""
     found: set[str] = set()
     for number in numbers:
         while number not in found:

@@ -28,7 +28,7 @@ def copy(connection: psycopg.Connection[Any], table: str, columns: Iterable[str]
 
 
 def load(connection: psycopg.Connection[Any], folder: str) -> None:
-    """All tables of a folder with their keys, an index for each column that queries join by, and statistics."""
+    """Loads all tables of a folder with their keys, an index for each column by which queries join, and statistics."""
     with open(os.path.join(places.QUERIES, "schema.sql"), encoding="utf-8") as f:
         connection.execute(f.read())
     for table, columns in COLUMNS.items():

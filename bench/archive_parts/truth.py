@@ -12,14 +12,14 @@ import reading
 from . import asked, grouping, places, server
 from .columns import Rows, Tables
 
-# Where groups give at most this many rows, PostgreSQL counts them too, and both must give the same number.
+# If groups give at most this many rows, PostgreSQL counts the rows too, and both numbers must be equal.
 COUNTED_TWICE = 3_000_000
 SETTINGS = ("work_mem = '256MB'", "jit = off", "statement_timeout = '{seconds}s'")
 KEPT = os.path.join(places.MADE, "truth.csv")
 
 
 class Truth(NamedTuple):
-    """The rows, or None where nobody could count them; who counted; and what PostgreSQL expects."""
+    """The number of rows, or None if it couldn't be counted; how it was counted; and PostgreSQL's estimate."""
 
     rows: int | None
     by: str
@@ -27,7 +27,7 @@ class Truth(NamedTuple):
 
 
 def number(connection: psycopg.Connection[Any], sql: str) -> int | None:
-    """The one number that a statement gives, or None where it takes too long."""
+    """The only number in a statement's result, or None if the statement takes too long."""
     try:
         return int(server.value(connection, sql))
     except psycopg.errors.QueryCanceled:
@@ -35,7 +35,7 @@ def number(connection: psycopg.Connection[Any], sql: str) -> int | None:
 
 
 def kept() -> dict[str, Truth]:
-    """What was counted since the tables last changed, by statement."""
+    """The counts since the tables last changed, by statement."""
     if not os.path.exists(KEPT) or os.path.getmtime(KEPT) <= os.path.getmtime(os.path.join(places.TABLES, "file.csv")):
         return {}
     with open(KEPT, encoding="utf-8", newline="") as f:
@@ -44,7 +44,7 @@ def kept() -> dict[str, Truth]:
 
 
 class Counter:
-    """Counts each set once, even if several questions have it, and keeps what it counted until the tables change."""
+    """Counts each set once, even if several questions have it, and stores the counts until the tables change."""
 
     def __init__(self, connection: psycopg.Connection[Any], tables: Tables, seconds: int) -> None:
         self.connection, self.tables, self.known = connection, tables, kept()

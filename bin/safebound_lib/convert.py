@@ -107,7 +107,7 @@ def read(file: str) -> bytes:
 
 
 def not_text_message(data: bytes) -> str:
-    """What a workbook or a packed file is, and what the user has to do with it; "" for any other file."""
+    """Says of a workbook or a packed file what it is and what the user has to do; "" for any other file."""
     return next((says for start, says in NOT_TEXT if data.startswith(start)), "")
 
 
@@ -153,7 +153,9 @@ def decoded(file: str, data: bytes, encoding: str) -> str:
 
 
 def sheet_of(text: str) -> Sheet:
-    """The records of a text. A first line `sep=;`, as Excel has it, names the separator; else the fittest is taken."""
+    """The records of a text. A first line `sep=;`, as Excel writes it, names the separator. Without it, the separator
+    that splits the records most evenly is taken.
+    """
     first, _, rest = text.partition("\n")
     named = first.rstrip("\r").removeprefix("sep=")
     if first.startswith("sep=") and named in SEPARATORS:
@@ -168,8 +170,8 @@ def parsed(text: str, separator: str) -> Iterator[list[str]]:
 
 
 def evenness(text: str, separator: str) -> tuple[bool, int, int]:
-    """How well a separator fits: whether it splits the header, how many records have as many fields as the header, and
-    how many fields the header has.
+    """How well a separator fits, as a tuple to compare: whether it splits the header, how many records have as many
+    fields as the header, and how many fields the header has.
     """
     widths = [len(record) for _, record in zip(range(LOOKED_AT), parsed(text, separator))]
     wide = widths[0] if widths else 1
@@ -199,8 +201,8 @@ def unused_name(name: str) -> str:
 def write_result(
     file: str, old: bytes, new: bytes, output: str | None, says: str, warning: str, numbers_kept: bool
 ) -> int:
-    """Writes the new text, and answers the exit status. No other file is written over. If the target is the input
-    itself, the old bytes are first kept in a file of another name.
+    """Writes the new text, and returns the exit status. Only the input itself may be overwritten; its old bytes are
+    first kept in a file of another name.
     """
     folder, base = os.path.split(file)
     target = output or os.path.join(
@@ -237,7 +239,7 @@ def write_new(file: str, data: bytes) -> None:
 
 
 def replace(target: str, data: bytes, mode: int) -> None:
-    """Writes a file whole or not at all."""
+    """Replaces a file at once. After an error the target is unchanged."""
     number, name = tempfile.mkstemp(dir=os.path.dirname(target) or ".", prefix=".safebound-")
     try:
         with os.fdopen(number, "wb") as f:

@@ -1,5 +1,5 @@
-"""Columns of decimals: the program's numbers are integers, so such a column is a text until it is written in whole
-cents.
+"""Columns of decimals. The program's numbers are integers: it reads such a column as text, until `safebound convert
+--cents` writes it in whole cents.
 """
 from __future__ import annotations
 
@@ -22,19 +22,21 @@ def units(digits: int) -> str:
 
 
 def called(name: str, digits: int) -> str:
-    """The name of the column of whole numbers."""
+    """The name of the new column of whole numbers."""
     unit = units(digits)
     return f"{name}{'_' if re.fullmatch('[A-Za-z0-9_]+', name) else ' '}{unit.upper() if name.isupper() else unit}"
 
 
 def line_to_paste(word: str, name: str, digits: int) -> str:
-    """The line that writes a column in whole numbers; `word` is the file as a word of the user's command line."""
+    """The command that writes a column in whole numbers. `word` is the file's name as the user wrote it on the command
+    line.
+    """
     more = "" if digits == CENTS else f" --digits {digits}"
     return f"\n    safebound convert {plain(word)} --cents {plain(shlex.quote(name_of(name)))}{more}"
 
 
 def of_decimals(name: str, values: dict[str, int], word: str) -> str:
-    """A sentence on a column whose values are all decimals, and the line that writes it in cents."""
+    """A sentence on a column whose values are all decimals, and the command that writes it in cents."""
     first, digits = first_decimal(values), scale_of(values)
     if first is None:
         return ""
@@ -61,7 +63,7 @@ def in_whole_numbers(file: str, records: list[list[str]], name: str, digits: int
 
 
 def refuse_value(file: str, number: int, value: str, name: str, digits: int) -> None:
-    """Refuses a value that isn't a decimal, or that would lose digits: the user has to decide what it becomes."""
+    """Refuses a value that isn't a decimal, or that would lose digits. The user has to decide how to change it."""
     has, where = digits_of(value), f"{plain(file)}, record {number}: {plain(name)} is `{plain(value)}`"
     if has is None:
         raise Misused(f"{where}, and this is no number. Write one there; nothing was written")

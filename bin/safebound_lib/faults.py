@@ -1,11 +1,12 @@
-"""Reads the line of a fault, of the form that docs/ERRORS.md lists, and takes it apart into its words."""
+"""Takes the line of a fault apart. docs/ERRORS.md lists the forms of these lines."""
 from __future__ import annotations
 
 import re
 from dataclasses import dataclass
 from typing import Any
 
-# What is wrong with a table's file. Its name has no blank; the name of a file of new rows (`append`) may have some.
+# What can be wrong with a table's file. Its name has no blank; the name of a file of new rows (`append`) may have
+# blanks.
 OF_TABLES = (
     r"(?P<cause>utf8) (?P<at>\d+)",
     r"(?P<cause>header) (?P<column>.*)",
@@ -35,7 +36,7 @@ NUMBERS = {"at", "record", "found", "earlier", "least"}
 
 @dataclass
 class Fault:
-    """The words of a fault's line. A word that this kind of fault doesn't have is empty, or 0 if it is a number."""
+    """The words of a fault's line. A word that this kind of fault doesn't have is "", or 0 if it is a number."""
     kind: str
     cause: str = ""
     file: str = ""
@@ -48,7 +49,8 @@ class Fault:
 
 
 def fault_of(notes: bytes) -> Fault | None:
-    """The fault that standard error reports, or None. Its line stands alone, or after the plan if a write failed."""
+    """The fault that standard error reports, or None. Its line is the only line, or follows the plan if a write failed.
+    """
     text = notes.decode("utf-8", "surrogateescape")
     line = text if text.startswith("error ") else text[text.rstrip("\n").rfind("\n") + 1:]
     match = next((match for form in FORMS for match in [form.fullmatch(line.removesuffix("\n"))] if match), None)

@@ -1,4 +1,4 @@
-"""Reads tokens by a grammar, rule by rule. If that goes wrong, it knows what could have stood at that place."""
+"""Reads tokens by a grammar, rule by rule. After an error it knows what it expected at that place."""
 from __future__ import annotations
 
 from collections.abc import Callable
@@ -11,11 +11,11 @@ Read = TypeVar("Read")
 
 
 class Wrong(Exception):
-    """No text of the grammar begins with these tokens."""
+    """The tokens don't begin with a text of the grammar."""
 
 
 class Reader:
-    """Goes along the tokens. It remembers the furthest place that it tested, and everything that it expected there."""
+    """Walks along the tokens. It remembers the furthest place that it tested, and everything that it expected there."""
 
     def __init__(self, tokens: list[Token]) -> None:
         self.tokens, self.at, self.furthest = tokens, 0, 0
@@ -26,7 +26,7 @@ class Reader:
         return self.tokens[self.at] if self.at < len(self.tokens) else None
 
     def test(self, passes: Callable[[Token], bool], what: str) -> bool:
-        """Whether the next token passes; `what` it was tested for is remembered."""
+        """Whether the next token passes. `what` names the expected thing, and is remembered."""
         if self.at > self.furthest:
             self.furthest, self.tested = self.at, []
         if what not in self.tested:
@@ -37,7 +37,7 @@ class Reader:
         return self.test(lambda token: token.is_one(*sources), " or ".join(sources))
 
     def maybe(self, *sources: str) -> Token | None:
-        """Takes the next token where it is one of these words or symbols."""
+        """Takes the next token if it is one of these words or symbols."""
         return self.next() if self.has(*sources) else None
 
     def take(self, *sources: str) -> Token:
@@ -60,7 +60,7 @@ class Reader:
         raise Wrong()
 
     def many(self, rule: Callable[[], Read], separator: str = ",") -> list[Read]:
-        """A list of what a rule reads, with separators between."""
+        """The results of a rule, read again and again with separators between."""
         found = [rule()]
         while self.maybe(separator):
             found.append(rule())

@@ -1,5 +1,5 @@
-"""A plan as one page of HTML that needs no script and no other file: its picture, its tree, and a part for each step
-and entry, which a click shows.
+"""A plan as one page of HTML that needs no script and no other file. It has a picture, a tree, and for each step and
+entry a section that a click opens.
 """
 from __future__ import annotations
 
@@ -41,8 +41,8 @@ NO_LISTS = {
 
 
 def page(shown: Shown, lists: dict[str, list[Listed]], flags: list[str]) -> str:
-    """The page of what is shown. `lists` has for each entry its lists: the column, what rows the list is of, and its
-    runs. `flags` are options of the run. With some of them there are no lists, and the page says so.
+    """The HTML page. `lists` has for each entry its lists: the column, a description of the rows that the list counts,
+    and the runs. `flags` are options of the run; with some of them there are no lists, and the page says so.
     """
     parts = [entry_part(shown, alias, lists, flags) for alias in shown.plan.entries] + [
         step_part(shown, at) for at in range(steps(shown))
@@ -83,12 +83,12 @@ def bound_of(shown: Shown, at: int) -> int:
 
 
 def counted(bound: int, rows: int | None) -> str:
-    """A bound, and beside it the rows where an audit has counted them."""
+    """A bound, and the true number of rows if an audit has counted them."""
     return f"at most {bound:,} rows" + ("" if rows is None else f", and there are {rows:,}")
 
 
 def tree(shown: Shown, at: int) -> str:
-    """The step at this place and all below it as items of a list; a plan without joins is its one entry."""
+    """The step at this place and all steps below it, as items of a list. For a plan without joins, its only entry."""
     if at < 0:
         return entry_item(shown, shown.plan.entries[0])
     past = ' class="past"' if shown.is_past(bound_of(shown, at)) else ""
@@ -101,7 +101,7 @@ def tree(shown: Shown, at: int) -> str:
 
 
 def below_of(shown: Shown, at: int) -> list[int | str]:
-    """What a step joins: places of steps as they are, and entries by their names."""
+    """What a step joins: a step by its place, an entry by its name."""
     if not shown.plan.is_tree:
         return ([at - 1] if at else []) + [shown.plan.levels[at][0]]
     leaves, node = len(shown.plan.scans), shown.plan.nodes[at]

@@ -21,7 +21,9 @@ if TYPE_CHECKING:
 
 
 def show(path: str, line: Line) -> int:
-    """Runs the command, and writes JSON on standard output in the place of its texts. A fault stays as it is."""
+    """Runs the command, and writes JSON on standard output in place of the command's text. A fault is printed
+    unchanged.
+    """
     status, out, notes = program.answer(path, line.words)
     if status:
         from .main import explain, is_explained
@@ -37,14 +39,14 @@ def show(path: str, line: Line) -> int:
 
 @dataclass
 class Condition:
-    """A condition as written, the entries that it names, and the first level or node, by number, where it holds."""
+    """A condition as written, the entries that it names, and the number of the first level or node where it holds."""
     text: str
     entries: list[str]
     step: int
 
 
 def conditions_of(run: Run, plan: PlanText) -> list[Condition]:
-    """The conditions of the query of a run, each with the first level or node of the plan at which it holds."""
+    """The conditions of a run's query, each with the first level or node of the plan where it holds."""
     text, query, schema = read(run.query_file), run.query, run.schema
     steps = (
         [set(plan.leaves(number)) for number in range(len(plan.scans) + len(plan.nodes))] if plan.is_tree
@@ -83,7 +85,7 @@ def as_json(run: Run, plan: PlanText, rows: list[int] | None) -> dict[str, objec
 
 
 def accuracy_in(file: str) -> int:
-    """The accuracy at which a statistics file was made: the last word of its first line."""
+    """The accuracy of a statistics file: the last word of its first line."""
     return int(read(file).split(b"\n", 1)[0].rpartition(b" ")[2])
 
 

@@ -1,4 +1,4 @@
-"""The lists of degrees that the bounds of a plan are made from, as a file of statistics has them (docs/DEFINITIONS.md,
+"""The lists of degrees from which a plan's bounds are made, as a statistics file has them (docs/DEFINITIONS.md,
 "Conditional statistics").
 """
 from __future__ import annotations
@@ -19,17 +19,17 @@ OPPOSITE.update({other: one for one, other in OPPOSITE.items()})
 TURNED = {"<": ">", ">": "<", "<=": ">=", ">=": "<="}
 LEAVES = 32
 Runs = List[Tuple[int, int]]
-# A number or a text. Those of one column are of one kind, so that they compare.
+# A number or a text. All values of one column have one kind, so they can be compared.
 Value = Any
-# By the names of a table, a filter column and a joined column.
+# The keys are tuples of a table, a filter column and a joined column, by name.
 Pairs = Dict[Tuple[str, str, str], "Pair"]
-# A joined column, what the list is of, and its runs.
+# A joined column, a description of the rows that the list counts, and its runs.
 Listed = Tuple[str, str, Runs]
 
 
 @dataclass
 class Pair:
-    """What a file has of a filter column and a joined column: lists as their runs, `(degree, values)`."""
+    """The lists of a filter column and a joined column in a statistics file, as runs `(degree, values)`."""
     whole: Runs | None = None
     rest: Runs | None = None
     frequent: dict[Value, Runs | None] = field(default_factory=dict)
@@ -43,7 +43,7 @@ class Pair:
         return max([0, *(number for number, cut in enumerate(self.cuts) if cut <= value)])
 
     def of_range(self, low: Value, high: Value) -> Runs | None:
-        """The list of the least node that has the leaves of both ends."""
+        """The list of the smallest node whose leaves include those of `low` and `high`."""
         if not self.nodes:
             return self.whole
         first, last = 0 if low is None else self.leaf(low), LEAVES - 1 if high is None else self.leaf(high)
@@ -52,7 +52,7 @@ class Pair:
 
 
 def read_pairs(text: str) -> Pairs:
-    """The pairs of a file of statistics, by table, filter column and joined column."""
+    """The pairs of a statistics file, by table, filter column and joined column."""
     found: Pairs = {}
     table, pair = "", Pair()
     for line in text.splitlines():
@@ -87,7 +87,8 @@ def runs(words: list[str]) -> Runs:
 
 @dataclass(frozen=True)
 class Test:
-    """A comparison of a column with a value; a NOT has been moved into it. For any other comparison `column` is empty.
+    """A comparison of a column with a value; a NOT before it has changed its operator. Any other comparison has an
+    empty `column`.
     """
     column: str = ""
     operator: str = ""
@@ -96,13 +97,13 @@ class Test:
 
 @dataclass(frozen=True)
 class Group:
-    """Conditions joined by AND, or by OR."""
+    """Conditions joined by AND or by OR."""
     by: str
     members: list[Test | Group]
 
 
 def normal(condition: Compound | Comparison, is_not: bool = False) -> Test | Group:
-    """The condition with each NOT moved into the comparisons below it."""
+    """The condition without NOT: each NOT is moved down into the comparisons."""
     if isinstance(condition, Compound):
         if condition.by == "NOT":
             return normal(condition.members[0], not is_not)
@@ -134,7 +135,7 @@ def literal_value(literal: Literal) -> Value:
 
 @dataclass(frozen=True)
 class Asked:
-    """What is asked of a column's statistics: the list of a value, or of a range (an end that is None is open)."""
+    """One list that a condition asks for: of a value of the column, or of a range. An end that is None is open."""
     column: str
     low: Value
     high: Value
@@ -142,14 +143,14 @@ class Asked:
 
 
 def flat(condition: Test | Group) -> list[Test | Group]:
-    """The members of an AND; in place of a member that is an AND too, the members of that one."""
+    """The members of an AND. A member that is an AND too is replaced by its members."""
     if isinstance(condition, Test) or condition.by == "OR":
         return [condition]
     return [found for member in condition.members for found in flat(member)]
 
 
 def asked(condition: Test | Group) -> list[Asked]:
-    """What a condition asks of statistics. Ranges of one column within one AND are asked for as one range."""
+    """The lists that a condition asks for. Ranges of one column within one AND are asked for as one range."""
     found: list[Asked] = []
     ranges: dict[str, tuple[list[Value], list[Value]]] = {}
     for member in flat(condition):
@@ -166,7 +167,7 @@ def asked(condition: Test | Group) -> list[Asked]:
 
 
 def said(one: Asked) -> str:
-    """What a list is of, in words."""
+    """In words, which rows a list counts."""
     if one.is_value:
         return f"rows with {one.column} = {written(one.low)}"
     if one.low is None:
@@ -194,7 +195,7 @@ def entries_of(query: Query, schema: Schema, condition: Compound | Comparison) -
 
 
 def lists_of(query: Query, schema: Schema, text: str) -> dict[str, list[Listed]]:
-    """For each entry of a query its lists, those of all rows first."""
+    """For each entry of a query its lists. The list of all rows comes first."""
     pairs, found = read_pairs(text), {}
     for entry in query.entries:
         own = [c for c in query.conjuncts() if entries_of(query, schema, c) == {entry.name}]

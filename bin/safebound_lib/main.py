@@ -1,4 +1,4 @@
-"""The friendly command: own options and commands here, all other words to the program."""
+"""The friendly command. It handles its own options and commands, and hands all other words to the program."""
 from __future__ import annotations
 
 import os
@@ -35,7 +35,7 @@ def main(words: list[str]) -> int:
 
 
 def misused(text: str) -> int:
-    """Says what the friendly command can't take. On a terminal lines are wrapped at its width."""
+    """Reports words that the friendly command can't take. On a terminal, lines are wrapped at its width."""
     if program.is_terminal(2):
         from .explain import wrapped
         text = "\n".join(map(wrapped, text.split("\n")))
@@ -44,8 +44,8 @@ def misused(text: str) -> int:
 
 
 def refuse_strange(line: Line) -> None:
-    """Refuses an own option with a command that doesn't have it, and an unknown option of an own command. The program
-    itself refuses all else.
+    """Refuses an option of the friendly command where it doesn't apply, and unknown options of the commands that the
+    program doesn't have. The program itself refuses all else.
     """
     command = BY_WORD.get(line.command)
     known = {option.word for option in command.options} if command else ()
@@ -59,17 +59,17 @@ def refuse_strange(line: Line) -> None:
 
 
 def enter(line: Line) -> None:
-    """Goes into the folder of `--data`."""
+    """Makes the folder of `--data` the current one."""
     folder = line.own[DATA.word]
     try:
-        line.before = os.getcwd()
+        line.user_folder = os.getcwd()
         os.chdir(folder)
     except OSError as fault:
         raise Misused(f"{DATA.word} {folder}: {no_folder(folder) or fault.strerror}") from None
 
 
 def no_folder(folder: str) -> str:
-    """Why this isn't a folder that can be used, and which folder may be meant."""
+    """Says why this folder can't be used, and which folder may be meant."""
     if os.path.isfile(folder):
         return f"this is a file, and the option takes its folder: {DATA.word} {os.path.dirname(folder) or '.'}"
     above = os.path.dirname(folder) or "."
@@ -81,7 +81,7 @@ def no_folder(folder: str) -> str:
 
 
 def with_schema(line: Line, run: Callable[[Line], int]) -> int:
-    """Runs a line, or where it lacks a schema, the line with one that is proposed."""
+    """Runs a line. If it lacks a schema, runs it with one that is proposed."""
     if not lacks_schema(line):
         return run(line)
     from .propose import proposed
@@ -90,8 +90,8 @@ def with_schema(line: Line, run: Callable[[Line], int]) -> int:
 
 
 def run_program(line: Line, is_last: bool) -> int:
-    """Runs a command of the program itself. Where a fault may be explained, what it writes on standard error is read
-    here too. Otherwise, if `is_last` says that nothing has to be done afterwards, this process becomes the program.
+    """Runs a command of the program itself. Where a fault may be explained, this process reads the program's standard
+    error. Otherwise, if `is_last` says that nothing follows, the program replaces this process.
     """
     path = program.found()
     if JSON.word in line.own:
@@ -107,8 +107,8 @@ def run_program(line: Line, is_last: bool) -> int:
 
 
 def is_explained(line: Line) -> bool:
-    """Whether a fault is explained: on a terminal, for a run whose schema was proposed, and with `--explain`, also if
-    that word is misspelled.
+    """Whether a fault is explained: on a terminal, for a run with a proposed schema, and with `--explain`, even if that
+    word is misspelled.
     """
     from .near import nearest
     command = BY_WORD.get(line.command)
@@ -122,10 +122,10 @@ def is_explained(line: Line) -> bool:
 
 
 def explain(path: str, line: Line, status: int, notes: bytes) -> None:
-    """Explains a fault below its line; below a plan it says only that entries aren't connected, if they aren't."""
+    """Explains a fault below its line. Below a plan it writes only a sentence on entries that aren't connected."""
     from .explain import Run, explained, not_connected
     from .faults import fault_of
-    run = Run(line.words, path, line.before, line.is_proposed)
+    run = Run(line.words, path, line.user_folder, line.is_proposed)
     fault = fault_of(notes) if status else None
     program.say(explained(fault, run) if fault else not_connected(run) if status == 0 else "")
 
@@ -147,7 +147,7 @@ def own_command(line: Line) -> int:
 
 
 def show_overview() -> int:
-    """Without a command, writes the help on standard error in place of the line `error usage`."""
+    """Writes the help on standard error if there is no command, in place of the line `error usage`."""
     from . import pages
     program.say(pages.overview(2))
     return MISUSED
@@ -176,7 +176,7 @@ def show_version() -> int:
 
 
 def run(words: list[str]) -> int:
-    """The exit status of the command, with Python's own interruptions as a shell expects them."""
+    """The exit status of the command. Python's own interruptions become what a shell expects."""
     try:
         return program.end_as(main(words))
     except KeyboardInterrupt:

@@ -1,4 +1,4 @@
-"""The nearest of some names, and names as a list in a sentence."""
+"""Finds the nearest of some names, and writes names as a list in a sentence."""
 from __future__ import annotations
 
 import difflib
@@ -6,15 +6,15 @@ from collections.abc import Iterable
 
 
 def nearest(name: str, names: Iterable[str], cutoff: float = 0.6) -> str | None:
-    """The name that is nearest to one, upper and lower case alike, or nothing."""
+    """The name most similar to `name`, without regard to case, or None."""
     by_fold = {other.casefold(): other for other in reversed(list(names)) if other != name}
     found = difflib.get_close_matches(name.casefold(), by_fold, 1, cutoff)
     return by_fold[found[0]] if found else None
 
 
 def hint(name: str, names: Iterable[str]) -> str:
-    """A sentence that asks for the nearest name, or nothing. An option that is cut short stands for the one that begins
-    with it.
+    """A sentence that asks whether the nearest name was meant, or "". If an option is cut short, the option that begins
+    with it counts as nearest.
     """
     those = list(names)
     begun = [other for other in those if name.startswith("--") and other.startswith(name) and other != name]

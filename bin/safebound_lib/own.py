@@ -34,7 +34,7 @@ PARTS_OF_EXAMPLE = (".sql", ".csv")
 
 
 def new(words: list[str]) -> int:
-    """Copies the example's texts and tables into a new folder."""
+    """Copies the texts and tables of an example into a new folder."""
     if len(words) != 1:
         raise Misused("new takes one word, the folder: safebound new FOLDER")
     folder, source = words[0], places.example()
@@ -53,15 +53,15 @@ def new(words: list[str]) -> int:
 
 
 def called() -> str:
-    """The command as a user can call it: by its name if the shell finds it so, else by its path."""
+    """How a user can call the command: by its name if the shell finds this file by it, else by its path."""
     found = shutil.which("safebound")
     is_it = found is not None and os.path.realpath(found) == os.path.realpath(sys.argv[0])
     return "safebound" if is_it or os.path.basename(sys.argv[0]) != "safebound" else shlex.quote(sys.argv[0])
 
 
 def check(path: str, line: Line) -> int:
-    """Checks the texts alone: it plans them in a folder without tables. If the plan fails only since a table can't be
-    read, both texts are right.
+    """Checks the two texts without tables: it plans them in a folder that has no table. If the plan fails only because
+    a table can't be read, both texts are valid.
     """
     files = places_of(line.words[1:])
     if len(files) not in (1, 2) or len(files) != len([w for w in line.words[1:] if w != "--"]):
@@ -79,11 +79,11 @@ def check(path: str, line: Line) -> int:
     if is_right:
         program.write(1, found_right(files))
         return 0
-    return tell(notes, fault, Run(["plan", "--", *files], path, line.before), dict(zip(absolute, files)), status)
+    return tell(notes, fault, Run(["plan", "--", *files], path, line.user_folder), dict(zip(absolute, files)), status)
 
 
 def tell(notes: bytes, fault: Fault | None, run: Run, names: dict[str, str], status: int) -> int:
-    """The line of the fault, with the file's name as it was given, and its explanation."""
+    """Prints the line of the fault, with the file's name as the user gave it, and the explanation."""
     if fault and fault.file in names:
         fault.file = names[fault.file]
         notes = notes.replace(os.fsencode(os.path.abspath(fault.file)), os.fsencode(fault.file))
@@ -92,7 +92,7 @@ def tell(notes: bytes, fault: Fault | None, run: Run, names: dict[str, str], sta
 
 
 def found_right(files: list[str]) -> str:
-    """What was read, in a line for each text."""
+    """One line for each text, on what was read."""
     schema = read_schema(read(files[0]))
     said = (
         f"{files[0]}: right. Tables:"
@@ -108,9 +108,9 @@ def found_right(files: list[str]) -> str:
 
 
 def picture(path: str, line: Line) -> int:
-    """Draws the plan and the true rows of an audit; if the budget refuses the query, the plan and the budget."""
+    """Draws the plan and an audit's true rows. If the budget refuses the query, draws the plan and the budget."""
     words = ["audit", *line.words[1:]]
-    run = Run(words, path, line.before)
+    run = Run(words, path, line.user_folder)
     status, out, notes = program.answer(path, words)
     given_budget = option_of(words, BUDGET.word)
     budget = int(given_budget) if given_budget else None
@@ -128,7 +128,7 @@ def picture(path: str, line: Line) -> int:
 
 
 def refused(run: Run, fault: Fault | None) -> PlanText | None:
-    """The plan that the budget refuses, made again under the greatest budget; nothing if that refuses it too."""
+    """The plan that the budget refuses, made again under the greatest budget. None if that budget refuses it too."""
     if not fault or fault.kind != "budget" or fault.least > most_of(run):
         return None
     plan = with_words(run, given(run, fault.least))
@@ -136,7 +136,7 @@ def refused(run: Run, fault: Fault | None) -> PlanText | None:
 
 
 def drawn(run: Run, shown: Shown, to: str) -> str:
-    """The picture, or the HTML page if the file's name ends in .html or .htm."""
+    """The picture, or an HTML page if the file's name ends in .html or .htm."""
     if not to.lower().endswith((".html", ".htm")):
         return draw(shown)
     flags = [flag.word for flag in (REDUCE, COUNT, KEYS) if has(run, flag)]
@@ -144,7 +144,7 @@ def drawn(run: Run, shown: Shown, to: str) -> str:
 
 
 def lists_beside(run: Run) -> dict[str, list[Listed]]:
-    """The lists of the run's entries, from the statistics that the program makes for the query; empty if it fails."""
+    """The lists of the run's entries, from statistics that the program makes for the query; empty if that fails."""
     accuracy = option_of(run.words, ACCURACY.word)
     status, text, _ = program.answer(
         run.program or "",

@@ -1,4 +1,4 @@
-"""Help, the man page and completion, all from the table of commands."""
+"""Help, the man page and shell completion, all made from the table of commands."""
 from __future__ import annotations
 
 import re
@@ -35,7 +35,7 @@ def options_of(command: Command) -> list[Option]:
 
 
 def overview(stream: int = 1) -> str:
-    """The help, as wide as the terminal of a stream."""
+    """The help, as wide as the terminal of the stream with this number."""
     wide = columns(stream)
     lines = [*wrapped(f"safebound {version()}: {SUMMARY}", wide), "", *wrapped(ABOUT, wide), "", "Commands:"]
     lines += [entry(" ".join([c.word, *places_of(c)]), c.help, wide) for c in COMMANDS]
@@ -75,7 +75,7 @@ def of_command(command: Command) -> str:
 
 
 def described(option: Option) -> str:
-    """The option's help with its range."""
+    """The option's help, and its range if it has one."""
     return option.help + (f" ({option.least:,} to {option.most:,})" if option.least is not None else "")
 
 
@@ -84,7 +84,7 @@ def wrapped(text: str, wide: int, indent: str = "", first: str = "") -> list[str
 
 
 def entry(word: str, text: str, wide: int) -> str:
-    """A word, and what it means in a column beside it; below the word if that is too long for its column."""
+    """A word with its meaning in a second column. If the word is too long for its column, the meaning goes below it."""
     first = f"  {word:<22} " if len(word) <= 22 else f"  {word}\n{'':25}"
     above, _, indent = first.rpartition("\n")
     return (above and above + "\n") + "\n".join(wrapped(text, wide, " " * 25, indent))
@@ -105,7 +105,7 @@ def errors() -> str:
 
 
 def plain(text: str) -> str:
-    """A page's text for a terminal: without backquotes, and with the paths of other pages in place of links to them."""
+    """A page's text for a terminal: without backquotes, and with the path of another page in place of a link to it."""
     text = re.sub(
         r"\[([^\]]*)\]\((\w+\.md)[^)]*\)",
         lambda found: f"docs/{found[2]}" if found[1] == found[2] else f"{found[1]} (docs/{found[2]})",

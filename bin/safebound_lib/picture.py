@@ -1,9 +1,11 @@
-"""The picture of a plan as one SVG: its order from left to right, and each scan's and level's bound as a bar. Of a join
-tree each node has a bar between those of the two nodes that it joins, and the tree stands below. At the
-bottom stand the conditions, step by step.
+"""Draws a plan as one SVG.
 
-Heights are logarithms: a step of the grid is a factor of ten. A true number of rows is a bar within the bound's bar.
-The budget is a line, which goes through no number.
+A left-deep order goes from left to right, and each scan and level has a bar as high as its bound. In a join tree each
+node's bar lies between those of the two nodes that it joins, and the tree is drawn below. The conditions of each step
+are listed at the bottom.
+
+Heights are logarithms: each step of the grid is a factor of ten. Where the true number of rows is known, it is a bar
+within the bound's bar. The budget is a line that never crosses a number.
 """
 from __future__ import annotations
 
@@ -30,12 +32,12 @@ def short(name: str, most: int) -> str:
 
 
 def safe(text: str) -> str:
-    """A text as it may stand in a picture or a page: marks of XML and control characters are escaped."""
+    """A text for a picture or a page, with marks of XML and control characters escaped."""
     return escape(plain(text))
 
 
 def width_of(words: str, size: int) -> float:
-    """About how many points wide a text is."""
+    """The width of a text, roughly, in points."""
     return 0.64 * size * len(words)
 
 
@@ -53,7 +55,9 @@ class Picture:
         self.grid()
 
     def height(self, value: int) -> float:
-        """How high a bar is. All bars except that of 0 are a few points higher, so that a bar of 1 is visible."""
+        """The height of a bar. All bars but that of 0 are 8 points higher than the logarithm says, so that a bar of 1
+        is visible.
+        """
         return 0 if value == 0 else 8 + (HEIGHT - 8) * math.log10(value) / self.decades
 
     def text(
@@ -74,7 +78,7 @@ class Picture:
         self.parts.append(f"<a href={quoteattr('#' + to)}>{drawn}</a>" if self.is_linked else drawn)
 
     def number(self, x: float, value: int) -> None:
-        """The number of a bar, above it, or above the budget's line where that would go through it."""
+        """Writes a bar's number above the bar, or above the budget's line if that line would cross the number."""
         y, budget = self.foot - self.height(value) - 5, self.shown.budget
         line = self.foot - self.height(budget) if budget else None
         self.numbers.append((x, line - 5 if line is not None and y - 11 <= line <= y + 4 else y, f"{value:,}"))
@@ -91,7 +95,7 @@ class Picture:
         self.parts.append(f'<path d="M{LEFT} {self.foot}H{self.width - RIGHT}" stroke="{INK}"/>')
 
     def legend(self) -> float:
-        """Draws what the colours mean, and gives its width."""
+        """Draws the legend of the colours, and returns its width."""
         shown, step = self.shown, self.shown.step
         x: float = LEFT
         has_steps = bool(shown.plan.levels or shown.plan.nodes)
@@ -111,7 +115,7 @@ class Picture:
         return x - LEFT
 
     def conditions(self, below: int) -> int:
-        """The conditions of each step, a line each; gives the height of the whole picture."""
+        """Draws the conditions of each step, one to a line. Returns the height of the whole picture."""
         y = self.foot + below
         for name, kind, words in self.shown.said():
             lines = textwrap.wrap(
@@ -130,7 +134,7 @@ class Picture:
         for x, y, words in self.numbers:
             self.text(x, y, words, 11)
         height = self.conditions(below)
-        # On a page the picture shrinks to three quarters where there is less room. Below that it is scrolled.
+        # On a page the picture shrinks to three quarters of its width if it has to. On a narrower page it is scrolled.
         fits = (
             f' style="width:100%;height:auto;max-width:{self.width}px;min-width:{self.width * 3 // 4}px"'
             if self.is_linked else ""
@@ -144,7 +148,7 @@ class Picture:
 
 
 def draw(shown: Shown, is_linked: bool = False) -> str:
-    """The SVG of what is shown of a plan. With links a click on a bar leads to its part of a page."""
+    """The SVG of a plan. With links, a click on a bar leads to its section of the page."""
     return (draw_tree if shown.plan.is_tree else draw_order)(shown, is_linked)
 
 
@@ -174,7 +178,7 @@ def draw_scan(picture: Picture, alias: str, left: float) -> None:
 
 
 def draw_step(picture: Picture, at: int, left: float, bound: int) -> None:
-    """The bar of the level or inner node at this place among them, with its true rows within."""
+    """Draws the bar of the level or inner node with this index, and its true rows within."""
     shown = picture.shown
     name, to = shown.step_name(at), shown.step_id(at)
     picture.bar(left, BAR, bound, PAST if shown.is_past(bound) else LEVEL, f"{name}: at most {bound:,} rows", to)
@@ -184,7 +188,7 @@ def draw_step(picture: Picture, at: int, left: float, bound: int) -> None:
 
 
 def depths(plan: PlanText) -> list[int]:
-    """The height of each node in the tree; a leaf's is 0."""
+    """The height of each node in the tree. A leaf has height 0."""
     found = [0] * len(plan.scans)
     for node in plan.nodes:
         found.append(1 + max(found[node.left], found[node.right]))
@@ -192,7 +196,7 @@ def depths(plan: PlanText) -> list[int]:
 
 
 def in_order(plan: PlanText, number: int) -> list[int]:
-    """The numbers of a node and of all below it: those on its left, its own, those on its right."""
+    """The numbers of a node and all nodes below it, from left to right."""
     if number < len(plan.scans):
         return [number]
     node = plan.nodes[number - len(plan.scans)]

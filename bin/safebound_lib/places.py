@@ -1,4 +1,4 @@
-"""Where the program and the pages lie, in a copy of the repository and where `make install` put them."""
+"""Where the program and the pages are: in a clone of the repository, or where `make install` has put them."""
 from __future__ import annotations
 
 import os
@@ -7,18 +7,18 @@ import platform
 LIB = os.path.dirname(os.path.realpath(__file__))
 TOP = os.path.dirname(os.path.dirname(LIB))
 BUILT = os.path.join(TOP, "crates", "safebound_cli", "out", "safebound_cli")
-# Where `make install` has put this file, it lies in PREFIX/lib/safebound/safebound_lib.
+# `make install` puts this file into PREFIX/lib/safebound/safebound_lib.
 SHARED = os.path.join(os.path.dirname(TOP), "share", "safebound")
 INSTALLED = os.path.join(os.path.dirname(TOP), "bin", "safebound_cli")
-# The last release, which the repository has for one kind of machine.
+# The last release. It was built for one kind of machine.
 RELEASE = os.path.join(TOP, "dist", "RELEASE")
 RELEASED = os.path.join(TOP, "dist", "safebound_cli")
 
 
 def program() -> str | None:
-    """The path of the proved program, or nothing where there is none. SAFEBOUND_PROGRAM names another one.
+    """The path of the proved program, or None. The variable SAFEBOUND_PROGRAM overrides it.
 
-    The release's is the last choice: it may be older than the other files of the repository.
+    The program of the release is the last choice, since it may be older than the other files of the repository.
     """
     found = os.environ.get("SAFEBOUND_PROGRAM")
     candidates = [found] if found else [BUILT, INSTALLED, *([RELEASED] if is_for_releases() else [])]
@@ -26,12 +26,12 @@ def program() -> str | None:
 
 
 def is_for_releases() -> bool:
-    """Whether releases are built for this machine."""
+    """Whether releases are built for this kind of machine."""
     return (platform.system(), platform.machine()) == ("Linux", "x86_64")
 
 
 def release() -> dict[str, str]:
-    """What dist/RELEASE says: the version, the commit and what built it."""
+    """The entries of dist/RELEASE, by their first words: the version, the commit and what built it."""
     with open(RELEASE, encoding="utf-8") as f:
         return dict(line.rstrip("\n").split(" ", 1) for line in f)
 

@@ -1,4 +1,4 @@
-"""Running the proved program, with its words, streams and exit status as they are."""
+"""Runs the proved program, and leaves its words, streams and exit status unchanged."""
 from __future__ import annotations
 
 import os
@@ -17,7 +17,9 @@ SAFEBOUND_PROGRAM names a program that lies elsewhere."""
 
 
 def found() -> str:
-    """The path of the program. If there is none, the command ends. If it is the release's, a terminal is told so."""
+    """The path of the program. Without a program the command ends. If it is the release's program, a terminal gets a
+    message that says so.
+    """
     path = places.program()
     if path is None:
         sys.exit(NO_PROGRAM)
@@ -45,13 +47,14 @@ def become(path: str, words: list[str]) -> None:
 def answer(
     path: str, words: list[str], folder: str | None = None, seconds: int | None = None
 ) -> tuple[int, bytes, bytes]:
-    """The exit status, standard output and standard error of a run, of which the user sees nothing."""
+    """Runs the program without showing the user anything. Returns its exit status, standard output and standard error.
+    """
     done = subprocess.run([path, *words], cwd=folder, stdin=subprocess.DEVNULL, capture_output=True, timeout=seconds)
     return done.returncode, done.stdout, done.stderr
 
 
 class Relay:
-    """Hands bytes on to one of our own streams until that fails."""
+    """Copies bytes from a stream of the program to one of our own streams, until a write fails."""
 
     def __init__(self, stream: IO[bytes], to: int) -> None:
         self.stream, self.to, self.is_open = stream, to, True
@@ -59,7 +62,7 @@ class Relay:
         os.set_blocking(stream.fileno(), False)
 
     def hand_on(self) -> None:
-        """Hands on what is there."""
+        """Copies the bytes that have come so far."""
         while self.is_open:
             try:
                 part = os.read(self.stream.fileno(), 65536)
@@ -76,17 +79,18 @@ class Relay:
             while part:
                 part = part[os.write(self.to, part):]
         except OSError:
-            # Our stream is gone, as when a terminal closes. Of standard output the program's pipe is closed then too.
-            # Standard error is still read, since the fault stands there.
+            # Our stream is gone, as when a terminal closes. The program's pipe is then closed too if it is standard
+            # output. Standard error is still read, since a fault is reported there.
             return self.to == 2
         return True
 
 
 def run_and_read(path: str, words: list[str]) -> tuple[int, bytes]:
-    """Runs the program on our streams. Returns its exit status, below 0 after a signal, and its standard error.
+    """Runs the program on our streams. Returns its exit status, which is negative after a signal, and its standard
+    error.
 
-    If standard output is a terminal, rows go through this process too. Otherwise they could appear before the plan that
-    was written before them.
+    If standard output is a terminal, rows pass through this process too. Otherwise rows could appear before the plan,
+    though the program writes the plan first.
     """
     from .progress import Progress
     rows = subprocess.PIPE if is_terminal(1) else None
@@ -106,8 +110,8 @@ def run_and_read(path: str, words: list[str]) -> tuple[int, bytes]:
         ready, _, _ = select.select([r.stream for r in relays if r.is_open], [], [], TICK if progress else None)
         if progress:
             progress.clear() if ready else progress.show(sum(map(len, notes.kept)), rows is not None)
-        # Standard error comes first: what the program wrote there before these rows has arrived by now. If nothing was
-        # ready, nothing is handed on before the line of progress is cleared.
+        # Standard error goes first: whatever the program wrote there before these rows has arrived by now. If no stream
+        # was ready, nothing is copied before the line of progress is cleared.
         for relay in relays if ready else []:
             if relay is notes or relay.stream in ready:
                 relay.hand_on()
@@ -131,7 +135,7 @@ def is_terminal(number: int) -> bool:
 
 
 def say(text: str) -> None:
-    """Writes on standard error, whatever the text holds."""
+    """Writes a text on standard error, whatever characters it has."""
     write(2, text)
 
 

@@ -1,4 +1,5 @@
-"""What a running program is doing, as the system tells it: which table it has come to, how much it has written."""
+"""What a running program is doing, by what the system knows of it: which table it reads, and how much it has written.
+"""
 from __future__ import annotations
 
 import itertools
@@ -17,7 +18,7 @@ def in_bytes(count: int) -> str:
 
 
 def counted(pid: int, what: str) -> int:
-    """How many bytes a process has read (rchar) or written (wchar), from /proc; elsewhere 0."""
+    """How many bytes a process has read (`rchar`) or written (`wchar`), from /proc. On other systems 0."""
     try:
         with open(f"/proc/{pid}/io", encoding="ascii") as f:
             return next(int(line.split()[1]) for line in f if line.startswith(what))
@@ -34,7 +35,7 @@ def open_files(pid: int) -> list[str]:
 
 
 def tables_of(words: list[str]) -> list[tuple[str, int]]:
-    """The files of the tables that a query names, each with its size; an empty list if that isn't known."""
+    """The table files that a query names, each with its size. The list is empty if they aren't known."""
     try:
         run = Run(words)
         entries = run.query.entries if run.stats_file is None else []
@@ -45,7 +46,7 @@ def tables_of(words: list[str]) -> list[tuple[str, int]]:
 
 
 class Progress:
-    """A line on the terminal, once a run takes more than a second."""
+    """A line on the terminal that shows progress, once a run takes more than a second."""
 
     def __init__(self, pid: int, words: list[str]) -> None:
         self.pid, self.words, self.began, self.is_shown = pid, words, time.monotonic(), False
@@ -53,7 +54,8 @@ class Progress:
         self.is_looked_up = False
 
     def show(self, notes: int, shows_rows: bool) -> None:
-        """`notes` says how many bytes of the plan have come, and `shows_rows` whether rows go to this terminal."""
+        """Shows the line. `notes` counts the bytes of the plan so far; `shows_rows` says that rows go to this terminal.
+        """
         seconds = time.monotonic() - self.began
         if seconds < AFTER or notes and shows_rows:
             return
@@ -73,7 +75,8 @@ class Progress:
         return f"counting how often values repeat{of}, and planning"
 
     def table_now(self) -> Optional[int]:
-        """The table that is open, else the last one whose bytes have all been read; nothing once all tables are read.
+        """The index of the table that is open, else of the last one whose bytes have all been read. None once all
+        tables are read.
         """
         names = [file for file, _ in self.tables]
         opened = next((names.index(file) for file in open_files(self.pid) if file in names), None)

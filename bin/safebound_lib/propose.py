@@ -1,4 +1,4 @@
-"""`safebound schema`, and runs without a schema: a schema text that is proposed from the headers and values of table
+"""`safebound schema`, and runs without a schema. The schema text is proposed from the headers and values of table
 files.
 """
 import contextlib
@@ -23,20 +23,20 @@ from .terminal import columns
 from .words import Line, Misused, places
 
 MOST_TABLES, NOT_ALL = 64, 6
-# Without such an ending a column that refers to a table often has the name of that table.
+# A column that refers to a table often has that table's name with one of these endings.
 ENDINGS = re.compile(r"_?(ID|NO|NR|NUM|NUMBER|CODE|KEY|NAME)$")
 
 
 @dataclass
 class Proposal:
-    """The tables that are proposed, and sentences on their files and on those that can't be tables."""
+    """The proposed tables, and sentences on their files and on files that give no table."""
     sheets: list[Sheet] = field(default_factory=list)
     says: list[str] = field(default_factory=list)
     left_out: int = 0
 
     @property
     def text(self) -> str:
-        """The schema text."""
+        """The whole schema text."""
         head = (
             f"-- Proposed from {len(self.sheets)} file{'s' * (len(self.sheets) != 1)}. Look at it: types, keys and"
             " references are what the rows there happen to show.\n-- A query may write these names in upper or lower"
@@ -45,8 +45,8 @@ class Proposal:
         return head + "\n".join(table_text(sheet, self.sheets) for sheet in self.sheets)
 
     def short(self, files: list[str], target: str, uses: str) -> str:
-        """The schema text in a line for each table, and how to keep it; `files`, `target` and the line that `uses` a
-        kept schema are texts to paste.
+        """The schema with one line for each table, and how to keep it. `files`, `target` and `uses` are texts to paste;
+        `uses` is the command that uses a kept schema.
         """
         room = columns() if program.is_terminal(2) else None
         lines = [
@@ -58,23 +58,23 @@ class Proposal:
 
 
 def kept(files: list[str], target: str, uses: str) -> str:
-    """How to keep a schema that is proposed. If there is a schema.sql already, the line that `uses` it instead."""
+    """How to keep a proposed schema. If a schema.sql exists already, the command `uses`, which uses it."""
     if os.path.exists("schema.sql"):
         return f"{plain(target)} is there, and isn't used. This uses it:\n--     {plain(uses)}"
     return f"To keep it, and edit it:\n--     safebound schema {' '.join(map(plain, files))} --output {plain(target)}"
 
 
 def line_with_schema(command: str, schema: str, query: str, folder: str) -> str:
-    """The line that runs a query with a schema, both in the tables' folder."""
+    """The command that runs a query with a schema. Both files are in the tables' folder."""
     return f"safebound {command} {shlex.quote(schema)} {shlex.quote(query)} --data {shlex.quote(folder)}"
 
 
-def proposal(files: list[str], before: Optional[str] = None) -> Proposal:
-    """What is proposed of files, in their order; `before` is the folder where the user is."""
+def proposal(files: list[str], user_folder: Optional[str] = None) -> Proposal:
+    """Proposes a schema of files, in their order. `user_folder` is as in `Line`."""
     found = Proposal()
     for file in files:
         try:
-            sheet = sheet_of(file, word_of(file, before))
+            sheet = sheet_of(file, word_of(file, user_folder))
             if any(other.name == sheet.name for other in found.sheets):
                 raise NoTable(f"There is another file of a table {sheet.name}. Rename one of them.")
             if len(found.sheets) == MOST_TABLES:
@@ -87,9 +87,9 @@ def proposal(files: list[str], before: Optional[str] = None) -> Proposal:
     return found
 
 
-def word_of(file: str, before: Optional[str]) -> str:
-    """A file's name as a word of a command line in the folder where the user is."""
-    return shlex.quote(os.path.relpath(file, before) if before else file)
+def word_of(file: str, user_folder: Optional[str]) -> str:
+    """A file's name for a command line that the user types in the current folder."""
+    return shlex.quote(os.path.relpath(file, user_folder) if user_folder else file)
 
 
 def table_text(sheet: Sheet, sheets: list[Sheet]) -> str:
@@ -114,8 +114,8 @@ def rules(column: Column, primary: Optional[Column], sheet: Sheet, sheets: list[
 
 
 def primary_of(sheet: Sheet) -> Optional[Column]:
-    """Of the columns without repeated values the first that is named like a key, else the table's first column if it is
-    one of them, else None.
+    """The first column without repeated values that is named like a key. Otherwise the table's first column if it has
+    no repeated values, else None.
     """
     keys = [column for column in sheet.columns if sheet.is_key(column)]
     named = [column for column in keys if bare(column.name) in ("", bare(sheet.name), singular(bare(sheet.name)))]
@@ -124,7 +124,7 @@ def primary_of(sheet: Sheet) -> Optional[Column]:
 
 
 def bare(name: str) -> str:
-    """A name without an ending such as _ID, which columns that refer to a key often have."""
+    """A name without an ending such as _ID. Columns that refer to a key often have one."""
     return ENDINGS.sub("", name.strip('"').upper())
 
 
@@ -136,8 +136,8 @@ def singular(name: str) -> str:
 
 
 def referred(column: Column, sheet: Sheet, sheets: list[Sheet]) -> Optional[tuple[Sheet, Column]]:
-    """The table and key to which a column refers: all its values are in the key, and its name is made of the table's or
-    the key's.
+    """The table and key to which a column refers: the key has all the column's values, and the column's name is made
+    from the name of the table or of the key.
     """
     found = [
         (other, key) for other in sheets if other is not sheet for key in other.columns if other.is_key(key)
@@ -148,7 +148,9 @@ def referred(column: Column, sheet: Sheet, sheets: list[Sheet]) -> Optional[tupl
 
 
 def names(column: Column, other: Sheet, key: Column) -> bool:
-    """Whether a column's name is the table's, ends in _ and the table's, or is the key's, perhaps with an ending."""
+    """Whether a column's name fits: it is the table's or the key's name, perhaps with an ending, or it ends in _ and
+    the table's name.
+    """
     tables = {other.name.strip('"'), singular(other.name.strip('"'))}
     whole = column.name.strip('"').upper()
     called = {whole, bare(column.name), whole.rpartition("_")[2], bare(column.name).rpartition("_")[2]}
@@ -156,7 +158,7 @@ def names(column: Column, other: Sheet, key: Column) -> bool:
 
 
 def schema(line: Line) -> int:
-    """The command: the text on standard output, sentences on standard error."""
+    """Runs `safebound schema`: the schema text goes to standard output, the sentences to standard error."""
     files = [file for word in places(line.words[1:]) for file in (tables_in(word) if os.path.isdir(word) else [word])]
     if not files:
         raise Misused("schema takes the tables' files, or their folder: safebound schema FILE.csv..")
@@ -187,7 +189,7 @@ def write(text: str, to: str) -> None:
 
 
 def sentences(says: list[str]) -> str:
-    """Sentences, on a terminal within its width."""
+    """The sentences. For a terminal they are wrapped to its width."""
     return laid_out(says) if program.is_terminal(2) else "".join(f"{said}\n" for said in says)
 
 
@@ -201,43 +203,43 @@ def tables_in(folder: str) -> list[str]:
 
 @contextlib.contextmanager
 def proposed(line: Line) -> Iterator[Line]:
-    """The line with a schema's file, which is proposed from the tables here.
+    """The line with a schema's file, which is proposed from the tables in this folder.
 
-    Standard error shows the schema in short, with what a user has to know of the tables, since that may be why the run
-    fails. If a table is missing or its file is no table, nothing of this is shown: it would only hide that fault.
+    Standard error shows the schema in short, and what a user has to know about the tables, since the run may fail
+    because of it. If a table is missing or its file gives no table, nothing of this is shown: it would hide that fault.
     """
     query = places(line.words[1:])[0]
     wanted = tables_of(query)
     is_whole = bool(wanted) and all(map(os.path.isfile, wanted))
-    found = proposal(wanted if is_whole else tables_in("."), line.before)
+    found = proposal(wanted if is_whole else tables_in("."), line.user_folder)
     if not found.sheets:
         folder = line.own[DATA.word]
         raise Misused(
             "\n".join(
-                ["no schema can be proposed.", *found.says, *([] if found.says else none_in(folder, line.before))]
+                ["no schema can be proposed.", *found.says, *([] if found.says else none_in(folder, line.user_folder))]
             )
         )
     if is_whole and not found.left_out:
-        files = [word_of(sheet.file, line.before) for sheet in found.sheets]
+        files = [word_of(sheet.file, line.user_folder) for sheet in found.sheets]
         uses = line_with_schema(line.command, "schema.sql", query, line.own[DATA.word])
-        program.say(found.short(files, word_of("schema.sql", line.before), uses) + "\n" + sentences(found.says))
+        program.say(found.short(files, word_of("schema.sql", line.user_folder), uses) + "\n" + sentences(found.says))
     with tempfile.TemporaryDirectory(prefix="safebound-") as folder:
         file = os.path.join(folder, "schema.sql")
         with open(file, "w", encoding="utf-8") as f:
             f.write(found.text)
         at = len(line.words) - line.words[::-1].index(query) - 1
-        yield Line([*line.words[:at], file, *line.words[at:]], line.own, line.before, is_proposed=True)
+        yield Line([*line.words[:at], file, *line.words[at:]], line.own, line.user_folder, is_proposed=True)
 
 
-def none_in(folder: str, before: Optional[str]) -> list[str]:
-    """Sentences on a folder without a table's file: what lies there in its place."""
+def none_in(folder: str, user_folder: Optional[str]) -> list[str]:
+    """Sentences on a folder that has no table's file: which other files it has."""
     says = [f"In {DATA.word} {plain(folder)} there is no file that ends in .csv."]
     for name in sorted(os.listdir(".")):
         ending = os.path.splitext(name)[1].lower()
         if ending in OF_TEXTS and not packed_file(name):
             says.append(
                 f"{plain(name)} is there. This writes it as a table's file:\n    safebound convert"
-                f" {plain(word_of(name, before))}"
+                f" {plain(word_of(name, user_folder))}"
             )
         elif ending in OF_SHEETS:
             says.append(
@@ -253,7 +255,7 @@ def packed_file(file: str) -> bool:
 
 
 def tables_of(query: str) -> list[str]:
-    """The files of the tables that a query names; none where the file holds no query."""
+    """The files of the tables that a query names. The list is empty if the file isn't a query."""
     if not is_query(query):
         return []
     with open(query, "rb") as f:

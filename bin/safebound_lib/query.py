@@ -1,4 +1,4 @@
-"""Reads query texts: entries, references and conditions, and where a text goes wrong (docs/DEFINITIONS.md, "Query
+"""Reads query texts: their entries, references and conditions, and the place of an error (docs/DEFINITIONS.md, "Query
 texts").
 """
 from __future__ import annotations
@@ -21,7 +21,9 @@ OPERATORS = ("=", "<>", "<", "<=", ">", ">=")
 
 @dataclass
 class Entry:
-    """An entry of FROM. Commas separate the parts of FROM; `first` is the number of the first entry of this part."""
+    """An entry of FROM. The items between the commas of FROM may have several entries, by JOIN; `first` is the number
+    of the item's first entry.
+    """
     table: Token
     alias: Token | None
     first: int
@@ -33,8 +35,8 @@ class Entry:
 
 @dataclass
 class Reference:
-    """`ENTRY.COLUMN`, `COLUMN`, or `ENTRY.*`, which has no `column`. `scope` has the numbers of the entries that it may
-    mean.
+    """`ENTRY.COLUMN`, `COLUMN`, or `ENTRY.*`, which has no `column`. `scope` has the numbers of the entries that the
+    reference may mean.
     """
     entry: Token | None
     column: Token | None
@@ -81,7 +83,7 @@ class Test:
 
 @dataclass
 class Compound:
-    """Conditions joined by AND or OR, or one under NOT."""
+    """Conditions joined by AND or OR, or one condition under NOT."""
     by: str
     members: list[Test | Compound]
     start: int
@@ -90,8 +92,8 @@ class Compound:
 
 @dataclass
 class Query:
-    """What was read of a query text. If all of it is right, `tested` is empty. Else `wrong` is the number of the token
-    that can't stand there, and `tested` has what can.
+    """The parts of a query text that were read. For a valid query `tested` is empty. Otherwise `wrong` is the number of
+    the first token that isn't allowed, and `tested` has what is allowed in its place.
     """
     tokens: list[Token]
     entries: list[Entry] = field(default_factory=list)
@@ -180,7 +182,7 @@ class QueryReader(Reader):
         start = self.next().start
         found = self.condition()
         end = self.take(")").end
-        # AND, OR and NOT keep their parentheses, so that their text alone is a condition.
+        # AND, OR and NOT keep their parentheses, so the text of such a condition can stand alone.
         return Compound(found.by, found.members, start, end) if isinstance(found, Compound) else found
 
     def predicate(self) -> Test:
@@ -218,7 +220,7 @@ class QueryReader(Reader):
 
 
 def members(condition: Compound | Test) -> list[Compound | Test]:
-    """The conditions that AND joins in this one, also within parentheses; the condition itself if it is no AND."""
+    """The conditions that AND joins, also within parentheses. A condition that is no AND is returned alone."""
     if isinstance(condition, Compound) and condition.by == "AND":
         return [found for member in condition.members for found in members(member)]
     return [condition]
@@ -232,7 +234,7 @@ def references_of(condition: Compound | Test) -> list[Reference]:
 
 
 def read_query(text: bytes) -> Query:
-    """Reads a query from the bytes of its text, or as much of it as is right."""
+    """Reads a query from the bytes of its text, up to the first error."""
     reader = QueryReader(tokens_of(text))
     try:
         reader.read()
@@ -258,18 +260,18 @@ def visible(query: Query, reference: Reference, schema: Schema) -> list[tuple[En
 
 
 def meant(query: Query, reference: Reference, schema: Schema) -> tuple[Entry, Table, Column] | None:
-    """The entry, the table and the column that a reference means, or nothing if there isn't exactly one."""
+    """The entry, the table and the column that a reference means. None unless it means exactly one."""
     found = visible(query, reference, schema)
     return found[0] if len(found) == 1 else None
 
 
 def resolved(query: Query, reference: Reference, schema: Schema) -> tuple[Entry, Table, Column]:
-    """The same of a reference that the program has resolved, so that there is one meaning."""
+    """Like `meant`, for a reference that the program has resolved: it has exactly one meaning."""
     return visible(query, reference, schema)[0]
 
 
 def equality(query: Query, condition: Compound | Test, schema: Schema) -> tuple[int, int] | None:
-    """The numbers of the two entries whose columns the condition says are equal, or nothing if it is no equality."""
+    """The numbers of the two entries whose columns an equality joins, or None if the condition is no equality."""
     if not isinstance(condition, Test) or condition.operator != "=":
         return None
     one, other = (meant(query, o, schema) if isinstance(o, Reference) else None for o in condition.operands)
@@ -283,7 +285,7 @@ def number_of_entry(query: Query, entry: Entry) -> int:
 
 
 def components(query: Query, schema: Schema) -> list[list[int]]:
-    """The connected components of the join graph, each as the numbers of its entries."""
+    """The connected components of the join graph. Each is a list of entry numbers."""
     found = [[i] for i in range(len(query.entries))]
     for condition in query.conjuncts():
         pair = equality(query, condition, schema)

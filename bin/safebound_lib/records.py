@@ -1,4 +1,4 @@
-"""The records of a table file, each with the line on which it begins."""
+"""Reads the records of a table file, each with the number of the line where it begins."""
 from __future__ import annotations
 
 import csv
@@ -9,14 +9,16 @@ from collections.abc import Iterator
 
 from safebound.sql_texts import folded
 
-# A field in quotes, what ends a field, and what ends a line.
+# A field in quotes, the end of a field, and the end of a line.
 CLOSED = re.compile(r'"(?:[^"]|"")*"(?!")')
 FIELD_END = re.compile(r"[,\r\n]|$(?![\r\n])")
 LINE_END = re.compile(r"\r\n|\r|\n")
 
 
 def records(data: bytes, first: int = 0) -> Iterator[tuple[int, list[str]]]:
-    """Pairs of a line and the fields of the record that begins there, from one on. Empty lines are no records."""
+    """Pairs of a line number, counted from 1, and the fields of the record that begins on that line. Empty lines aren't
+    records.
+    """
     csv.field_size_limit(sys.maxsize)
     reader, number = csv.reader(io.StringIO(text_of(data), newline="")), 0
     while True:
@@ -46,7 +48,7 @@ def text_of(data: bytes) -> str:
 
 
 def left_open(data: bytes, number: int) -> int | None:
-    """The place in bytes of the quote of this record that nothing closes, or nothing."""
+    """The place, in bytes, of the quote in this record that is never closed, or None."""
     mark = len(data) - len(data.removeprefix(b"\xef\xbb\xbf"))
     text = data[mark:].decode("latin-1")
     at = begin_of(text, chosen(data, number)[0][0])
@@ -63,7 +65,7 @@ def left_open(data: bytes, number: int) -> int | None:
 
 
 def begin_of(text: str, line: int) -> int:
-    """The place where a line begins, counted from 1. Lines end as the csv module has them: in CR, LF or both."""
+    """The place where line `line` begins, counted from 1. Lines end in CR, LF or both, as in the csv module."""
     at = 0
     for _ in range(line - 1):
         at = end_of(LINE_END, text, at)
@@ -71,7 +73,7 @@ def begin_of(text: str, line: int) -> int:
 
 
 def end_of(pattern: re.Pattern[str], text: str, at: int) -> int:
-    """Where the next match ends; without one the text's end."""
+    """Where the next match ends. Without a match, the end of the text."""
     found = pattern.search(text, at)
     return found.end() if found else len(text)
 

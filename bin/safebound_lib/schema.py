@@ -1,4 +1,5 @@
-"""Schema texts: the tables that one declares, and where it goes wrong (docs/DEFINITIONS.md, "Schema texts")."""
+"""Reads schema texts: the tables that a text declares, and the place of an error (docs/DEFINITIONS.md, "Schema texts").
+"""
 from __future__ import annotations
 
 from dataclasses import dataclass, field
@@ -61,7 +62,9 @@ class Table:
 
 @dataclass
 class Schema:
-    """What was read of a schema text: all of it where `tested` is empty, else what lies before the token `wrong`."""
+    """The parts of a schema text that were read. If `tested` is empty, that is all of it. Otherwise it is all before
+    the token `wrong`.
+    """
     tables: list[Table]
     tokens: list[Token]
     wrong: int | None = None
@@ -186,7 +189,7 @@ class SchemaReader(Reader):
 
 
 def read_schema(text: bytes) -> Schema:
-    """The schema of a text's bytes, or of as much of it as is right."""
+    """The schema of a text's bytes, up to the first error."""
     reader = SchemaReader(tokens_of(text))
     try:
         reader.schema()

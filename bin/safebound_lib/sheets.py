@@ -1,4 +1,4 @@
-"""Table files as a schema is proposed from them: their names, columns and values, and what stands in the way."""
+"""Table files from which a schema is proposed: their names, columns and values, and faults that prevent a proposal."""
 import os
 import re
 import shlex
@@ -19,19 +19,19 @@ from .terminal import saying
 
 MOST_COLUMNS = 64
 TABLE_NAME = re.compile(r"[A-Za-z0-9_]+")
-# A number that loses nothing when it is printed as one: no leading zeros, no sign +.
+# Such a number is printed exactly as it was written: it has no leading zeros and no sign +.
 NUMBER = re.compile(r"0|-?[1-9][0-9]*")
 LIKE_A_VALUE = re.compile(r"[+-]?[0-9][0-9.,:/ -]*|\d{4}-\d{2}-\d{2}.*")
 NO_RECORD: tuple[int, list[str]] = (0, [])
 
 
 class NoTable(ValueError):
-    """A file from which no table is proposed: a sentence says why, and what to do."""
+    """The file gives no table. The message says why, and what to do."""
 
 
 @dataclass
 class Column:
-    """A column by its name as a schema has it, and its different values, each with the line of its first row."""
+    """A column: its name as a schema writes it, and its different values, each with the line of its first row."""
     name: str
     place: int
     values: dict[str, int] = field(default_factory=dict)
@@ -56,21 +56,23 @@ class Column:
 
     @property
     def odd(self) -> Optional[str]:
-        """In a column of numbers with a few other values: the first of these. A number with a leading zero isn't one of
-    them: a column of such numbers is meant as texts.
-    """
+        """In a column of numbers with a few other values: the first other value. A number with a leading zero doesn't
+        count: a column of such numbers is meant as text.
+        """
         found = [value for value in self.values if value and not value.isdigit() and not NUMBER.fullmatch(value)]
         return found[0] if found and few(len(found), len(self.values)) else None
 
     @property
     def over_lines(self) -> Optional[str]:
-        """The first value with line ends and commas: its closing quote may be missing, so that it takes in rows."""
+        """The first value that has both a line end and a comma. Its closing quote may be missing, so that it swallowed
+        rows.
+        """
         return next((value for value in self.values if "\n" in value and "," in value), None)
 
 
 @dataclass
 class Sheet:
-    """A table file: its table's name as a schema has it, its columns, its rows, and what a user has to know."""
+    """A table file: the name of its table as a schema writes it, its columns, its rows, and what a user has to know."""
     file: str
     name: str
     columns: list[Column]
@@ -78,17 +80,17 @@ class Sheet:
     says: list[str] = field(default_factory=list)
 
     def is_key(self, column: Column) -> bool:
-        """Whether a column repeats nothing. Of fewer than two rows that says nothing."""
+        """Whether a column has no repeated value. Always False for fewer than two rows, which show nothing."""
         return self.rows > 1 and len(column.values) == self.rows
 
 
 def few(some: int, of: int) -> bool:
-    """Whether some are so few that they look like slips: one of three or more, or at most a tenth."""
+    """Whether `some` values of `of` are so few that they look like slips: one of at least three, or at most a tenth."""
     return some == 1 and of > 2 or some * 10 <= of
 
 
 def sheet_of(file: str, word: str) -> Sheet:
-    """The table of a file; `word` is the file's name as a word of the user's command line."""
+    """The table of a file. `word` is the file's name as the user wrote it on the command line."""
     sheet = Sheet(file, table_name(file, word), [])
     base = os.path.basename(file)
     if base != base.lower():
@@ -119,7 +121,7 @@ def sheet_of(file: str, word: str) -> Sheet:
 
 
 def of_values(column: Column) -> list[str]:
-    """Sentences on values for which a column gets another type than was probably meant."""
+    """Sentences on values that give a column another type than was probably meant."""
     says, odd, long = [], column.odd, column.over_lines
     if odd is not None:
         says.append(
@@ -142,7 +144,7 @@ def of_values(column: Column) -> list[str]:
 
 
 def of_repeats(sheet: Sheet, column: Column, data: bytes) -> list[str]:
-    """A sentence on values that repeat in a column that is named like the table's key."""
+    """A sentence on repeated values in a column that is named like the table's key."""
     repeats = sheet.rows - len(column.values)
     if (
         not repeats or not few(repeats, sheet.rows) or not KEY_NAME.fullmatch(column.name)
@@ -166,7 +168,7 @@ KEY_NAME = re.compile("ID|NO|NR|NUM|NUMBER|CODE|KEY")
 
 
 def is_of(name: str, table: str) -> bool:
-    """Whether a column is called like the key of a table: PUPIL_ID or PUPILID in PUPILS."""
+    """Whether a column is named like the key of a table: PUPIL_ID or PUPILID in PUPILS."""
     stem = re.sub("_?(ID|NO|NR|NUM|NUMBER|CODE|KEY)$", "", name)
     return stem != name and stem in (table, table.removesuffix("S"))
 
@@ -210,7 +212,7 @@ def bytes_of(file: str, word: str) -> bytes:
 
 
 def first_strange(data: bytes) -> str:
-    """Where the first byte stands that is no UTF-8: its line, and the value's text as Windows-1252 has it."""
+    """The place of the first byte that isn't UTF-8: its line, and the text of the value in Windows-1252."""
     try:
         data.decode()
     except UnicodeDecodeError as fault:
@@ -221,7 +223,7 @@ def first_strange(data: bytes) -> str:
 
 
 def refuse_header(word: str, header: list[str]) -> None:
-    """The first record has to name columns."""
+    """Refuses a first record that can't be the names of columns."""
     if not header:
         raise NoTable("It holds nothing. Its first line names the columns, separated by commas.")
     separator = next((s for s in SEPARATORS if s != "," and len(header) == 1 and s in header[0]), None)
@@ -245,7 +247,8 @@ def refuse_header(word: str, header: list[str]) -> None:
 
 
 def refuse_title(data: bytes, header: list[str]) -> None:
-    """Refuses a title above the header: one field of the first line is filled, and the second line looks like names."""
+    """Refuses a title above the header: the first line has one filled field, and the second looks like a line of names.
+    """
     line, second = next(records(data, 1), NO_RECORD)
     named = sum(name != "" for name in header)
     if len(header) == 1 < len(second) and (line > 2 or " " in header[0]) and is_header(second):
@@ -267,7 +270,7 @@ def is_header(names: list[str]) -> bool:
 
 
 def add_columns(sheet: Sheet, header: list[str]) -> None:
-    """The columns that can be declared, and sentences on the others, which a run passes over."""
+    """Adds the columns that can be declared, and sentences on the other ones, which a run skips."""
     keys = [folded(name) for name in header]
     unnamed = [str(place + 1) for place, name in enumerate(header) if not name]
     twice = list(dict.fromkeys(name for place, name in enumerate(header) if name and keys.count(keys[place]) > 1))
@@ -313,7 +316,7 @@ def add_columns(sheet: Sheet, header: list[str]) -> None:
 
 
 def fill(sheet: Sheet, found: Iterator[tuple[int, list[str]]], wide: int, data: bytes) -> None:
-    """The values of the records that have as many fields as the header, and a sentence on the others."""
+    """Adds the values of the records that have as many fields as the header, and a sentence on the other records."""
     ragged, first = 0, None
     for number, (line, fields) in enumerate(found, 1):
         if len(fields) != wide:

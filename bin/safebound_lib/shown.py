@@ -1,5 +1,5 @@
-"""What a picture or a page shows of a plan: its steps, their bounds, their true rows where an audit has them, and their
-conditions.
+"""What a picture or a page shows of a plan: its steps, their bounds, their true rows if an audit has counted them, and
+their conditions.
 """
 from __future__ import annotations
 
@@ -17,8 +17,8 @@ NO_CONDITION = "no condition: each row meets each row"
 
 @dataclass
 class Shown:
-    """`own` has the conditions on one entry alone, by entry, and `at` all others, by the number of the first level or
-    node where they hold.
+    """A plan and what is shown beside it. `own` has the conditions on a single entry, by entry. `at` has all others, by
+    the number of the first level or node where they hold.
     """
     title: str
     plan: PlanText
@@ -39,7 +39,7 @@ class Shown:
         return self.tables.get(alias, alias)
 
     def number(self, at: int) -> int:
-        """The printed number of the level or inner node at this place among them."""
+        """The printed number of the level or inner node with this index."""
         return at + (len(self.plan.scans) if self.plan.is_tree else 1)
 
     def step_name(self, at: int) -> str:
@@ -54,13 +54,16 @@ class Shown:
         return f"entry-{self.plan.entries.index(alias)}"
 
     def joined_by(self, at: int) -> list[str]:
-        """The conditions that hold from this level or inner node on; a sentence if it is known that there are none."""
+        """The conditions that hold from this level or inner node on. If it is known that there are none, a sentence
+        that says so.
+        """
         found = (self.at or {}).get(self.number(at), [])
         is_join = self.plan.is_tree or at > 0
         return found or [NO_CONDITION] * (is_join and self.at is not None)
 
     def said(self) -> list[tuple[str, str, str]]:
-        """The lines below the picture: a step or entry, whether a condition is its own or joins it, and the condition.
+        """The lines below the picture. Each has a step or an entry, a word that tells own conditions from joining ones,
+        and the condition.
         """
         if self.plan.is_tree:
             lines = [

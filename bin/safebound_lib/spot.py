@@ -1,4 +1,4 @@
-"""A place of a file: its line and column, and the line with a mark below the place."""
+"""A place in a file: its line and column, and the text of the line with a mark below the place."""
 from __future__ import annotations
 
 import unicodedata
@@ -9,7 +9,7 @@ INDENT, DOTS = 4, "..."
 
 
 def plain(text: str) -> str:
-    """Text as it may stand on a terminal: control characters, and bytes that are no UTF-8, as escapes."""
+    """Text that is safe on a terminal: control characters, and bytes that are no UTF-8, are escaped."""
     return "".join(
         (
             c if c.isprintable()
@@ -24,7 +24,7 @@ def width(text: str) -> int:
 
 
 def spot(file: str, data: bytes, at: int, length: int = 1) -> str:
-    """`FILE, line L, column C`, the line and a mark below the place; columns are characters, counted from 1."""
+    """`FILE, line L, column C`, then the line, then a mark below the place. Columns count characters, from 1."""
     at = min(at, len(data))
     while data[at:at + 1] >= b"\xc0" and b"\x80" <= data[at + length:at + length + 1] < b"\xc0":
         length += 1
@@ -42,7 +42,7 @@ def without_mark(part: bytes) -> str:
 
 
 def cut(text: str, most: int, at_front: bool = False) -> str:
-    """Text as it may stand on a terminal, cut at its end or its front to what fits."""
+    """Text that is safe on a terminal, cut at its end or its front to `most` columns."""
     text = plain(text.replace("\t", " "))
     if width(text) <= most:
         return text
@@ -53,7 +53,7 @@ def cut(text: str, most: int, at_front: bool = False) -> str:
 
 
 def marked_line(before: str, marked: str, behind: str) -> str:
-    """The line, cut to what fits, and the mark."""
+    """The line, cut to the terminal's width, and the mark."""
     room = columns() - INDENT
     before = cut(before, room * 3 // 5, at_front=True)
     marked = cut(marked, room - width(before))

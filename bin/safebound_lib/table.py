@@ -1,4 +1,6 @@
-"""The table of commands and options. One line adds one: help, man page, completion and explanations all read it."""
+"""The table of commands and options. Help, man page, completion and explanations all read it, so one line adds an
+option.
+"""
 from __future__ import annotations
 
 from dataclasses import dataclass
@@ -8,7 +10,9 @@ MOST_BUDGET, MOST_BUDGET_OF_A_TREE, USUAL_BUDGET = 20_000_000, 4_000_000, 1_000_
 
 @dataclass(frozen=True)
 class Option:
-    """A word with a value (`value` is its name in the help), or a flag. Own options aren't handed on to the program."""
+    """A word with a value, whose name in the help is `value`, or a flag. Options of the friendly command itself aren't
+    handed on to the program.
+    """
     word: str
     value: str | None
     help: str
@@ -218,7 +222,7 @@ COMMANDS = (
         ("source <(safebound completion bash)",), is_own=True,
     ),
 )
-# The table's commands by name.
+# The commands by name.
 BY_WORD = {command.word: command for command in COMMANDS}
 PROGRAM_COMMANDS = tuple(command for command in COMMANDS if not command.is_own)
 MOST_SEED = 2**32 - 1
@@ -235,7 +239,7 @@ def valued() -> set[str]:
 
 
 def numbered() -> set[str]:
-    """The words of those options whose value is a number."""
+    """The options whose value is a number."""
     return {o.word for command in COMMANDS for o in program_options(command) if o.least is not None}
 
 

@@ -1,6 +1,4 @@
-"""The terminal that explanations go to: its width, its colours, and a line there that says what is being done and is
-taken away again.
-"""
+"""The terminal that shows explanations: its width, its colours, and a line of progress that is cleared again."""
 import contextlib
 import os
 import re
@@ -15,7 +13,7 @@ EXCERPT = re.compile(r"(?P<place>[^\n]*)(?P<line>\n[^\n]*\n *)(?P<mark>\^+)")
 
 
 def columns(stream: int = 2) -> int:
-    """How wide lines may be: the terminal's width less one, within bounds."""
+    """How wide lines may be: one column less than the terminal, within limits."""
     given = os.environ.get("COLUMNS", "")
     try:
         wide = int(given) if given.isdigit() and int(given) else os.get_terminal_size(stream).columns
@@ -30,12 +28,12 @@ def is_able() -> bool:
 
 
 def has_colours() -> bool:
-    # https://no-color.org: any value but the empty one counts.
+    # https://no-color.org: any value but the empty one turns colours off.
     return is_able() and not os.environ.get("NO_COLOR")
 
 
 def coloured(excerpt: str) -> str:
-    """An excerpt of a text with its place in bold and the mark below it in red."""
+    """An excerpt of a text, with the marked place in bold and the mark below it in red."""
     match = EXCERPT.fullmatch(excerpt)
     if not match or not has_colours():
         return excerpt
@@ -43,7 +41,7 @@ def coloured(excerpt: str) -> str:
 
 
 def show(text: str) -> None:
-    """Shows a line in the place of the one that was shown before."""
+    """Shows a line in place of the line that was shown before."""
     if is_able():
         program.say(CLEARED + text[:columns()])
 
@@ -55,7 +53,7 @@ def clear() -> None:
 
 @contextlib.contextmanager
 def saying(text: str) -> Iterator[None]:
-    """Shows a line while something is done."""
+    """Shows a line while the body of the `with` runs."""
     show(text)
     try:
         yield

@@ -24,7 +24,7 @@ class Token:
 
     @property
     def word(self) -> str:
-        """The word in upper case; "" for a token that isn't a word."""
+        """The word in upper case; "" if the token isn't a word."""
         return self.source.upper() if self.kind == "word" else ""
 
     @property
@@ -33,16 +33,16 @@ class Token:
 
     @property
     def name(self) -> str:
-        """The name that the token is: a word folded, a quoted one as written."""
+        """The name that the token spells: a word in upper case, a quoted name as written."""
         return name_of(self.source)
 
     def is_one(self, *sources: str) -> bool:
-        """Whether it is one of these words or symbols."""
+        """Whether the token is one of these words or symbols."""
         return self.kind in ("word", "symbol") and self.source.upper() in sources
 
 
 def tokens_of(text: bytes) -> list[Token]:
-    """The tokens of a text's bytes, up to its end or to the first place that begins no token."""
+    """The tokens of a text's bytes, up to the end or to the first place where no token begins."""
     found: list[Token] = []
     at = len(MARK) if text.startswith(MARK) else 0
     while True:

@@ -1,4 +1,4 @@
-"""Reading the command line: own options are taken out, and every other word stays as it is."""
+"""Reads the command line: takes out the options of the friendly command, and keeps every other word unchanged."""
 from __future__ import annotations
 
 from dataclasses import dataclass, field
@@ -16,13 +16,14 @@ class Misused(ValueError):
 
 @dataclass
 class Line:
-    """The words for the program, and the own options' values by word.
+    """The words for the program, and the values of the friendly command's own options.
 
-    `before` is the folder that was current before that of `--data`; `is_proposed` says that the schema is proposed.
+    `user_folder` is the folder that was current before `--data` changed it. `is_proposed` says that the schema is
+    proposed.
     """
     words: list[str] = field(default_factory=list)
     own: dict[str, str] = field(default_factory=dict)
-    before: str | None = None
+    user_folder: str | None = None
     is_proposed: bool = False
 
     @property
@@ -31,7 +32,7 @@ class Line:
 
 
 def lacks_schema(line: Line) -> bool:
-    """Whether a line has only a query where a schema and a query are expected, and says where the tables are."""
+    """Whether the command expects a schema and a query, and the line has only a query and `--data`."""
     command = BY_WORD.get(line.command)
     takes_texts = command is not None and command.places == TEXTS and not command.optional
     return takes_texts and DATA.word in line.own and len(places(line.words[1:])) == 1
@@ -50,7 +51,9 @@ def options(words: list[str]) -> list[str]:
 
 
 def read_line(words: list[str]) -> Line:
-    """The line of a list of words. After `--`, and as another option's value, a word is no option of ours."""
+    """Splits a list of words into a line. After `--`, and where another option expects its value, a word isn't one of
+    our options.
+    """
     line, left, own, with_value = Line(), list(words), own_options(), valued()
     while left:
         word = left.pop(0)
@@ -81,7 +84,7 @@ def add_own(line: Line, option: Option, value: str | None, left: list[str]) -> N
 
 
 def places(words: list[str]) -> list[str]:
-    """The positional words among those after the command: neither an option nor an option's value."""
+    """The positional words after the command: all that are neither an option nor an option's value."""
     found: list[str] = []
     left, with_value = list(words), valued()
     while left:
@@ -96,7 +99,7 @@ def places(words: list[str]) -> list[str]:
 
 
 def option_of(words: list[str], option: str) -> str | None:
-    """The value of an option among the words of a command, or nothing."""
+    """The value of an option among the words of a command, or None."""
     left = list(words)
     while left:
         word = left.pop(0)

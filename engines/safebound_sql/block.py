@@ -1,8 +1,8 @@
-"""A block: what one SELECT of several means.
+"""A block: the meaning of one SELECT of a query that has several.
 
-`reorderable` are the entries that may be joined in any order; the others follow as they were written. `left_over` are
-conditions as text, each with the entries after which it is tested, or None if it is tested at the end. `not_used` are
-the conditions that no bound takes into account. `order` is the order of all entries, once the block is planned.
+`reorderable` are the entries that may be joined in any order; the other entries follow as written. `left_over` has
+conditions as text. Each has the entries after which it is tested, or None if it is tested at the end. `not_used` has
+the conditions that no bound uses. `order` is the order of all entries, once the block is planned.
 """
 
 from __future__ import annotations
@@ -53,8 +53,9 @@ class Block:
                 self._condition(piece, of_on=True) if step.source in self.reorderable else self._of_step(step, piece)
 
     def _reorderable(self) -> list[int]:
-        """The entries that are joined first, in the order that the plan chooses. They are those of inner joins before
-        any RIGHT or FULL JOIN, if their ON names no other entries."""
+        """The entries that are joined first, in an order that the plan chooses. They are the entries of inner joins
+        before any RIGHT or FULL JOIN, if the ON names no other entries.
+        """
         stop = next((at for at, step in enumerate(self.steps) if step.kind in ("RIGHT", "FULL")), len(self.steps))
         steps = [step for step in self.steps[:stop] if step.kind == "INNER"]
         while True:
@@ -68,12 +69,13 @@ class Block:
         return frozenset(column.entry for column in self.names.named(piece))
 
     def text(self, piece: Tokens) -> str:
-        """The tokens as text. A block within them has its joins in the planned order."""
+        """The tokens as text. A block among them has its joins in the planned order."""
         return self.plans.text_of(piece)
 
     def _condition(self, piece: Tokens, of_on: bool = False) -> None:
-        """A condition of WHERE or of an inner join's ON. After a RIGHT or FULL JOIN the entries that are joined first
-        may be NULL: then a condition of WHERE is tested at the end, and one of ON after those entries."""
+        """Takes a condition of WHERE or of an inner join's ON. A RIGHT or FULL JOIN may make the first entries NULL.
+        Then a condition of WHERE is tested at the end, and a condition of ON after those entries.
+        """
         self._check(piece)
         entries = self._entries(piece)
         outer = self.names_outside(piece)
@@ -90,7 +92,7 @@ class Block:
             self.not_used.append(piece)
 
     def _of_step(self, step: Step, piece: Tokens) -> None:
-        """A condition of an ON that stays where it is."""
+        """Takes a condition of an ON that isn't moved."""
         self._check(piece)
         outer = self.names_outside(piece)
         if not outer and self._edge(piece, step.source):
@@ -106,8 +108,9 @@ class Block:
             self.names.check_outputs_names(piece, self.outputs)
 
     def _edge(self, piece: Tokens, of: int | None = None) -> bool:
-        """Adds an equality to those that bounds use, if they can use it and one of its columns is of the entry `of`.
-        Answers whether it did."""
+        """Adds an equality to those that bounds use, if they can use it and, with `of`, one of its columns belongs to
+        that entry. Returns whether it was added.
+        """
         sides = self.names.equated(piece)
         return sides is not None and (of is None or of in (sides[0].entry, sides[1].entry)) and (
             self.query.take_equality(*sides) is None
@@ -132,7 +135,8 @@ class Block:
 
     def _counts(self, piece: Tokens) -> bool:
         """Whether the rows that satisfy the condition may be counted. Its subqueries may not join, choose rows, name a
-        part of WITH, or name anything of the query around them."""
+        part of WITH, or name anything of the query around them.
+        """
         for start, end in subqueries(piece):
             inner = piece[start + 1 : end - 1]
             parts = {self.dialect.key_of(part.name) for part in self.visible}

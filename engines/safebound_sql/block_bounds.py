@@ -1,7 +1,7 @@
-"""The plan of a block: its entries are counted, its joins put in order, and each level bounded.
+"""Plans a block: counts its entries, orders its joins, and bounds each level.
 
-After outer joins rows are of several kinds. A kind is a set of entries: those that have a row there, while all others
-are NULL. A kind has at most as many rows as the join of its entries, and the bounds of all kinds are added up.
+After outer joins there are several kinds of rows. A kind is the set of entries that have a row in it; all other entries
+are NULL. A kind has at most as many rows as the join of its entries. The bounds of all kinds are added up.
 """
 
 from __future__ import annotations
@@ -23,7 +23,7 @@ from .tokens import written
 
 @dataclass
 class BlockLevel:
-    """A level of a block: what is joined there and how, the scan of it, and the bound."""
+    """A level of a block: what is joined and how, the bound of its scan, and its own bound."""
 
     joined: str
     of: str
@@ -35,7 +35,7 @@ class BlockLevel:
 
 @dataclass
 class BlockPlan:
-    """A block's levels, and the most rows that the block has; or why it isn't bounded."""
+    """A block's levels and the bound of its rows, or the reason why it isn't bounded."""
 
     core: Core
     levels: list[BlockLevel] = field(default_factory=list)
@@ -80,8 +80,9 @@ class Bounding:
         return levels
 
     def _counted(self) -> Counts:
-        """The rows of each entry and the degrees of its joined columns. Those of a query in FROM follow from its own
-        plan."""
+        """The rows of each entry and the degrees of its joined columns. For a query in FROM, they follow from the plan
+        of that query.
+        """
         query, given = self.query, self.block.names.given
         own = [entry for entry in query.entries if entry.number not in given]
         asked = {entry.name: query.joined(entry.number) for entry in own}
@@ -100,7 +101,7 @@ class Bounding:
         return counts
 
     def _order(self, counts: Counts, lists: Lists) -> list[int]:
-        """The best order of the entries that are joined first, and then the others as they were written."""
+        """The best order of the entries that are joined first, then the other entries as written."""
         names, reorderable = [entry.name for entry in self.query.entries], self.block.reorderable
         some = {names[number] for number in reorderable}
         within = [(one, other) for one, other in equalities_of(self.query) if one[0] in some and other[0] in some]
@@ -113,7 +114,7 @@ class Bounding:
         return order + [step.source for step in self.block.steps if step.source not in reorderable]
 
     def _joined(self, kinds: list[frozenset[int]], number: int, first: bool) -> tuple[list[frozenset[int]], str]:
-        """The kinds of rows after this entry is joined, and the words that join it."""
+        """The kinds of rows after this entry is joined, and the SQL words of the join."""
         kind = self.block.steps[number].kind
         if first:
             return [frozenset([number])], ""

@@ -1,4 +1,4 @@
-"""Names of a block, whose entries may be queries in FROM and parts of WITH."""
+"""Names in a block. Its entries may be queries in FROM and parts of WITH."""
 
 from __future__ import annotations
 
@@ -13,12 +13,12 @@ from .tokens import written
 if TYPE_CHECKING:
     from .block_plans import Planner
 
-# The most rows that the library takes of an entry.
+# The most rows that the library accepts for an entry.
 MOST_ROWS = 2**48
 
 
 class BlockNames(Names):
-    """Names of a block. A subquery may name entries of the block, so its tokens are looked at too."""
+    """Names in a block. A subquery may name entries of the block, so the tokens of subqueries are read too."""
 
     looks_into_subqueries = True
 
@@ -51,7 +51,7 @@ class BlockNames(Names):
         return next((part for part in reversed(self.visible) if key(part.name) == name), None)
 
     def _given(self, number: int, query: Several, text: str, columns: Tokens, source: Source) -> Table:
-        """The columns of a query in FROM or WITH, whose rows are bounded by its own plan, and not counted."""
+        """The columns of a query in FROM or WITH. Its rows are bounded by its own plan, and aren't counted."""
         rows = self.plans.rows_of(query)
         if rows is None or rows > MOST_ROWS:
             raise self.statement.refuse(

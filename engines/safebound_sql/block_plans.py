@@ -1,8 +1,7 @@
-"""Plans of queries with several blocks, and of outer joins: each block is counted, planned and bounded by itself.
+"""Plans queries with several blocks and with outer joins. Each block is counted, planned and bounded alone.
 
-For a query in FROM the block around it takes that query's bound, and counts nothing. If the query groups by one column,
-each value of this column stands once in its rows. Entries are counted under their own conditions alone, without
-semi-joins.
+For a query in FROM, the block around it uses that query's bound, and counts nothing. If the query groups by one column,
+its rows have each value of this column once. Entries are counted under their own conditions only, without semi-joins.
 """
 
 from __future__ import annotations
@@ -26,7 +25,7 @@ from .tokens import Token, tokens, written
 
 
 class Planner:
-    """All blocks of a text, from the innermost one to the query itself."""
+    """Plans all blocks of a text, from the innermost block to the outermost."""
 
     def __init__(self, engine: Engine, text: str, accuracy: int, budget: int, progress: Progress | None = None) -> None:
         self.engine, self.text, self.accuracy, self.budget = engine, text, accuracy, budget
@@ -50,7 +49,7 @@ class Planner:
             raise PastBudget(budget, max(over))
 
     def _see(self, query: Several) -> None:
-        """Notes which parts of WITH each block sees."""
+        """Notes which parts of WITH each block can name."""
         for part in query.parts:
             self._see(part.query)
         for member in query.members:
@@ -81,7 +80,9 @@ class Planner:
                 yield token
 
     def rows_of(self, query: Several) -> int | None:
-        """The most rows of a query: sums over UNION, the left side's of EXCEPT, the lesser side's of INTERSECT."""
+        """The bound of a query's rows: for UNION the sum of its sides, for EXCEPT the left side, for INTERSECT the
+        lesser side.
+        """
         if query.refused:
             return None
         found = [self.rows_of(m) if isinstance(m, Several) else self.plans[m.start].rows for m in query.members]
@@ -99,8 +100,9 @@ class Planner:
         return last.end if isinstance(last, Core) or last.end == query.end else last.end + 1
 
     def unique(self, query: Several, names: list[str]) -> set[str]:
-        """The columns of a query in which no value stands twice. If the query groups by one column, it is this one; if
-        it is SELECT DISTINCT with one output, it is this output."""
+        """The columns of a query in which no value occurs twice. If the query groups by one column, it is that column.
+        If the query is a SELECT DISTINCT with one output, it is that output.
+        """
         if (
             len(query.members) != 1
             or not isinstance(query.members[0], Core)
@@ -136,7 +138,7 @@ class Planner:
                 pieces = list(self.pieces[core.start : core.end])
                 statement = read(self.text, pieces, self.dialect, in_blocks=True)
             except Refused:
-                # Its entries and columns aren't known, so any name in it may be one of them.
+                # The entries and columns of this one aren't known, so any name in it may be one of them.
                 names = [token for token in self.pieces[core.start : core.end] if token.names]
                 keys = {self.dialect.key_of(token) for token in names}
                 return aliases | keys, columns | keys
@@ -146,7 +148,7 @@ class Planner:
                 aliases.add(self.dialect.key_of(source.alias))
                 whole = not source.is_query and self.dialect.key_of(source.table[-1]) not in parts
                 about = self.catalog.table(source.table) if whole else None
-                # A query in FROM or a part of WITH may call its columns by any name of the text.
+                # A query in FROM or a part of WITH may give its columns any name that the text has.
                 columns |= set(about.by_key) if about else self._all_names()
         return aliases, columns
 
@@ -163,7 +165,7 @@ class Planner:
         )
 
     def source_of(self, query: Several) -> str:
-        """A query as it was written."""
+        """The text of a query as written."""
         return self.text[self.pieces[query.start].at : self._stop(query.end)]
 
     def _stop(self, end: int) -> int:
@@ -177,7 +179,7 @@ class Planner:
         return f"WITH {recursive}{', '.join(parts)}\n{text}"
 
     def text_of(self, piece: Tokens) -> str:
-        """Tokens as they were written, with the blocks among them in their planned order."""
+        """The text of tokens, with the blocks among them in their planned order."""
         if not piece:
             return ""
         start, end = self.at[piece[0].at], self.at[piece[-1].at] + 1
@@ -202,7 +204,7 @@ class Planner:
         return "".join(parts) + self.text[at : self._stop(end)]
 
     def planned_text(self, query: Several) -> str:
-        """A query with each of its blocks in its planned order. All else is as it was written."""
+        """The text of a query with each block in its planned order, and otherwise as written."""
         spans: list[tuple[int, int, str]] = [
             (part.query.start, part.query.end, self.planned_text(part.query)) for part in query.parts
         ]
@@ -243,8 +245,9 @@ class Planner:
         ]
 
     def true_rows(self) -> None:
-        """Counts the rows of each level of a block, if the block names nothing of those around it and is no part of a
-        WITH RECURSIVE."""
+        """Counts the rows of each level of a block. It skips blocks that name something of the blocks around them, and
+        blocks in WITH RECURSIVE.
+        """
         self.connection.keep_order()
         for start, block in self.blocks.items():
             if any(part.query.refused and part.query.start <= start < part.query.end for part in self.query.parts):
@@ -263,8 +266,9 @@ class Planner:
 
 
 def several(text: str, engine: Engine) -> bool:
-    """Whether the text has to be planned in blocks. That is so if it has WITH, UNION or its like, an outer join, or a
-    query in FROM, or if a subquery joins or names an entry outside of itself."""
+    """Whether the text has to be planned in blocks: it has WITH, UNION or its like, an outer join, or a query in FROM;
+    or a subquery joins, or names an entry outside of itself.
+    """
     pieces = tokens(text, engine.dialect.rules)
     query = Finder(text, pieces).found()
     core = query.members[0] if len(query.members) == 1 else None

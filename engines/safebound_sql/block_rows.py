@@ -1,5 +1,6 @@
-"""The most rows that a block has, by the bound of its joins and by what stands above them: outputs, GROUP BY, HAVING
-and LIMIT."""
+"""The bound of a block's rows. It follows from the bound of the block's joins, and from outputs, GROUP BY, HAVING and
+LIMIT.
+"""
 
 from __future__ import annotations
 
@@ -11,7 +12,7 @@ SETS_OF_GROUPS = ("ROLLUP", "CUBE", "GROUPING")
 
 
 def most_rows(statement: Statement, joined: int) -> int | None:
-    """The most rows of the block; None if it groups by several sets of columns, which may make more rows."""
+    """The bound of the block's rows. None if it groups by several sets of columns, which may make more rows."""
     above, outputs = statement.above, [token for piece in statement.outputs for token in piece]
     sets = any(
         token.says(*SETS_OF_GROUPS) or (token.says("(") and behind.says(")")) for token, behind in zip(above, above[1:])
@@ -22,7 +23,7 @@ def most_rows(statement: Statement, joined: int) -> int | None:
         return limited(joined, above)
     if _aggregates(outputs) or (above and above[0].says("HAVING")):
         return 1
-    # Any function may be an aggregate that isn't known here, and an aggregate makes one row even of no rows.
+    # Any function may be an aggregate that isn't known here. An aggregate makes one row even from no rows.
     return limited(max(joined, int(any(token.says("(") for token in outputs))), above)
 
 
@@ -46,7 +47,7 @@ def _aggregates(outputs: Tokens) -> bool:
 
 
 def limited(rows: int, above: Tokens) -> int:
-    """The lesser of `rows` and the number of LIMIT, if LIMIT and a number end the tokens; otherwise `rows`."""
+    """The lesser of `rows` and the number of LIMIT, if the tokens end in LIMIT and a number. Otherwise `rows`."""
     for at, token in enumerate(above[:-1]):
         if token.says("LIMIT") and above[at + 1].text.isdigit() and at + 2 == len(above):
             return min(rows, int(above[at + 1].text))
@@ -54,7 +55,7 @@ def limited(rows: int, above: Tokens) -> int:
 
 
 def grouped(above: Tokens) -> Tokens | None:
-    """The one expression that GROUP BY has; None if it has several."""
+    """The expression of GROUP BY if there is exactly one. Otherwise None."""
     piece: Tokens = []
     for token in above[2:]:
         if token.says("HAVING", "WINDOW", "ORDER", "LIMIT", "OFFSET", "FETCH"):

@@ -1,4 +1,4 @@
-"""A block as SQL, with its joins in the planned order."""
+"""Writes a block as SQL, with its joins in the planned order."""
 
 from __future__ import annotations
 
@@ -8,7 +8,7 @@ from .tokens import written
 
 
 def rows_of_levels(block: Block, levels: int) -> str:
-    """FROM and WHERE of the first `levels` levels, as they are bounded."""
+    """FROM and WHERE of the first `levels` levels, in the form that is bounded."""
     text, conditions = _join(block, levels)
     return text + where(conditions)
 

@@ -1,5 +1,6 @@
-"""The blocks of a query: each of its SELECTs with its FROM. A block may be the whole query, or stand in WITH, in FROM,
-in a condition, or beside UNION, INTERSECT or EXCEPT."""
+"""The blocks of a query: each SELECT with its FROM. A block is the whole query, or a part of it in WITH, in FROM, in a
+condition, or beside UNION, INTERSECT or EXCEPT.
+"""
 
 from __future__ import annotations
 
@@ -15,7 +16,7 @@ BEGIN = ("SELECT", "WITH", "VALUES")
 
 @dataclass
 class Core:
-    """A SELECT: where its tokens begin and end, what messages call it, and the queries within it."""
+    """A SELECT: where its tokens begin and end, how messages name it, and the queries in it."""
 
     start: int
     end: int
@@ -46,7 +47,7 @@ class Query:
     refused: str | None = None
 
     def cores(self) -> Iterator[Core]:
-        """All SELECTs of it, the inner ones first."""
+        """All SELECTs of the query, the inner ones first."""
         for part in self.parts:
             yield from part.query.cores()
         for member in self.members:
@@ -89,7 +90,7 @@ class Finder:
         return query
 
     def _with(self, query: Query, at: int, end: int, outside: Core | None, visible: list[Part]) -> int:
-        """Reads the parts of WITH. Answers where the query itself begins."""
+        """Reads the parts of WITH. Returns the number of the token where the query itself begins."""
         if self.pieces[at].says("RECURSIVE"):
             query.refused = f"WITH RECURSIVE at {self._place(at)}: how often it goes on isn't known"
             at += 1
@@ -112,7 +113,7 @@ class Finder:
         return at
 
     def _member(self, query: Query, at: int, end: int, called: str, outside: Core | None) -> int:
-        """Reads one SELECT, or a query in parentheses. Answers the number of the token behind it."""
+        """Reads one SELECT, or a query in parentheses. Returns the number of the token behind it."""
         called = f"{called}, {query.operators[-1]}" if query.operators else called
         if self.pieces[at].says("("):
             last = closing(self.pieces, at)
@@ -128,7 +129,8 @@ class Finder:
         return stop
 
     def _end_of_core(self, at: int, end: int, together: bool) -> int:
-        """Where a SELECT ends. If UNION or its like connects several, ORDER BY and LIMIT belong to all of them."""
+        """The end of a SELECT. If UNION or its like connects several SELECTs, ORDER BY and LIMIT belong to all of them.
+        """
         stop = at
         while stop < end:
             token = self.pieces[stop]

@@ -1,4 +1,4 @@
-"""The command line: from words to an exit status."""
+"""The command line: reads the words, runs a command, and gives the exit status."""
 
 from __future__ import annotations
 
@@ -32,7 +32,7 @@ NO_BLOCKS_COUNTED = "nothing is counted: --count is for queries of one block, wh
 
 
 class Words(argparse.ArgumentParser):
-    """A parser that raises `Usage` for wrong words, as other faults are raised, and doesn't end the process."""
+    """A parser that raises `Usage` for wrong words, like other faults, instead of ending the process."""
 
     def error(self, message: str) -> NoReturn:
         raise Usage(f"{message} (safebound-sql --help tells more)")
@@ -115,7 +115,7 @@ def _plan_words(command: argparse.ArgumentParser, name: str) -> None:
 
 
 def _engine(given: argparse.Namespace) -> Engine:
-    """What `--db` or `--dialect` says."""
+    """The engine that `--db` or `--dialect` names."""
     dialect = getattr(given, "dialect", None)
     if (given.db is None) == (dialect is None):
         raise Usage("either --db or --dialect is needed")
@@ -144,7 +144,7 @@ def opened(db: str, timeout: int | None) -> Engine:
 
 
 def text_of(file: str) -> str:
-    """A file's characters. Line ends stay as they are, since one may stand within a text."""
+    """A file's characters. Line ends are unchanged, since a text in the query may have one."""
     try:
         if file == "-":
             return sys.stdin.buffer.read().decode("utf-8-sig")
@@ -155,7 +155,7 @@ def text_of(file: str) -> str:
 
 
 def _planned(given: argparse.Namespace, planner: Planner) -> None:
-    """The commands that need a plan."""
+    """Runs the commands that need a plan."""
     kept = getattr(given, "kept", None)
     if given.count:
         plan = planner.plan_by_counting(given.accuracy, given.budget, given.tree)
@@ -204,7 +204,7 @@ def _appended(given: argparse.Namespace, engine: Engine) -> None:
 
 
 def _in_blocks(given: argparse.Namespace, engine: Engine, text: str) -> None:
-    """The commands that know queries of several blocks."""
+    """Runs the commands that support queries of several blocks."""
     for option in ("tree", "kept", "counts"):
         if getattr(given, option, None):
             raise Refused(f"--{option} is for queries of one block, whose joins are inner ones")
@@ -271,7 +271,7 @@ def done(given: argparse.Namespace) -> None:
 
 
 def main(arguments: Sequence[str] | None = None) -> int:
-    """Runs a command. Answers the exit status."""
+    """Runs a command. Returns the exit status."""
     if isinstance(sys.stdout, io.TextIOWrapper):
         sys.stdout.reconfigure(encoding="utf-8", errors="surrogateescape")
     stops.heed()

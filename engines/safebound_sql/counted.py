@@ -1,5 +1,5 @@
-"""Bounds that are counted: how many choices of rows the conditions of a level leave, if the engine has exact numbers of
-any size. One statement counts all levels by factors, and makes no row of a join.
+"""Counted bounds: how many choices of rows satisfy the conditions of a level, if the engine has exact numbers of any
+size. One statement counts all levels by factors (`factors`), and joins no rows.
 """
 
 from __future__ import annotations
@@ -16,13 +16,14 @@ from .query import Equality, Named, Query, Reference, Text
 from .reducing import Parts, bracketed, own_conditions, where
 from .servers import rows_to_join
 
-# How many pairs of groups a join of two factors may have. A level that needs a join with more isn't counted by it.
+# How many pairs of groups a join of two factors may have. A level that needs a larger join isn't counted.
 MOST_PAIRS = 4_000_000
 
 
 def conjuncts_of(query: Query, catalog: Catalog) -> list[Conjunct]:
-    """The conditions on several entries that depend on nothing but the values by which rows are grouped: all equalities
-    that join, and other conditions over columns whose equal values are the same to every function."""
+    """The conditions on several entries that depend only on the values by which rows are grouped. They are all
+    equalities that join, and other conditions over columns whose equal values give the same result in every function.
+    """
     equalities = [
         Conjunct(frozenset((left.entry, right.entry)), frozenset((left, right)), equality)
         for equality in query.equalities
@@ -44,7 +45,7 @@ def columns_of(text: Text) -> frozenset[Named]:
 
 
 class Made(NamedTuple):
-    """The part of the statement that computes a factor, and the parts that count the pairs of groups of its joins."""
+    """A factor's part of the statement, and the parts that count the pairs of groups of its joins."""
 
     name: str
     pairs: tuple[str, ...]
@@ -60,7 +61,7 @@ class Choices:
         self.conjuncts = conjuncts
         named = {named for conjunct in conjuncts for named in conjunct.columns}
         in_order = sorted(named, key=lambda one: (one.entry, one.column.name))
-        # With numbers in place of names, since the name of a column may already have the most characters of a name.
+        # Columns get numbers, since the name of a column may already have the greatest length of a name.
         self.columns = {one: f"{prefix}{one.entry}_{at}" for at, one in enumerate(in_order)}
         columns = {
             entry.number: [c for c in entry.about.by_key.values() if Named(entry.number, c) in named]
@@ -72,8 +73,9 @@ class Choices:
         self.made: dict[Factor, Made] = {}
 
     def statement(self, levels: Iterable[tuple[int, Sequence[int]]]) -> str:
-        """The statement answers one row for each level: its number, and how many choices there are of its entries. A
-        level for which too many pairs would meet has no row."""
+        """The statement returns one row for each level: the level's number, and the number of choices of its entries'
+        rows. A level with too many pairs has no row.
+        """
         selects = [f"SELECT {number} AS level, {self._total(entries)}" for number, entries in levels]
         return self.dialect.with_parts(self.texts, "\nUNION ALL ".join(selects))
 
@@ -83,12 +85,13 @@ class Choices:
         return f"{self.number} FROM {made.name}{where(self._few(made.pairs))}"
 
     def _few(self, pairs: Iterable[str]) -> list[str]:
-        """The conditions that each of these numbers of pairs is within the limit. PostgreSQL tests them once and before
-        all else, and doesn't compute a part that is then never read."""
+        """Conditions that each of these numbers of pairs is within the limit. PostgreSQL tests these conditions once
+        and first, and doesn't compute a part that is then never read.
+        """
         return [f"(SELECT {self.number} FROM {name}) <= {self.most_pairs}" for name in pairs]
 
     def _factor(self, factor: Factor, by: dict[Factor, Join]) -> Made:
-        """The part that computes this factor. Whichever joins lead to a factor, its part is the same."""
+        """The part that computes this factor. The part of a factor doesn't depend on the joins that lead to it."""
         if factor not in self.made:
             self.made[factor] = self._joined(by[factor], by) if factor in by else self._grouped(factor)
         return self.made[factor]
@@ -99,7 +102,8 @@ class Choices:
         return name
 
     def _grouped(self, factor: Factor) -> Made:
-        """The factor of one entry: how many of its rows have each choice of values of its open columns."""
+        """The factor of one entry: for each combination of values of its open columns, how many of its rows have them.
+        """
         [number] = factor.entries
         entry = self.query.entries[number]
         rows, conditions = self.parts.rows.get(number), own_conditions(entry)
@@ -108,7 +112,7 @@ class Choices:
         return Made(self._part(self._select(factor, values, "CAST(COUNT(*) AS NUMERIC)", source)), ())
 
     def _select(self, factor: Factor, values: list[str], number: str, source: str) -> str:
-        """The SELECT of a number for each choice of values of the factor's open columns."""
+        """The SELECT of a number for each combination of values of the factor's open columns."""
         outputs = [f"{value} AS {self.columns[named]}" for value, named in zip(values, factor.open)]
         groups = f" GROUP BY {', '.join(str(at) for at in range(1, len(outputs) + 1))}" if outputs else ""
         return f"SELECT {', '.join([*outputs, f'{number} AS {self.number}'])} {source}{groups}"
@@ -116,7 +120,7 @@ class Choices:
     def _joined(self, join: Join, by: dict[Factor, Join]) -> Made:
         left, right = self._factor(join.left, by), self._factor(join.right, by)
         pairs = left.pairs + tuple(name for name in right.pairs if name not in left.pairs)
-        own = [] if join.few else [self._pairs(join, left.name, right.name)]
+        own = [] if join.has_few_pairs else [self._pairs(join, left.name, right.name)]
         sides = {**dict.fromkeys(join.left.entries, left.name), **dict.fromkeys(join.right.entries, right.name)}
         values = [f"{sides[named.entry]}.{self.columns[named]}" for named in join.both.open]
         source = f"FROM {left.name} {self._on(join, left.name, right.name, right.name)}{self._entries(join, sides)}"
@@ -126,12 +130,12 @@ class Choices:
         return Made(self._part(text), (*pairs, *own))
 
     def _on(self, join: Join, left: str, right: str, rows: str) -> str:
-        """The JOIN of the right side, whose groups are read from `rows`."""
+        """The JOIN of the right side. Its groups are read from `rows`."""
         equal = [f"{left}.{self.columns[one]} = {right}.{self.columns[other]}" for one, other in join.equalities]
         return f"JOIN {rows} ON {' AND '.join(equal)}" if equal else f"CROSS JOIN {rows}"
 
     def _entries(self, join: Join, sides: dict[int, str]) -> str:
-        """Gives columns their own names again, under their entries' aliases, for the conditions that name them."""
+        """Gives columns their own names and their entries' aliases again, for the conditions that name them."""
         named = sorted(
             set[Named]().union(*(other.columns for other in join.others)), key=lambda named: named.column.name
         )
@@ -149,14 +153,14 @@ class Choices:
         )
 
     def _pairs(self, join: Join, left: str, right: str) -> str:
-        """The part that counts the pairs of groups that meet by equalities."""
+        """The part that counts the pairs of groups whose values are equal."""
         rows = self._meeting(left, [one for one, _ in join.equalities])
         others = self._meeting(right, [other for _, other in join.equalities])
         product = f"COALESCE(SUM({left}.{self.number} * {right}.{self.number}), 0)"
         return self._part(f"SELECT {product} AS {self.number} FROM {rows} {self._on(join, left, right, others)}")
 
     def _meeting(self, name: str, columns: list[Named]) -> str:
-        """How many groups of a factor have the same values of these columns."""
+        """How many groups of a factor share each combination of values of these columns."""
         values = list(dict.fromkeys(self.columns[column] for column in columns))
         outputs = ", ".join([*values, f"CAST(COUNT(*) AS NUMERIC) AS {self.number}"])
         groups = f" GROUP BY {', '.join(values)}" if values else ""
@@ -164,7 +168,7 @@ class Choices:
 
 
 class Lowering:
-    """Lowers a plan's bounds to what is counted, for its levels of several entries."""
+    """Lowers a plan's bounds to counted numbers, for levels of several entries."""
 
     def __init__(
         self, plan: Plan, engine: Engine, prefix: str, reduce: bool, most_pairs: int = MOST_PAIRS
@@ -177,7 +181,7 @@ class Lowering:
         self.large = prod(sorted(plan.counts.rows.values())[-2:]) > most_pairs
 
     def lower(self) -> None:
-        """Counts by all conditions, and where too many pairs would meet, by equalities alone."""
+        """Counts by all conditions. Where that makes too many pairs, counts by equalities alone."""
         levels = [number for number, level in enumerate(self.plan.levels, 1) if not isinstance(level.shape, int)]
         left = self._by_all(levels)
         more = [number for number in left if self._others_within(number)]
@@ -190,8 +194,9 @@ class Lowering:
                 self.plan.notes.append(f"level {number} is counted by equalities alone: by all conditions {past}")
 
     def _by_all(self, levels: list[int]) -> list[int]:
-        """Counts by all conditions. A condition may end in an error on rows that the query itself never tests; then
-        equalities alone are used."""
+        """Counts by all conditions. A condition may fail with an error on rows that the query itself never tests; then
+        equalities alone are used.
+        """
         try:
             left = self._lowered(levels, self.equalities + self.others, "all conditions")
         except EngineFault as fault:
@@ -208,7 +213,7 @@ class Lowering:
         return any(other.entries <= entries for other in self.others)
 
     def _lowered(self, levels: list[int], conjuncts: list[Conjunct], by: str) -> list[int]:
-        """Lowers the bounds of these levels. Answers those that it didn't count."""
+        """Lowers the bounds of these levels. Returns the levels that it didn't count."""
         if not levels:
             return []
         asked = Choices(self.plan.query, self.engine.dialect, self.prefix, conjuncts, self.reduce, self.most_pairs)

@@ -1,5 +1,5 @@
-"""The one statement that counts: each entry's rows under its own conditions, and how often the values of each joined
-column repeat. With semi-joins (`reduce`) it leaves out rows that can't take part.
+"""The statement that counts, for each entry, its rows under its own conditions, and how often the values of each joined
+column repeat. With semi-joins (`reduce`) it leaves out rows that can't be in the result.
 """
 
 from __future__ import annotations
@@ -21,14 +21,14 @@ HEADER = ("entry", "column", "degree", "keys")
 
 @dataclass
 class Counts:
-    """How many rows each entry has, and of each joined column the runs of its degrees, the greatest degree first."""
+    """How many rows each entry has, and for each joined column the runs of its degrees, the largest degree first."""
 
     rows: dict[str, int]
     runs: dict[tuple[str, str], list[tuple[int, int]]]
 
 
 def prefix_for(texts: Iterable[str]) -> str:
-    """What the names of parts begin with. It stands nowhere in the texts, so no name of the query begins with it."""
+    """A prefix for the names of parts. It doesn't occur in the texts, so no name of the query begins with it."""
     prefix = "safebound_"
     while any(prefix in text.lower() for text in texts):
         prefix += "_"
@@ -36,11 +36,11 @@ def prefix_for(texts: Iterable[str]) -> str:
 
 
 def counting(query: Query, dialect: Dialect, prefix: str, reduce: bool, known: Collection[int] = ()) -> str:
-    """The statement. Its rows are (entry, column, degree, keys): `keys` values of the column stand in `degree` rows
-    each.
+    """The counting statement. Its rows are (entry, column, degree, keys): `keys` different values of the column occur
+    in `degree` rows each.
 
-    Rows in which the column is NULL have degree 0. A row with the column '' says how many rows the entry has. Of
-    entries in `known`, whose degrees are known already, only this number is asked.
+    Rows in which the column is NULL have degree 0. A row with the column '' says how many rows the entry has. For
+    entries in `known`, whose degrees are known already, the statement asks only for this number.
     """
     columns = {entry.number: [] if entry.number in known else query.joined(entry.number) for entry in query.entries}
     texts: list[tuple[str, str]] = []
@@ -52,7 +52,7 @@ def counting(query: Query, dialect: Dialect, prefix: str, reduce: bool, known: C
 
 
 def histograms(source: Source, columns: list[Column], dialect: Dialect) -> list[str]:
-    """What a counting statement asks of one entry."""
+    """The parts of a counting statement about one entry."""
     name = written_text(source.entry.name)
     degree, rows = source.total()
     total = _line(dialect, name, "''", degree, "1", rows)
@@ -70,16 +70,16 @@ def _histogram(entry: str, column: Column, dialect: Dialect, source: Source) -> 
 
 
 def counts_of(query: Query, rows: Iterable[Row]) -> Counts:
-    """What the answer of the statement says.
+    """The counts in a statement's result.
 
     Raises:
-        WrongCounts: it isn't an answer to the statement of this query.
+        WrongCounts: it isn't a result of the statement of this query.
     """
     return counts_among({entry.name: query.joined(entry.number) for entry in query.entries}, rows)
 
 
 def counts_among(asked: dict[str, list[Column]], rows: Iterable[Row]) -> Counts:
-    """The same for entries by their names, each with the columns that were counted."""
+    """The counts in a statement's result, for entries given by name, each with its counted columns."""
     counts = Counts({}, {})
     zeros: dict[tuple[str, str], int] = {}
     wanted = {(entry, column.name) for entry, columns in asked.items() for column in columns}
@@ -106,7 +106,7 @@ def counts_among(asked: dict[str, list[Column]], rows: Iterable[Row]) -> Counts:
 
 
 def counts_of_file(query: Query, file: str) -> Counts:
-    """The counts of a CSV file that has a header and then the statement's answer."""
+    """The counts of a CSV file that has a header and then the statement's result."""
     try:
         with open(file, newline="", encoding="utf-8") as lines:
             records = list(csv.reader(lines))

@@ -1,4 +1,4 @@
-"""The SQL of an engine: how it reads names and how it is written. It is data alone, and needs no connection."""
+"""The SQL of an engine: how it reads names, and how to write it. A dialect is data, and needs no connection."""
 
 from __future__ import annotations
 
@@ -14,9 +14,9 @@ from .tokens import Token, unquoted
 class Dialect:
     """How an engine's SQL is read and written.
 
-    `comma_binds_less` says that a comma of FROM binds less than JOIN. `plain_words` are keywords elsewhere, and names
-    to this engine. A `reserved` word is a column only in quotes. `settings` keep the joins of a statement in their
-    order. Some engines compute a part of WITH anew wherever it is named: `most_parts_of_a_part` and `most_scans`
+    `comma_binds_less` says that a comma of FROM binds less than JOIN. `plain_words` are keywords of other engines that
+    are names in this one. A `reserved` word is a column only in quotes. `settings` keep the joins of a statement in
+    their order. Some engines compute a part of WITH again wherever it is named: `most_parts_of_a_part` and `most_scans`
     limit this. `counts_exactly` says that numbers may be of any size.
     """
 
@@ -54,7 +54,7 @@ class Dialect:
         return '"' + name.replace('"', '""') + '"'
 
     def with_parts(self, parts: list[tuple[str, str]], select: str) -> str:
-        """The statement with named parts before it, each of which may name those before it."""
+        """The statement with named parts before it. A part may name the parts before it."""
         written = ",\n  ".join(f"{name} {self.keeps_parts} ({text})" for name, text in parts)
         return f"WITH\n  {written}\n{select}" if parts else select
 
@@ -63,37 +63,40 @@ class Dialect:
         return self.settings
 
     def key(self, name: str, quoted: bool) -> str:
-        """The name as the engine compares it with others."""
+        """The name in the form that the engine compares."""
         return name if quoted else lower(name)
 
     def key_of(self, token: Token) -> str:
-        """The name of a table, column, function or operator, as the engine looks it up."""
+        """The name of a table, column, function or operator, in the form by which the engine finds it."""
         quoted = token.kind in ("quoted", "text")
         return self.key(unquoted(token) if quoted else token.text, quoted)
 
     def reads_clock(self, pieces: list[Token], at: int, below: bool = False) -> bool:
-        """Whether a function that reads the clock begins at the token `at`: two statements may get two times.
+        """Whether a function that reads the clock begins at the token `at`. Such a function may give two statements
+        different times.
 
         `below`: the tokens are those of a view, and it isn't known whose columns they name.
         """
         return False
 
     def clock_arguments(self, pieces: list[Token]) -> Iterator[tuple[Token, list[Token]]]:
-        """Date functions whose argument is a column, and the tokens of that column. They read the clock if the column
-        holds 'now'."""
+        """The calls of date functions whose argument is a column, each with the tokens of that column. They read the
+        clock if the column has the value 'now'.
+        """
         return iter(())
 
     def remote_in(self, value: str, column: Column, rows: str) -> str:
-        """A condition for a foreign server: the value is among those of this column of `rows`, which are sent to the
-        server."""
+        """A condition that a foreign server can test: the value is one of the values of this column of `rows`, which
+        are sent to the server.
+        """
         raise NotImplementedError(f"{self.title} has no tables on other servers")
 
 
 def lower(name: str) -> str:
-    """The name in lower case, as far as ASCII goes."""
+    """The name with its ASCII letters in lower case."""
     return "".join(c.lower() if c.isascii() else c for c in name)
 
 
 def as_script(*statements: str) -> str:
-    """Statements one below the other."""
+    """The statements, one below the other."""
     return "".join(f"{statement};\n" for statement in statements)

@@ -1,6 +1,6 @@
-"""A query and its tables as files for safebound_cli: schema, query and one CSV file for each table.
+"""Writes a query and its tables as files for safebound_cli: the schema, the query, and one CSV file for each table.
 
-safebound_cli has whole numbers and texts, no NULL, and conditions of comparisons. What is outside of that is refused.
+safebound_cli has whole numbers, texts, and conditions that compare; it has no NULL. Anything else is refused.
 """
 
 from __future__ import annotations
@@ -29,7 +29,9 @@ ORDERING = ("<", "<=", ">", ">=", "BETWEEN")
 
 
 def spelled(name: str) -> str:
-    """The name as safebound_cli reads it. It folds words to upper case, so all names are in upper case."""
+    """The name as safebound_cli reads it. All names are in upper case, since safebound_cli converts words to upper
+    case.
+    """
     return written_name(folded(name))
 
 
@@ -56,7 +58,7 @@ class Export:
             raise Unreadable(str(error)) from None
 
     def _files(self, text: str, tables: dict[str, list[Entry]]) -> None:
-        """Writes all files, or leaves none."""
+        """Writes all files. After an error none of them is left."""
         with contextlib.ExitStack() as undo:
             undo.callback(self._empty)
             schema = [self._table(name, entries) for name, entries in tables.items()]
@@ -104,7 +106,9 @@ class Export:
         yield f"{column} AS {spelled(self.dialect.key_of(rest[0]))}" if rest else column
 
     def _condition(self, piece: Tokens) -> Iterator[str]:
-        """The condition again. That a column is NOT NULL goes without saying, since no exported value is NULL."""
+        """The condition in safebound_cli's SQL. A test that a column IS NOT NULL is dropped, since no exported value is
+        NULL.
+        """
         ends = [token.text.upper() for token in piece[-3:]]
         if ends == ["IS", "NOT", "NULL"] and (tested := self.names.side(piece[:-3])):
             self._column(tested)
@@ -162,7 +166,7 @@ class Export:
         return tables
 
     def _table(self, name: str, entries: list[Entry]) -> str:
-        """Writes a table's file. Answers its CREATE TABLE."""
+        """Writes a table's file. Returns its CREATE TABLE."""
         used = set().union(*(self.used[entry.number] for entry in entries))
         columns = [column for column in entries[0].about.by_key.values() if column in used] or list(
             entries[0].about.columns[:1]
@@ -184,7 +188,7 @@ class Export:
         return f"CREATE TABLE {name} ({declared})"
 
     def _records(self, file: str, columns: list[Column], rows: Iterator[Row]) -> list[str]:
-        """Writes the rows, and finds the columns' types."""
+        """Writes the rows. Returns the types of the columns."""
         kinds: list[type] = [int if self.catalog.whole_numbers(column) else str for column in columns]
         longest = [1] * len(columns)
         next(rows)

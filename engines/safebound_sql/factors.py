@@ -1,8 +1,8 @@
-"""In which order the choices of rows of some entries are counted, so that the rows themselves are never joined.
+"""Plans how to count the choices of rows of some entries without joining the rows (variable elimination).
 
-A factor of some entries says for each combination of values of its open columns how many choices of rows have these
-values. A choice has one row of each of these entries, and satisfies all conditions on these entries alone. A column is
-open as long as a condition that names it hasn't been tested. This is variable elimination.
+A choice has one row of each of some entries, and satisfies all conditions on these entries alone. A factor of these
+entries gives, for each combination of values of its open columns, the number of choices with these values. A column is
+open as long as some condition that names it hasn't been tested.
 """
 
 from __future__ import annotations
@@ -13,7 +13,9 @@ from .query import Equality, Named, Text
 
 
 class Conjunct(NamedTuple):
-    """A condition on several entries with the columns that it names: an equality of two of them, or any other."""
+    """A condition on several entries, and the columns that it names. It is an equality of two columns, or any other
+    condition.
+    """
 
     entries: frozenset[int]
     columns: frozenset[Named]
@@ -28,8 +30,9 @@ class Factor(NamedTuple):
 
 
 class Join(NamedTuple):
-    """Two factors and the one that they make; the equalities that join them, with the left side's column first; and
-    the other conditions that are tested then."""
+    """Two factors and the factor that their join makes. `equalities` join them; each has the left side's column first.
+    `others` are the other conditions that can then be tested.
+    """
 
     left: Factor
     right: Factor
@@ -38,9 +41,10 @@ class Join(NamedTuple):
     others: tuple[Conjunct, ...]
 
     @property
-    def few(self) -> bool:
+    def has_few_pairs(self) -> bool:
         """Whether equalities compare all open columns of one side. Then each group of the other side meets at most one
-        group, so no more pairs meet than the other side has groups."""
+        group, so the pairs are at most as many as the other side's groups.
+        """
         joined = [{pair[side] for pair in self.equalities} for side in (0, 1)]
         return joined[0].issuperset(self.left.open) or joined[1].issuperset(self.right.open)
 
@@ -49,7 +53,7 @@ Pair = Tuple[Factor, Factor]
 
 
 def joins(entries: Sequence[int], conjuncts: Iterable[Conjunct]) -> list[Join]:
-    """The joins that lead from factors of single entries to the factor of all, which has no open column."""
+    """The joins that lead from factors of single entries to the factor of all entries, which has no open column."""
     left = [conjunct for conjunct in conjuncts if conjunct.entries <= frozenset(entries)]
     factors = [_factor(frozenset([entry]), left) for entry in entries]
     found: list[Join] = []
@@ -62,7 +66,7 @@ def joins(entries: Sequence[int], conjuncts: Iterable[Conjunct]) -> list[Join]:
 
 
 def _factor(entries: frozenset[int], left: list[Conjunct]) -> Factor:
-    """The factor of these entries, once all conditions on these entries alone are tested."""
+    """The factor of these entries, after all conditions on these entries alone are tested."""
     named = {
         named
         for conjunct in left
@@ -74,14 +78,16 @@ def _factor(entries: frozenset[int], left: list[Conjunct]) -> Factor:
 
 
 def _next(factors: list[Factor], left: list[Conjunct]) -> Join:
-    """Joins two factors. It wants two of which one has conditions with the other alone, best if their join is `few`. If
-    there are none, it takes two that an equality connects, or else two that any condition connects."""
+    """Joins two factors. It prefers a pair in which one factor has no conditions with any third factor, and among these
+    a pair whose join `has_few_pairs`. Without such a pair it takes two factors that an equality connects, or else two
+    that any condition connects.
+    """
 
     def ends_in(pair: Pair) -> bool:
         return all(c.entries <= pair[0].entries | pair[1].entries for c in left if c.entries & pair[0].entries)
 
     def folds(pair: Pair) -> bool:
-        return ends_in(pair) and _join(*pair, left).few
+        return ends_in(pair) and _join(*pair, left).has_few_pairs
 
     def equal(pair: Pair) -> bool:
         return bool(_join(*pair, left).equalities)

@@ -1,10 +1,10 @@
-"""What ends a command: one line for the user, and an exit status."""
+"""Faults that end a command, each with one line for the user and an exit status."""
 
 from __future__ import annotations
 
 
 class Fault(Exception):
-    """What all faults have in common: the exit status, and a word that says whose fault it is."""
+    """The base class of all faults: the exit status, and a word for the kind of fault."""
 
     status = 1
     word = "error"
@@ -20,25 +20,25 @@ class Usage(Fault):
 
 
 class Unreadable(Fault):
-    """A file that was named can't be read or written."""
+    """A file named by the user can't be read or written."""
 
     status, word = 3, "file"
 
 
 class Refused(Fault):
-    """The query has a part that isn't bounded here. The message names the part and its place."""
+    """The query has a part that this program doesn't bound. The message names the part and its place."""
 
     status, word = 5, "refused"
 
 
 class WrongCounts(Fault):
-    """The counts of a file aren't an answer to the counting statement."""
+    """The counts in a file aren't a result of the counting statement."""
 
     status, word = 6, "counts"
 
 
 class PastBudget(Fault):
-    """The best plan passes the budget."""
+    """The best plan exceeds the budget."""
 
     status, word = 8, "budget"
 
@@ -59,18 +59,18 @@ class NoBound(Fault):
 
 
 class EngineFault(Fault):
-    """The engine said no: it can't be reached, it doesn't take a statement, or time has run out."""
+    """The engine failed: it can't be reached, it refuses a statement, or time ran out."""
 
     status, word = 12, "engine"
 
     def __init__(self, message: str, of_data: bool = False) -> None:
-        """`of_data` says that a value of some row was to blame, as in a division by zero."""
+        """`of_data` says that a value in some row is the cause, as in a division by zero."""
         super().__init__(message)
         self.of_data = of_data
 
 
 class AboveBound(Fault):
-    """A level has more rows than its bound: something that bounds rest on doesn't hold."""
+    """A level has more rows than its bound. An assumption of the bounds is then wrong."""
 
     status, word = 17, "audit"
 
@@ -83,6 +83,6 @@ class AboveBound(Fault):
 
 
 class Missing(Fault):
-    """Something that this program stands on isn't installed."""
+    """Something that this program needs isn't installed."""
 
     status, word = 13, "missing"

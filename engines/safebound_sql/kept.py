@@ -1,7 +1,7 @@
-"""Counts that last: how often values repeat in whole tables, kept in a file for later plans.
+"""Kept counts: how often values repeat in whole tables, stored in a file for later plans.
 
-Counts belong to a table by its identity in the engine, and to a column by its name and type. So another table of the
-same name doesn't get them. Kept counts say nothing of rows that came later: whoever uses them compares the number of
+Counts belong to a table by its identity in the engine, and to a column by its name and type, so another table of the
+same name doesn't get them. Kept counts say nothing about rows that came later, so their users compare the number of
 rows.
 """
 
@@ -31,7 +31,7 @@ Runs = List[Tuple[int, int]]
 
 @dataclass
 class KeptTable:
-    """How many rows a table had when it was counted, and for each counted column its type and its degree list."""
+    """A table's number of rows when it was counted, and for each counted column its type and its degree list."""
 
     name: str
     time: str
@@ -43,13 +43,13 @@ class KeptTable:
         return self.types.get(column.name) == type_of(column)
 
     def answer(self, entry: str, columns: Iterable[Column]) -> list[Row]:
-        """These columns' part of an answer to a counting statement."""
+        """The rows that a counting statement would return for these columns."""
         lines: list[Row] = [(entry, column.name, *run) for column in columns for run in self.runs[column.name]]
         return lines + [(entry, column.name, 0, 1) for column in columns if _sum(self.runs[column.name]) < self.rows]
 
 
 def type_of(column: Column) -> str:
-    """What decides how the column's values are compared."""
+    """The type and kind of a column. They decide how its values are compared."""
     return f"{column.type}, {column.kind}"
 
 
@@ -62,7 +62,7 @@ def now() -> str:
 
 
 class Kept:
-    """The tables of a file of kept counts; none if the file doesn't exist yet."""
+    """The tables of a file of kept counts. A file that doesn't exist has no tables."""
 
     def __init__(self, file: str, has_to_be_there: bool = True) -> None:
         self.file = file
@@ -84,7 +84,7 @@ class Kept:
             raise WrongCounts(f"{self.file} isn't a file of kept counts") from None
 
     def save(self) -> None:
-        """Writes the file anew: the old one is there until the new one is whole."""
+        """Replaces the file. The old file is there until the new one is complete."""
         tables = ",\n".join(
             f"{json.dumps(identity)}: {json.dumps(vars(table))}" for identity, table in self.tables.items()
         )
@@ -96,8 +96,9 @@ class Kept:
             raise Unreadable(f"{self.file}: {error}") from None
 
     def taken(self, query: Query) -> dict[int, KeptTable]:
-        """The kept counts of each entry that needs no counting: one without conditions, all of whose joined columns are
-        kept."""
+        """The kept counts of each entry that needs no counting: it has no own condition, and all its joined columns are
+        kept.
+        """
         found = {}
         for entry in query.entries:
             table = self.tables.get(entry.about.identity or "")
@@ -106,8 +107,9 @@ class Kept:
         return found
 
     def keep(self, query: Query, engine: Engine) -> list[KeptTable]:
-        """Counts all rows of the query's tables, without its conditions: the joined columns, and those that were kept
-        before."""
+        """Counts all rows of the query's tables, without conditions. It counts the joined columns, and those that were
+        kept before.
+        """
         entries: dict[str, Entry] = {}
         columns: dict[str, list[Column]] = {}
         for entry in query.entries:
@@ -132,13 +134,14 @@ class Kept:
         return [self.tables[identity] for identity in entries]
 
     def _forget(self, identity: str) -> None:
-        """Forgets the table, and earlier tables of the same name."""
+        """Removes the table, and earlier tables of the same name."""
         place = identity.rpartition("#")[0]
         self.tables = {other: table for other, table in self.tables.items() if other.rpartition("#")[0] != place}
 
     def append(self, table: str, condition: str, engine: Engine) -> tuple[KeptTable, int]:
-        """Adds to a table's kept counts the rows that came later, of which alone the condition is true. Answers the
-        table, and how many rows came."""
+        """Adds later rows to a table's kept counts. The condition must be true for exactly these rows. Returns the
+        table, and the number of added rows.
+        """
         query = Meaning(f"SELECT 1 FROM {table} WHERE {condition}", engine).query
         if len(query.entries) != 1 or str(query.above):
             raise WrongCounts("one table is needed, and a condition for its rows")
@@ -168,7 +171,7 @@ def _renamed(entry: Entry, name: str) -> Entry:
 
 
 def _appended(old: Runs, new: Runs) -> Runs:
-    """The library's rank-wise sum: it dominates the list of all rows, whichever values old and new rows share."""
+    """The library's rank-wise sum. It dominates the list of all rows, even if old and new rows share values."""
     if not (old and new):
         return old or new
     with library_faults():
@@ -176,7 +179,7 @@ def _appended(old: Runs, new: Runs) -> Runs:
 
 
 def _table(about: Dict[str, Any]) -> KeptTable:
-    """A table of a file, once it is checked."""
+    """A table of a file, after it is checked."""
     runs = {column: [(int(degree), int(keys)) for degree, keys in found] for column, found in about["runs"].items()}
     table = KeptTable(str(about["name"]), str(about["time"]), int(about["rows"]), dict(about["types"]), runs)
     if set(table.types) != set(runs) or any(_wrong(found, table.rows) for found in runs.values()):

@@ -1,8 +1,8 @@
-"""Words of SQL that are known without asking an engine."""
+"""Words of SQL whose meaning is known without asking an engine."""
 
 from __future__ import annotations
 
-# What asks for the time or the user; two statements of one script may get two answers.
+# Words that give the time or the user. Two statements of one script may get different values.
 TIMES = (
     "CURRENT_DATE", "CURRENT_TIME", "CURRENT_TIMESTAMP", "CURRENT_DATETIME", "LOCALTIME", "LOCALTIMESTAMP",
     "CURRENT_USER", "CURRENT_ROLE", "CURRENT_CATALOG", "CURRENT_SCHEMA", "CURRENT_TIMEZONE", "SESSION_USER", "SYSDATE",
@@ -37,7 +37,7 @@ _AGGREGATES = (
     " lead first_value last_value percent_rank cume_dist"
 )
 
-# What may stand before a parenthesis and answers alike at each call, in each of the dialects that have it.
+# Words before a parenthesis whose result is the same at each call, in each dialect that has them.
 CALLED = frozenset(
     " ".join((_TYPES, _FRAME, _NUMBERS, _CHOICES, _TEXTS, _TIMES, _AGGREGATES)).split()
     + [word.lower() for word in PLAIN]

@@ -1,4 +1,4 @@
-"""The plan: counts go to the proved library, and levels come back."""
+"""Makes the plan: hands counts to the proved library, and returns its levels."""
 
 from __future__ import annotations
 
@@ -7,16 +7,16 @@ from dataclasses import dataclass, field
 from typing import Dict, Iterator, Tuple, Union
 
 import safebound
+from safebound.limits import MOST_BUDGET as MOST_BUDGET
 
 from .counting import Counts
 from .faults import Missing, NoBound, PastBudget, WrongCounts
 from .query import Named, Query, Text
 
-MOST_BUDGET = 2**59
-
 Shape = Union[int, "tuple[Shape, Shape]"]
 
-# An entry's name and a column's, two of them that are equal, and the columns' lists, as the library takes them.
+# Side: the names of an entry and its column, as the library takes them. Equal: two equal columns. Lists: the columns'
+# lists.
 Side = Tuple[str, str]
 Equal = Tuple[Side, Side]
 Lists = Dict[Side, safebound.Runs]
@@ -24,9 +24,10 @@ Lists = Dict[Side, safebound.Runs]
 
 @dataclass
 class Level:
-    """A part of the plan: the entries that are joined in it, its bound, and what the engine expects, where it says.
+    """A level of the plan: the entries that are joined in it, its bound, and the rows that the engine expects, if it
+    says so.
 
-    `counted` says by which conditions the bound was counted, if it was.
+    `counted` says which conditions the bound was counted by, if it was counted.
     """
 
     shape: Shape
@@ -42,10 +43,10 @@ class Level:
 
 @dataclass
 class Plan:
-    """A plan: the shape of its joins, and its levels from the first to that of all entries.
+    """A plan: the shape of its joins, and its levels, of which the last one has all entries.
 
-    `kept` has the entries whose counts are kept ones, with their time. `changed` has those whose kept counts weren't
-    used, with the number of rows then and now. `tested` are conditions that only counted bounds take into account, and
+    `kept` has the entries whose counts are kept ones, with their time. `changed` has the entries whose kept counts
+    weren't used, with the number of rows then and now. `tested` has conditions that only counted bounds use, and
     `notes` says what isn't counted.
     """
 
@@ -61,7 +62,7 @@ class Plan:
 
     @property
     def unused(self) -> list[tuple[Text, str]]:
-        """The conditions on several entries that no bound takes into account, and why."""
+        """The conditions on several entries that no bound uses, and why."""
         return [(text, why) for text, why in self.query.no_edges if text not in self.tested]
 
     @property
@@ -90,11 +91,11 @@ def library_faults(budget: int = MOST_BUDGET) -> Iterator[None]:
 
 
 def planned(query: Query, counts: Counts, accuracy: int, budget: int, tree: bool) -> Plan:
-    """The best plan over the counts.
+    """The best plan for the counts.
 
     Raises:
-        PastBudget: the best one has a part above the budget.
-        NoBound: each one has a part without a bound.
+        PastBudget: the best plan has a level above the budget.
+        NoBound: each plan has a level without a bound.
     """
     with library_faults(budget):
         known = safebound.Query(
@@ -135,7 +136,7 @@ def _levels(query: Query, order: safebound.Order) -> list[Level]:
 
 
 def _levels_of_tree(query: Query, tree: safebound.Tree, counts: Counts) -> list[Level]:
-    """A level for each join of the tree; of a single entry one level, with its rows."""
+    """A level for each join of the tree. For a single entry, one level with its rows."""
     if not tree.joins:
         return [Level(0, counts.rows[query.entries[0].name])]
     nodes: list[Shape] = [entry.number for entry in query.entries]

@@ -1,4 +1,4 @@
-"""From a text of SQL to the `Query` that it means."""
+"""Turns the text of a query into the `Query` that it means."""
 
 from __future__ import annotations
 
@@ -17,7 +17,7 @@ UNGROUPED = ("json", "xml", "point", "line", "lseg", "box", "path", "polygon", "
 
 
 def refuse_volatile(statement: Statement, pieces: Tokens, engine: Engine) -> None:
-    """Refuses what may answer anew at each call: functions, operators, and views that use them."""
+    """Refuses functions, operators and views whose result may change from call to call."""
     asked = _calls(pieces, engine)
     for name, why in engine.catalog.volatile(set(asked)).items():
         raise statement.refuse(asked[name], why)
@@ -30,8 +30,9 @@ def refuse_volatile(statement: Statement, pieces: Tokens, engine: Engine) -> Non
 
 
 def _calls(pieces: Tokens, engine: Engine) -> dict[str, Token]:
-    """The functions and operators, as the engine looks them up. A name that is written with a schema gets a dot before
-    it. A column of a row that may be a function instead gets two dots."""
+    """The functions and operators in the tokens, by the names under which the engine finds them. A name written with a
+    schema gets a dot before it. A column of a row that may be a function instead gets two dots.
+    """
     found: dict[str, Token] = {}
     for at, token in enumerate(pieces):
         dot = "." if at and pieces[at - 1].says(".") else ""
@@ -44,7 +45,7 @@ def _calls(pieces: Tokens, engine: Engine) -> dict[str, Token]:
 
 
 def _tables(pieces: Tokens) -> dict[str, Token]:
-    """What may be the name of a table or view: names, with a schema before them or not."""
+    """The tokens that may name a table or view: names with or without a schema."""
     found: dict[str, Token] = {}
     for at, token in enumerate(pieces):
         if not token.names:
@@ -57,8 +58,9 @@ def _tables(pieces: Tokens) -> dict[str, Token]:
 
 
 def _volatile_views(names: set[str], engine: Engine) -> Iterator[tuple[str, str]]:
-    """The names of tables and views that use something volatile, in their own text or in that of a view which they
-    name; and what it is."""
+    """Pairs of a table or view and something volatile that it uses, in its own text or in that of a view which it
+    names.
+    """
     above = {name: name for name in names}
     todo = set(names)
     while todo:
@@ -117,8 +119,9 @@ class Meaning:
         self._look_for_now(pieces)
 
     def _look_for_now(self, pieces: Tokens) -> None:
-        """Refuses a date function of a column in which 'now' stands, or of what isn't known to be a column of the
-        query."""
+        """Refuses a date function whose argument is a column with the value 'now', or isn't known to be a column of the
+        query.
+        """
         statement = self.statement
         for piece in (*statement.outputs, *statement.conditions, statement.distinct, statement.above):
             for start, end in subqueries(piece):
@@ -130,7 +133,7 @@ class Meaning:
                     raise statement.refuse(token, self.dialect.why_clock)
 
     def _names_of_outputs(self, text: str) -> set[str]:
-        """The names that SQLite may take for an output within a condition."""
+        """The names of outputs that SQLite may find within a condition."""
         if not self.dialect.outputs_in_conditions:
             return set()
         told = self.catalog.output_names(text)
@@ -139,8 +142,9 @@ class Meaning:
         return {self.dialect.key_of(alias) for output in self.statement.outputs if (alias := alias_of(output))}
 
     def _with_columns_of_keys(self, above: Tokens) -> Tokens:
-        """If GROUP BY has a primary key, adds the other columns of its table that are named. PostgreSQL allows them
-        beside the key of a table, but a part of WITH has no key."""
+        """If GROUP BY names a primary key, adds the other columns of its table that are named. PostgreSQL allows these
+        columns beside a table's key, but a part of WITH has no key.
+        """
         groups = _groups(above)
         if groups is None or not any(entry.about.key for entry in self.query.entries):
             return above
@@ -166,7 +170,7 @@ class Meaning:
         return above[: groups.stop] + more + above[groups.stop :]
 
     def _grouped(self, piece: Tokens, outputs: dict[str, Tokens]) -> Named | None:
-        """The column that a part of GROUP BY is: by its name, by an output's name or by its number."""
+        """The column that an item of GROUP BY means: by its name, by an output's name, or by its number."""
         named = self.names.side(piece)
         if named or len(piece) != 1:
             return named
@@ -184,8 +188,9 @@ class Meaning:
         return self.names.side(output[:end])
 
     def _keep_using(self) -> None:
-        """Sees to it that a name that USING merged still means the merged column above the join: by FROM as it was
-        written, or by other names for the columns that were merged into it."""
+        """Keeps the meaning of names that USING merged, for the clauses above the join. It keeps FROM as written, or
+        renames the columns that were merged.
+        """
         names, query = self.names, self.query
         if not names.usings:
             return
@@ -241,14 +246,14 @@ class Meaning:
         return list(columns)
 
     def _above(self, piece: Tokens) -> str:
-        """What stands above the join, as it was written."""
+        """The text of a clause above the join, such as GROUP BY, as written."""
         self.names.check_subqueries(piece)
         self.query.named_above |= self.names.named(piece)
         return written(piece)
 
 
 def _groups(above: Tokens) -> range | None:
-    """The places of the tokens between GROUP BY and what follows its list."""
+    """The places of the tokens in the list of GROUP BY."""
     if len(above) < 3 or not above[0].says("GROUP"):
         return None
     at = 2
@@ -260,7 +265,9 @@ def _groups(above: Tokens) -> range | None:
 
 
 def _frame(frame: list[Token | int | None]) -> Iterator[str | int]:
-    """FROM with the entries' numbers in their places. An ON has TRUE, since its condition is tested below."""
+    """FROM with the numbers of entries in their places. The condition of each ON is TRUE, since the conditions are
+    tested below.
+    """
     for part in frame:
         if isinstance(part, int):
             yield part

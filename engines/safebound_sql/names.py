@@ -1,20 +1,22 @@
-"""Which columns the parts of a query name.
+"""Finds the columns that the parts of a query name.
 
-The tokens of a part say which columns it may name. It may name fewer: a word that isn't clearly something else is taken
-for every column that it could be.
+The result may have more columns than the part really names: a word that isn't clearly something else is taken for every
+    column that it could be.
 """
 
 from __future__ import annotations
 
 from typing import Iterator, NamedTuple
 
+from safebound.limits import MOST_ENTRIES
+
 from .choosing import choosing
 from .engine import Engine
-from .query import MOST_ENTRIES, Entry, Named, Reference, Table, Text
+from .query import Entry, Named, Reference, Table, Text
 from .reading import Source, Statement, Tokens
 from .tokens import Token, closing, gap_between, part_of_name, unquoted, written
 
-# An output's last word isn't its alias if one of these words is before it, or if it is one of ENDS_OF_OUTPUTS.
+# The last word of an output isn't its alias if one of these words comes before it, or if it is one of ENDS_OF_OUTPUTS.
 NO_OPERAND = (
     "IS", "NOT", "AND", "OR", "LIKE", "ILIKE", "IN", "BETWEEN", "THEN", "ELSE", "WHEN", "CASE", "DISTINCT", "FROM",
     "ESCAPE", "COLLATE", "GLOB", "REGEXP", "MATCH", "SIMILAR", "TO", "ZONE", "OVER", "SYMMETRIC",
@@ -23,7 +25,7 @@ ENDS_OF_OUTPUTS = ("NULL", "END", "ISNULL", "NOTNULL")
 
 
 class Place(NamedTuple):
-    """Where tokens may name a column: from which token, how many, and which columns it may be."""
+    """Tokens that may name a column: the first token, the number of tokens, and the columns that they may name."""
 
     at: int
     size: int
@@ -31,7 +33,7 @@ class Place(NamedTuple):
 
 
 def subqueries(piece: Tokens) -> Iterator[tuple[int, int]]:
-    """Where subqueries begin and end in the tokens, with their parentheses. Those within others aren't listed."""
+    """The first and last tokens of subqueries, with their parentheses. Subqueries within other ones aren't listed."""
     at = 0
     while at < len(piece):
         if piece[at].says("(") and at + 1 < len(piece) and piece[at + 1].says("SELECT", "WITH", "VALUES"):
@@ -42,7 +44,7 @@ def subqueries(piece: Tokens) -> Iterator[tuple[int, int]]:
 
 
 def alias_of(output: Tokens) -> Token | None:
-    """The name that an output is given, or None."""
+    """The alias of an output, or None."""
     if len(output) < 2 or not (output[-1].names or output[-1].kind == "text"):
         return None
     before, last = output[-2], output[-1]
@@ -97,8 +99,9 @@ class Names:
         return self.catalog.table(source.table)
 
     def _without_schemas(self, piece: Tokens) -> Tokens:
-        """The tokens with schema.entry.column as entry.column: in the planned SQL the entry may be a part of WITH,
-        which is in no schema."""
+        """The tokens with entry.column in place of schema.entry.column. In the planned SQL the entry may be a part of
+        WITH, which has no schema.
+        """
         inside, kept, at = self._inside(piece), [], 0
         while at < len(piece):
             end = at
@@ -121,7 +124,7 @@ class Names:
         return {at for start, end in subqueries(piece) for at in range(start, end)}
 
     def _merge(self) -> list[Named]:
-        """Writes USING out as equalities. Answers the columns that a star stands for."""
+        """Replaces USING by equalities. Returns the columns that a star means."""
         columns: list[Named] = []
         for entry in self.entries:
             own = [Named(entry.number, column) for column in entry.about.columns]
@@ -141,7 +144,7 @@ class Names:
         return columns
 
     def _merged(self, token: Token, left: range, right: int) -> Named:
-        """One name of USING: an equality of the only column of that name on the left with the one on the right."""
+        """One name of USING, as an equality: the only column of that name on the left, and the column on the right."""
         key = self.dialect.key_of(token)
         sides = [
             [named for number in numbers if (named := self._at(number, key)) and named not in self.merged_away]
@@ -161,12 +164,12 @@ class Names:
         return kept
 
     def _at(self, number: int, key: str) -> Named | None:
-        """The column of this key of an entry."""
+        """The entry's column with this key."""
         column = self.entries[number].about.by_key.get(key)
         return Named(number, column) if column else None
 
     def star(self, piece: Tokens) -> list[Named] | None:
-        """The columns of an output that is a star, of all entries or of one; None where it is no star."""
+        """The columns of a star, for all entries or for one. None if the output isn't a star."""
         if len(piece) == 1 and piece[0].says("*"):
             if self.usings and not self.dialect.star_over_using:
                 raise self.statement.refuse(
@@ -204,8 +207,9 @@ class Names:
                     yield Place(at, 1, found)
 
     def _place_inside(self, piece: Tokens, at: int) -> Iterator[Place]:
-        """What a token of a subquery may name of this query. It may also name a column of the subquery's own
-        entries."""
+        """What a token of a subquery may name of the query around it. It may also name a column of the subquery's own
+        entries.
+        """
         token, behind = piece[at], piece[at + 1 : at + 3]
         if len(behind) == 2 and behind[0].says("."):
             number = self.by_alias.get(self.dialect.key_of(token)) if token.names else None
@@ -219,7 +223,7 @@ class Names:
             yield Place(at, 1, self._columns_called(token))
 
     def _is_a_word(self, piece: Tokens, at: int) -> bool:
-        """Whether the word is clearly no column: a function, a type before a text, a part of a date."""
+        """Whether the word clearly isn't a column: it is a function, a type before a text, or a field of a date."""
         token, behind, before = piece[at], piece[at + 1 : at + 2], piece[max(at - 2, 0) : at]
         if behind and behind[0].says("("):
             return True
@@ -245,7 +249,7 @@ class Names:
         return named
 
     def _columns_called(self, token: Token) -> frozenset[Named]:
-        """The columns that a name without a table may be: the one that USING merged, or one of each entry."""
+        """The columns that a name without a table may mean: the column that USING merged, or a column of each entry."""
         key = self.dialect.key_of(token)
         if key in self.merged:
             return frozenset([self.merged[key]])
@@ -259,14 +263,14 @@ class Names:
         return found
 
     def side(self, piece: Tokens) -> Named | None:
-        """The column, if the tokens are the name of one, perhaps in parentheses."""
+        """The column that the tokens name, perhaps in parentheses. None if they aren't a single name."""
         while len(piece) > 2 and piece[0].says("(") and piece[-1].says(")"):
             piece = piece[1:-1]
         place = next(self.places(piece), None) if len(piece) in (1, 3) else None
         return min(place.columns) if place and place.size == len(piece) and len(place.columns) == 1 else None
 
     def equated(self, piece: Tokens) -> tuple[Named, Named] | None:
-        """The two columns, if the condition is an equality of columns of two entries and nothing else."""
+        """The two columns, if the condition is an equality between columns of two entries. Otherwise None."""
         for at, token in enumerate(piece):
             if token.kind == "operator" and token.text in self.dialect.equals:
                 one, other = self.side(piece[:at]), self.side(piece[at + 1 :])
@@ -275,8 +279,8 @@ class Names:
         return None
 
     def spelled(self, piece: Tokens) -> Text:
-        """The tokens as a text that knows where it names columns. A column that USING merged is named with its
-        entry."""
+        """The tokens as a text that knows where it names columns. A column that USING merged is written with its entry.
+        """
         places = {place.at: place for place in self.places(piece) if len(place.columns) == 1}
         parts: list[str | Reference] = []
         at = 0
@@ -304,14 +308,14 @@ class Names:
         return set(map(self.dialect.key_of, bare)) & set(self.merged)
 
     def with_tables(self, pieces: list[Tokens]) -> Iterator[tuple[Token, Named]]:
-        """The columns that the tokens name with their entry, and where."""
+        """The columns that the tokens name with their entry, each with its token."""
         for piece in pieces:
             for place in self.places(piece):
                 if place.size == 3:
                     yield piece[place.at], min(place.columns)
 
     def check_outputs_names(self, piece: Tokens, outputs: set[str]) -> None:
-        """Refuses a condition that has an output's name. SQLite would take the name for the output."""
+        """Refuses a condition that uses an output's name. SQLite would take the name for the output."""
         inside = self._inside(piece)
         for at, token in enumerate(piece):
             bare = token.names and at not in inside and not part_of_name(piece, at)

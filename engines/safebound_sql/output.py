@@ -11,7 +11,7 @@ from .query import Named, Query
 
 
 def table(plan: Plan, title: str, true_rows: list[int] | None = None) -> str:
-    """The plan as lines: one for each level, and below the levels what else is worth knowing."""
+    """The plan as text: one line for each level, and notes below the levels."""
     heads = ["level", "joined", "of", "scan", "bound", f"{title} expects", "factor"]
     rows = [_row(plan, number, level) for number, level in enumerate(plan.levels, 1)]
     if all(level.expected is None for level in plan.levels):
@@ -35,7 +35,7 @@ def table(plan: Plan, title: str, true_rows: list[int] | None = None) -> str:
 
 
 def blocks_table(plans: Iterable[BlockPlan], unbounded: list[str], notes: list[str]) -> str:
-    """The plans of all blocks, and what isn't bounded."""
+    """The plans of all blocks as text, and the parts that aren't bounded."""
     lines: list[str] = []
     cost = 0
     for plan in plans:
@@ -60,7 +60,7 @@ def blocks_table(plans: Iterable[BlockPlan], unbounded: list[str], notes: list[s
 def blocks_document(
     plans: Iterable[BlockPlan], unbounded: list[str], notes: list[str], settings: tuple[str, ...], sql: str
 ) -> str:
-    """The same as JSON."""
+    """The plans of all blocks as JSON, and the parts that aren't bounded."""
     told = {
         "blocks": [
             {
@@ -105,7 +105,7 @@ def _row(plan: Plan, number: int, level: Level) -> list[str]:
 
 
 def _joined(plan: Plan, shape: Shape) -> list[str]:
-    """What a level joins: the entry that is new, its table and its scan; or both sides of a tree's join."""
+    """What a level joins: the new entry with its table and its scan, or both sides of a tree's join."""
     if isinstance(shape, int):
         return _scan(plan, shape)
     last = shape[1]
@@ -126,7 +126,7 @@ def _times(factor: float) -> str:
 
 
 def _aligned(rows: list[list[str]]) -> list[str]:
-    """Columns side by side: words to the left, numbers to the right."""
+    """Lines with aligned columns: words to the left, numbers to the right."""
     widths = [max(map(len, column)) for column in zip(*rows)]
     sides = [str.ljust if at in (1, 2) else str.rjust for at in range(len(widths))]
     return ["  ".join(side(cell, width) for side, cell, width in zip(sides, row, widths)).rstrip() for row in rows]

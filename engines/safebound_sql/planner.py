@@ -1,4 +1,4 @@
-"""One query in one snapshot of an engine, from its text to its rows."""
+"""Plans and runs one query in one snapshot of an engine."""
 
 from __future__ import annotations
 
@@ -21,7 +21,7 @@ from .writing import Writer
 
 
 def scans(statement: str, prefix: str) -> Counter[str]:
-    """How often the statement reads each table, if the engine computes a part again wherever it is named."""
+    """How often the statement reads each table, in an engine that computes a part again wherever it is named."""
     read: dict[str, Counter[str]] = {}
     last: Counter[str] = Counter()
     for name, text in re.findall(
@@ -39,7 +39,7 @@ def scans(statement: str, prefix: str) -> Counter[str]:
 
 @contextlib.contextmanager
 def _explained(why: str) -> Iterator[None]:
-    """If a value of some row is to blame for a fault, adds `why` to its message."""
+    """Adds `why` to the message of a fault that a value in some row caused."""
     try:
         yield
     except EngineFault as fault:
@@ -47,7 +47,7 @@ def _explained(why: str) -> Iterator[None]:
 
 
 class Planner:
-    """What the commands do, one step each. All statements run in the engine's one transaction."""
+    """The steps of the commands. All statements run in the engine's only transaction."""
 
     def __init__(self, engine: Engine, text: str, reduce: bool = True, progress: Progress | None = None) -> None:
         self.engine, self.reduce = engine, reduce
@@ -61,7 +61,9 @@ class Planner:
         self.writer = Writer(self.query, engine.dialect, self.prefix, self.reduce)
 
     def _why_not_reduced(self) -> str | None:
-        """Why semi-joins are left out, or None: an engine that doesn't keep parts would read a table too often."""
+        """Why semi-joins are left out, or None if they aren't. An engine that doesn't keep parts would read a table too
+        often.
+        """
         dialect = self.engine.dialect
         if not self.reduce or dialect.most_scans is None:
             return None
@@ -84,7 +86,7 @@ class Planner:
         return self.planned(counts, accuracy, budget, tree)
 
     def plan_by_counting(self, accuracy: int, budget: int, tree: bool) -> Plan:
-        """Counts and plans, and lowers the bounds of the plan's levels to what is counted of them."""
+        """Counts and plans, then lowers the bounds of the plan's levels to counted numbers."""
         plan = self.plan(accuracy, MOST_BUDGET, tree)
         with self.progress.doing(f"counting the choices of rows of {len(plan.levels)} levels"):
             Lowering(plan, self.engine, self.prefix, self.reduce).lower()
@@ -93,7 +95,7 @@ class Planner:
         return plan
 
     def plan_by_kept(self, accuracy: int, budget: int, tree: bool, kept: Kept) -> Plan:
-        """Plans by the kept counts of tables that had as many rows then as now, and counts the other entries."""
+        """Plans with the kept counts of tables whose number of rows hasn't changed. Counts the other entries."""
         taken = kept.taken(self.query)
         answer = self._counted(taken)
         rows = {entry: degree for entry, column, degree, _ in answer if column == ""}
@@ -123,7 +125,7 @@ class Planner:
         return planned(self.query, counts, accuracy, budget, tree)
 
     def check(self, plan: Plan) -> None:
-        """Has the engine look at the planned query before anybody is told that it is admitted."""
+        """Lets the engine check the planned query before the query is reported as admitted."""
         why = self.engine.catalog.complaint(self.sql(plan))
         if why:
             hint = (
@@ -134,7 +136,7 @@ class Planner:
             raise EngineFault(f"{why}. The query is taken as it is, but not in the planned order: {hint}")
 
     def expect(self, plan: Plan) -> None:
-        """Asks the engine what it expects of each level."""
+        """Asks the engine how many rows it expects in each level."""
         for level in plan.levels:
             level.expected = self.engine.catalog.expected(self.writer.plainly(level.shape))
 
@@ -147,7 +149,7 @@ class Planner:
         return self.writer.query_in_order(plan)
 
     def script(self, plan: Plan) -> str:
-        """The planned SQL, after the settings that make the engine keep the order."""
+        """The planned SQL, with the settings before it that make the engine keep the order."""
         return as_script(*self.settings, self.sql(plan))
 
     def true_rows(self, plan: Plan) -> list[int]:
@@ -158,7 +160,7 @@ class Planner:
         return [found[number] for number in range(1, len(plan.levels) + 1)]
 
     def run(self, plan: Plan, out: TextIO, null: str = "") -> None:
-        """Writes the rows. From the first one on nothing else is written."""
+        """Writes the rows. After the first row nothing else is written."""
         self.engine.connection.keep_order()
         told = "in the planned order, which may come to rows that the query itself never reaches"
         told += "; --no-reduce tests conditions later" if self.reduce else ""

@@ -1,5 +1,6 @@
-"""PostgreSQL, by psycopg 3: one read-only REPEATABLE READ transaction from the first look at the catalog to the last
-row."""
+"""PostgreSQL by psycopg 3. One read-only REPEATABLE READ transaction lasts from the first look at the catalog to the
+last row.
+"""
 
 from __future__ import annotations
 
@@ -23,9 +24,9 @@ try:
 except ImportError:
     psycopg = None  # type: ignore[assignment]
 
-# A column's kind is its base type and its collation: = compares columns of one kind as GROUP BY does. It has a kind if
-# the type is an enum, or PostgreSQL's own and can be sorted, and if no user has made an = for it. Columns that the user
-# may not read are left out, since no query with them could run.
+# A column's kind is its base type and its collation: = compares columns of one kind as GROUP BY does. A column has a
+# kind if its type is an enum, or a type of PostgreSQL's own that can be sorted, and if no user has defined an = for it.
+# Columns that the user may not read are left out, since no query with them could run.
 COLUMNS = """
 SELECT a.attname, format_type(a.atttypid, a.atttypmod),
        CASE WHEN ((t.typnamespace = 'pg_catalog'::regnamespace AND EXISTS (
@@ -45,9 +46,9 @@ WHERE a.attrelid = %s AND a.attnum > 0 AND NOT a.attisdropped AND has_column_pri
 ORDER BY a.attnum
 """
 
-# Volatile functions and operators among some names: visible ones by bare names, any by names with a schema, and
-# functions of a row, which may be written as columns. Some functions call themselves STABLE, but depend on the session
-# or on what goes on at the moment; these are found too.
+# Volatile functions and operators with these names: visible ones by bare names, any others by names with a schema, and
+# functions of a row, which may be written as columns. Some functions are marked STABLE but depend on the session or on
+# current activity; these are found too.
 VOLATILE = """
 WITH named AS (
     SELECT proname AS name, p.* FROM pg_proc p
@@ -65,7 +66,7 @@ FROM named WHERE provolatile = 'v'
     OR pronamespace <> 'pg_catalog'::regnamespace AND prosrc ~* 'current_setting|pg_settings|pg_show_all_settings'
 """
 
-# A row policy may hide rows of its table from a query, as the conditions of a view do.
+# A row policy may hide rows of its table from a query, as the conditions of a view may.
 VIEWS = """
 SELECT name, 'the view', pg_get_viewdef(oid) FROM unnest(%(names)s::text[]) AS name
     JOIN pg_class ON oid = to_regclass(name)
@@ -86,7 +87,7 @@ JOIN pg_foreign_data_wrapper w ON w.oid = srvfdw LEFT JOIN pg_proc h ON h.oid = 
 WHERE h.proname IS DISTINCT FROM 'postgres_fdw_handler'
 """
 
-# A schema whose functions and operators are found before PostgreSQL's own ones of the same names.
+# A schema whose functions and operators hide PostgreSQL's own ones of the same names.
 BEFORE_CATALOG = """
 WITH path AS (SELECT schema, at, quote_ident(schema)::regnamespace AS oid
     FROM unnest(current_schemas(true)) WITH ORDINALITY AS p(schema, at))
@@ -98,9 +99,9 @@ SELECT schema FROM path WHERE at < (SELECT at FROM path WHERE schema = 'pg_catal
 ORDER BY at
 """
 
-# The leaves of a partitioned table, at least one of which is a foreign table; or one foreign table. Nothing is answered
-# if the leaves could have other rows than the table: if the user may not read a leaf, or a row policy hides rows. The
-# column is the partition key, if PostgreSQL sends each leaf a whole GROUP BY of it.
+# The leaves of a partitioned table, if at least one of them is a foreign table; or a foreign table itself. The result
+# is empty if the leaves could have other rows than the table: the user may not read a leaf, or a row policy hides rows.
+# The column is the partition key, if PostgreSQL sends each leaf a complete GROUP BY of it.
 SPREAD = """
 WITH leaves AS (
     SELECT relid, level FROM pg_partition_tree(%(table)s) WHERE isleaf
@@ -121,7 +122,7 @@ JOIN pg_am m ON m.oid = opcmethod AND amname = 'btree'
 WHERE t.oid = ANY(%s::oid[]) AND typnamespace = 'pg_catalog'::regnamespace AND typcollation = 0 AND typtype = 'b'
 """
 
-# The planned query runs with a setting of its own, and is counted without it.
+# The planned query runs with a setting of its own, but the counting statement runs without it.
 WHY_SETTINGS = (
     "it tells the session's settings, which aren't the same while the query is counted and while it is joined"
 )
@@ -144,16 +145,16 @@ FROM pg_class c JOIN pg_namespace n ON n.oid = relnamespace WHERE c.oid = to_reg
 """
 
 
-# PostgreSQL expects ten values of an array that is sent along. So it expects few rows, and would join them by nested
-# loops. With enable_nestloop off it still uses them if there is no other way, at so high a cost that it would compile
-# the statement.
+# PostgreSQL expects ten values in an array that is a parameter. So it expects few rows, and would join them by nested
+# loops. With enable_nestloop off it still uses nested loops if there is no other way. Their cost is then so high that
+# it would compile the statement.
 NO_NESTED_LOOPS, NO_COMPILING = "enable_nestloop = off", "jit = off"
 FOR_SEVERAL_SERVERS = (NO_NESTED_LOOPS, NO_COMPILING)
 IN_ORDER = ("join_collapse_limit = 1",)
 
-# Equal values of these types are the same to every function: "char", bigint, boolean, bytea, date, integer, name, oid,
+# Functions can't distinguish equal values of these types: "char", bigint, boolean, bytea, date, integer, name, oid,
 # smallint, text, time and timestamp with and without a zone, uuid, varchar. Equal values of numeric may differ: 1.0 and
-# 1.00 are two texts. With a declared scale they don't, and nor do values of CHAR with a declared length.
+# 1.00 have different texts. They don't differ if the scale is declared, and values of CHAR don't if the length is.
 SAME_WHEN_EQUAL = (18, 20, 16, 17, 1082, 23, 19, 26, 21, 25, 1083, 1266, 1114, 1184, 2950, 1043)
 
 
@@ -164,13 +165,15 @@ class PostgresDialect(Dialect):
         return self.settings + tuple(f"SET {setting}" for setting in more)
 
     def reads_clock(self, pieces: list[Token], at: int, below: bool = False) -> bool:
-        """now() is one time for the whole transaction. statement_timestamp() isn't, though it calls itself STABLE
-        too."""
+        """now() has one value in the whole transaction. statement_timestamp() is marked STABLE too, but changes from
+        statement to statement.
+        """
         return pieces[at].names and self.key_of(pieces[at]) == "statement_timestamp"
 
     def remote_in(self, value: str, column: Column, rows: str) -> str:
-        """Values of VARCHAR are cast to TEXT one by one: they are compared as TEXT, and postgres_fdw doesn't send a
-        cast of the whole array."""
+        """Casts values of VARCHAR to TEXT one by one. They are compared as TEXT, and postgres_fdw doesn't send a cast
+        of the whole array.
+        """
         name = self.quote(column.name)
         values = f"CAST({name} AS TEXT)" if column.type.startswith("character varying") else name
         return f"{value} = ANY(ARRAY(SELECT {values} FROM {rows}))"
@@ -199,7 +202,7 @@ class PostgresConnection(Connection):
                 self.connection.execute(f"SET LOCAL statement_timeout = {timeout * 1000}")
 
     def value(self, sql: str) -> Any:
-        """The one value of an answer."""
+        """The only value of a result."""
         [[value]] = self.rows(sql)
         return value
 
@@ -208,7 +211,7 @@ class PostgresConnection(Connection):
             return self.connection.execute(sql, given).fetchall()
 
     def counted(self, sql: str, large: bool) -> list[Row]:
-        """Large parts are joined by hashing, even if PostgreSQL expects few rows of them. Nothing is compiled."""
+        """Large parts are joined by hashing, even if PostgreSQL expects few rows in them. Nothing is compiled."""
         with as_faults(), self.connection.transaction(force_rollback=True):
             self._set((NO_NESTED_LOOPS, NO_COMPILING) if large else (NO_COMPILING,))
             return self.connection.execute(sql).fetchall()
@@ -233,7 +236,7 @@ class PostgresConnection(Connection):
         self._set(IN_ORDER)
 
     def _set(self, settings: tuple[str, ...]) -> None:
-        """Makes settings that last until the transaction ends."""
+        """Makes settings that last until the end of the transaction."""
         with as_faults():
             self.connection.execute("; ".join(f"SET LOCAL {setting}" for setting in settings))
 
@@ -249,7 +252,7 @@ class PostgresCatalog(Catalog):
 
     @contextlib.contextmanager
     def _apart(self) -> Iterator[psycopg.Connection[Row]]:
-        """The connection within a savepoint, so that a statement that fails leaves the transaction as it was."""
+        """The connection within a savepoint, so that the transaction survives a statement that fails."""
         with as_faults(), self.connection.connection.transaction():
             yield self.connection.connection
 
@@ -266,8 +269,9 @@ class PostgresCatalog(Catalog):
         )
 
     def described(self, sql: str) -> list[Column]:
-        """The query is asked for its columns alone, and makes no row. The answer doesn't say which collation a text
-        has, so texts have no kind."""
+        """Asks only for the query's columns, with a query that returns no row. The answer doesn't include the
+        collations of texts, so texts have no kind.
+        """
         with self._apart() as connection:
             answer = connection.execute(f"SELECT q.* FROM (SELECT 1) AS one LEFT JOIN ({sql}\n) AS q ON false")
             columns = [(column.name, column.type_code) for column in answer.description or ()]
@@ -284,7 +288,7 @@ class PostgresCatalog(Catalog):
         return bool(self.connection.rows(asked, [called]))
 
     def merged_side(self, left: Column, right: Column) -> int | None:
-        """The column that isn't converted to the type of both is taken, the left one where neither is."""
+        """Takes the column that isn't converted to the common type, or the left column if neither is converted."""
         if left.type == right.type:
             return 0
         common, *own = self.connection.rows(COMMON.format(left.type, right.type))[0]
@@ -293,7 +297,7 @@ class PostgresCatalog(Catalog):
 
     @functools.cached_property
     def cluster(self) -> str:
-        """What tells this server's data from another's, where this user may ask."""
+        """An identifier of this server's data, if the user may ask for it."""
         may = "SELECT has_function_privilege('pg_control_system()', 'execute')"
         ask = "SELECT system_identifier::text FROM pg_control_system()"
         return str(self.connection.value(ask)) if self.connection.value(may) else "a server"
@@ -357,7 +361,7 @@ class PostgresCatalog(Catalog):
 
 @contextlib.contextmanager
 def as_faults() -> Iterator[None]:
-    """Turns what psycopg raises into a fault."""
+    """Turns exceptions of psycopg into faults."""
     try:
         yield
     except psycopg.Error as error:
@@ -370,7 +374,7 @@ def _collation(column: Column) -> int:
 
 
 def opened(url: str, timeout: int | None) -> Engine:
-    """Connects to a server. Refuses one that reads texts or names in another way than this package."""
+    """Connects to a server. Refuses a server that reads texts or names differently from this package."""
     connection = PostgresConnection(url, timeout)
     try:
         _refuse_other_readings(connection)

@@ -1,4 +1,4 @@
-"""Shows on a terminal what is being done, and for how long: one line on standard error."""
+"""Shows on a terminal what is being done, and for how long, on one line of standard error."""
 
 from __future__ import annotations
 
@@ -10,7 +10,7 @@ from typing import Callable, Iterator, TextIO
 
 
 class Progress:
-    """Writes the line while the work lasts. It writes nothing if the stream isn't a terminal."""
+    """Shows the line while the work lasts. If the stream isn't a terminal, it writes nothing."""
 
     def __init__(self, stream: TextIO | None = None) -> None:
         self.stream = sys.stderr if stream is None else stream
@@ -18,8 +18,9 @@ class Progress:
 
     @contextlib.contextmanager
     def doing(self, what: str) -> Iterator[Callable[[], None]]:
-        """Shows `what` and the seconds while the body of the `with` runs, then wipes the line. The body gets a function
-        that wipes it earlier."""
+        """Shows `what` and the seconds while the body of the `with` runs, then clears the line. The body gets a
+        function that clears it earlier.
+        """
         if not self.shown:
             yield lambda: None
             return

@@ -1,20 +1,20 @@
-"""What a query means for its bounds: entries, the equalities that join them, and what else is tested where."""
+"""The meaning of a query for its bounds: entries, the equalities that join them, and all other conditions."""
 
 from __future__ import annotations
 
 from dataclasses import dataclass, field
 from typing import Any, Callable, Hashable, NamedTuple, Tuple
 
-# What an engine answers.
-Row = Tuple[Any, ...]
+from safebound.limits import MOST_EQUALITIES
 
-MOST_ENTRIES = 12
-MOST_EQUALITIES = 256
+# A row of an engine's result.
+Row = Tuple[Any, ...]
 
 
 class Column(NamedTuple):
-    """A table's column. For columns of one `kind`, = compares values as GROUP BY does. It is None if that isn't
-    known."""
+    """A table's column. For columns of one `kind`, = compares values as GROUP BY does. The kind is None if that isn't
+    known.
+    """
 
     name: str
     type: str
@@ -22,19 +22,19 @@ class Column(NamedTuple):
 
 
 class Spread(NamedTuple):
-    """Where the rows of a table lie, if they are on other servers: its parts, as SQL names them. `by` is the column by
-    which the engine groups part by part, if there is one: each of its values is in one part alone."""
+    """The places of a table's rows on other servers: its parts, as SQL names them. `by` is a column by which the engine
+    groups each part alone, or None; each value of it is in one part only.
+    """
 
     parts: tuple[str, ...]
     by: str | None
 
 
 class Table(NamedTuple):
-    """A table or view: its columns in declared order, and by the key that the engine finds them by.
-
-    `columns` are those that a star stands for, `key` are those of the primary key. `identity`, if it is known, tells it
-    from all other tables: its database and name, then # and a number that changes when the table is made anew. `spread`
-    says where its rows are, if they lie on other servers.
+    """A table or view. `columns` are the columns that a star means, in declared order. `by_key` finds columns by the
+    key that the engine uses, and `key` are the columns of the primary key. `identity`, if it is known, distinguishes
+    the table from all others: its database and name, then # and a number that changes when the table is created again.
+    `spread` says where its rows are, if they are on other servers.
     """
 
     columns: tuple[Column, ...]
@@ -52,15 +52,15 @@ class Named(NamedTuple):
 
 
 class Reference(NamedTuple):
-    """A place of a text where a column is named, and how it is named there."""
+    """A place in a text that names a column, and the name as written."""
 
     named: Named
     text: str
 
 
 class Text(NamedTuple):
-    """A part of the query as it was written. It knows where it names columns, so that they can be named in another
-    way."""
+    """A part of the query as written. It knows where it names columns, so that the names can be replaced.
+    """
 
     parts: tuple[str | Reference, ...]
 
@@ -68,14 +68,15 @@ class Text(NamedTuple):
         return self.naming(lambda named: None)
 
     def naming(self, other: Callable[[Named], str | None]) -> str:
-        """The text with the columns named as the function says, and as they were where it says nothing."""
+        """The text, with each column named by the function. If the function returns None, the name is as written."""
         return "".join(part if isinstance(part, str) else other(part.named) or part.text for part in self.parts)
 
 
 @dataclass
 class Entry:
-    """An entry of FROM. `table` and `alias` are texts of SQL as the query has them. `name` is the alias as the engine
-    compares it with other names."""
+    """An entry of FROM. `table` and `alias` are SQL as the query has it. `name` is the alias in the form that the
+    engine compares.
+    """
 
     number: int
     name: str
@@ -86,7 +87,7 @@ class Entry:
 
 
 class Equality(NamedTuple):
-    """An equality of columns of two entries, which = compares as GROUP BY does: an edge of the join graph."""
+    """An equality of columns of two entries, and an edge of the join graph. Its = compares values as GROUP BY does."""
 
     left: Named
     right: Named
@@ -101,12 +102,13 @@ class Condition(NamedTuple):
 
 @dataclass
 class Query:
-    """A query. `conditions` are those of several entries or none, equalities among them, in the order of the text.
+    """A query. `conditions` are the conditions on several entries or on no entry, with the equalities, in the order of
+    the text.
 
-    Above the join stand DISTINCT, the outputs, GROUP BY, HAVING, ORDER BY and LIMIT. They are as they were written, but
-    a star is replaced by its columns. `named_above` are the columns that may be named there. If USING merged columns, a
-    name there has to mean the merged column alone. For some engines `frame` then has FROM as it was written, with the
-    entries' numbers in their places; for others `renamed` has the columns that get other names.
+    Above the join are DISTINCT, the outputs, GROUP BY, HAVING, ORDER BY and LIMIT. They are as written, but a star is
+    replaced by its columns. `named_above` are the columns that may be named there. If USING merged columns, a name
+    above the join has to mean the merged column. For some engines `frame` then has FROM as written, with the entries'
+    numbers in their places. For others `renamed` has the columns that get other names.
     """
 
     entries: list[Entry]
@@ -122,7 +124,7 @@ class Query:
     needed: set[Named] = field(default_factory=set)
 
     def take_equality(self, one: Named, other: Named) -> str | None:
-        """Adds an equality to those that bounds use, once. Answers why not, if they can't use it."""
+        """Adds an equality to those that bounds use, once. If they can't use it, returns why."""
         if one.column.kind is None or one.column.kind != other.column.kind:
             return f"{one.column.type} and {other.column.type} aren't compared as they are grouped"
         if Equality(one, other) in self.equalities or Equality(other, one) in self.equalities:
@@ -138,15 +140,16 @@ class Query:
         return self._in_order(entry, named)
 
     def used(self, entry: int) -> list[Column]:
-        """The columns of an entry that anything but its own conditions names."""
+        """The columns of an entry that are named outside its own conditions."""
         return self._in_order(entry, {named.column for named in self.needed if named.entry == entry})
 
     def _in_order(self, entry: int, some: set[Column]) -> list[Column]:
         return [column for column in self.entries[entry].about.by_key.values() if column in some]
 
     def complete(self, entries: frozenset[int], before: tuple[frozenset[int], ...] = ()) -> list[Text]:
-        """The conditions that name some of these entries and no other, but not those that only name entries of one set
-        of `before`."""
+        """The conditions that name some of these entries and no other. Conditions that name only entries of one set of
+        `before` are left out.
+        """
         return [
             condition.text
             for condition in self.conditions
@@ -157,5 +160,5 @@ class Query:
 
     @property
     def constants(self) -> list[Text]:
-        """The conditions that name no entry."""
+        """The conditions that name no entry, such as 1 = 2."""
         return [condition.text for condition in self.conditions if not condition.entries]

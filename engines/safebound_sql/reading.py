@@ -1,7 +1,7 @@
-"""The parts of a query: outputs, entries, conditions, and what stands above the join (GROUP BY, HAVING, ORDER BY,
-LIMIT). All as tokens, as they were written.
+"""Splits a query into parts: outputs, entries, conditions, and the clauses above the join (GROUP BY, HAVING, ORDER BY,
+LIMIT). Each part is a list of tokens, as written.
 
-Only the frame is read here: SELECT .. FROM .. WHERE .. and what follows. If FROM has more than inner joins of named
+Only the frame SELECT .. FROM .. WHERE .. and the clauses after it are read. If FROM has more than inner joins of named
 tables, the query is refused, with the name and place of that part. A block may have outer joins and queries in FROM.
 """
 
@@ -27,7 +27,7 @@ NO_ALIAS = (*IN_FROM, *BEHIND_FROM, "TABLESAMPLE", "INDEXED", "NOT", "INTO")
 
 @dataclass
 class Source:
-    """An entry as FROM has it: the table's name as tokens, and the alias, or the table's name if it has none.
+    """An entry as FROM has it: the tokens of the table's name, and the alias, or the table's name if there is no alias.
 
     For a query in FROM, `table` has its tokens with their parentheses, and `columns` may have the names of its columns.
     """
@@ -43,9 +43,9 @@ class Source:
 
 @dataclass
 class Step:
-    """How a source is joined to those before it: INNER, LEFT, RIGHT or FULL, and the conditions of its ON.
+    """How a source is joined to the sources before it: INNER, LEFT, RIGHT or FULL, and the conditions of its ON.
 
-    If a statement may have inner joins alone, the conditions of ON are among the statement's conditions instead.
+    If a statement may have only inner joins, the conditions of ON are among the statement's conditions instead.
     """
 
     kind: str
@@ -64,10 +64,10 @@ class Using:
 
 @dataclass
 class Statement:
-    """A query's parts. A condition is a conjunct of WHERE or of an ON.
+    """The parts of a query. A condition is a conjunct of WHERE or of an ON.
 
-    `frame` is FROM as it was written, but with its number in place of a source, and None in place of the condition of
-    an ON.
+    `frame` is FROM as written, but with a source's number in place of the source, and None in place of an ON's
+    condition.
     """
 
     text: str
@@ -85,7 +85,9 @@ class Statement:
 
 
 def conjuncts(condition: Tokens) -> list[Tokens]:
-    """The parts between a condition's ANDs, also between those in parentheses. A condition with OR is one part."""
+    """The conjuncts of a condition: the parts between its ANDs, also within parentheses. A condition with OR is one
+    part.
+    """
     while (
         condition
         and condition[0].says("(")
@@ -114,7 +116,7 @@ def _query(pieces: Tokens, at: int) -> bool:
 
 
 def _outside_parentheses(pieces: Tokens) -> Iterator[tuple[Token, Tokens]]:
-    """Each token outside parentheses and CASE, with all that belongs to it: what it opens, or itself alone."""
+    """Each token outside parentheses and CASE, with the tokens that it opens, or alone."""
     at = 0
     while at < len(pieces):
         end = at
@@ -177,7 +179,7 @@ class Reader:
         return Refused(f"the query ends too early: {why}")
 
     def _until(self, words: tuple[str, ...]) -> Tokens:
-        """The tokens up to one of these keywords outside parentheses."""
+        """The tokens before the first of these keywords outside parentheses."""
         start = self.at
         while self.at < len(self.pieces) and not self._keyword(words):
             self.at = closing(self.pieces, self.at) if self._peek("(", "[") else self.at
@@ -232,8 +234,9 @@ class Reader:
         yield from self.pieces[start:end]
 
     def _joined(self, first: int) -> None:
-        """One part of FROM: a source and what is joined to it. The left side of a USING begins with the source numbered
-        `first`."""
+        """Reads one item of FROM: a source and the sources joined to it. The left side of a USING begins with the
+        source numbered `first`.
+        """
         self._source()
         while True:
             cross, kind = self._peek("CROSS"), "INNER"

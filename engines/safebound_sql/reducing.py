@@ -1,7 +1,7 @@
-"""Rows that can take part: semi-joins along the equalities, and the parts of a statement that they are written as.
+"""Semi-joins along the equalities, and the parts of a statement in which they are written.
 
-A semi-join keeps those rows of an entry that meet a row of each of some entries which it is joined with. The rows that
-are left are a materialised part of the statement, so that the engine computes them once.
+A semi-join keeps those rows of an entry that match a row of each of some entries that are joined with it. The remaining
+rows are a materialised part of the statement, so that the engine computes them once.
 """
 
 from __future__ import annotations
@@ -16,9 +16,9 @@ from .query import Column, Entry, Query
 
 @dataclass
 class Parts:
-    """Materialised parts of a statement by their names, and for each entry where its rows are: a part, or its table.
+    """Materialised parts of a statement by their names, and for each entry the place of its rows: a part, or the table.
 
-    `sizes` says how many parts are computed for the part of an entry, if each is computed wherever it is named.
+    `sizes` says how many parts are computed for an entry's part, if each is computed again wherever it is named.
     """
 
     texts: list[tuple[str, str]] = field(default_factory=list)
@@ -26,7 +26,7 @@ class Parts:
     sizes: dict[int, int] = field(default_factory=dict)
 
     def within(self, entry: int, others: list[int], most: int | None) -> list[int]:
-        """Those of the other entries that a new part of this entry may name, so that its size is at most `most`."""
+        """The entries of `others` that a new part of this entry may name, so that its size is at most `most`."""
         size, kept = self.sizes.get(entry, 0) + 1, []
         for other in others:
             if most is None or size + self.sizes[other] <= most:
@@ -37,7 +37,7 @@ class Parts:
         return kept
 
     def add(self, entry: Entry, dialect: Dialect, columns: list[Column], conditions: list[str], prefix: str) -> None:
-        """Adds a part: these columns of those of the entry's rows for which the conditions are true."""
+        """Adds a part: these columns of the entry's rows for which the conditions are true."""
         name = f"{prefix}{len(self.texts) + 1}"
         outputs = (
             ", ".join(f"{entry.alias}.{dialect.quote(column.name)}" for column in columns)
@@ -48,7 +48,7 @@ class Parts:
         self.rows[entry.number] = name
 
 
-# For each entry those that it is joined with, and the pairs of columns: its own one first.
+# For each entry the entries that it is joined with, each with pairs of columns. The first column is the entry's own.
 Joined = Dict[int, Dict[int, List[Tuple[Column, Column]]]]
 
 
@@ -61,8 +61,9 @@ def partners(query: Query) -> Joined:
 
 
 def components(joined: Joined) -> Iterable[list[tuple[int, int | None]]]:
-    """The entries that equalities connect, a list for each group: every entry with the one from which it was
-    reached."""
+    """A list for each group of entries that equalities connect. Each entry has beside it the entry from which it was
+    reached.
+    """
     seen: set[int] = set()
     for start in joined:
         if start in seen:
@@ -81,14 +82,16 @@ def closes_a_cycle(joined: Joined, reached: list[tuple[int, int | None]]) -> boo
 
 
 def along_a_tree(reached: list[tuple[int, int | None]]) -> Iterable[tuple[int, list[int]]]:
-    """The semi-joins up the tree and down again. They are a full reducer: each row that is left meets a row of every
-    entry."""
+    """The semi-joins up the tree and down again. They are a full reducer: each remaining row matches a row of every
+    entry.
+    """
     yield from ((entry, [other for other, parent in reached if parent == entry]) for entry, _ in reversed(reached))
     yield from ((entry, [parent]) for entry, parent in reached if parent is not None)
 
 
 def around_a_cycle(joined: Joined, reached: list[tuple[int, int | None]]) -> Iterable[tuple[int, list[int]]]:
-    """The semi-joins by all equalities: up, and three times along all. Further rounds might take further rows away."""
+    """The semi-joins by all equalities: once up, then three times along all. Further rounds might remove further rows.
+    """
     down = [entry for entry, _ in reached]
     up = down[::-1]
     for at, entry in enumerate(up):
@@ -98,14 +101,14 @@ def around_a_cycle(joined: Joined, reached: list[tuple[int, int | None]]) -> Ite
 
 
 def steps(query: Query) -> Iterable[tuple[int, list[int]]]:
-    """The semi-joins in their order: an entry, and the entries in whose rows it needs a partner."""
+    """The semi-joins in their order. Each has an entry, and the entries in which its rows need a match."""
     joined = partners(query)
     for reached in components(joined):
         yield from around_a_cycle(joined, reached) if closes_a_cycle(joined, reached) else along_a_tree(reached)
 
 
 def reduced(query: Query, dialect: Dialect, columns: dict[int, list[Column]], prefix: str) -> Parts:
-    """The entries' reduced rows with these of their columns."""
+    """The entries' reduced rows, with these columns."""
     joined, parts = partners(query), Parts()
     for entry, others in steps(query):
         first = entry not in parts.rows
@@ -121,8 +124,9 @@ def reduced(query: Query, dialect: Dialect, columns: dict[int, list[Column]], pr
 def semi_join(
     query: Query, dialect: Dialect, entry: int, other: int, pairs: list[tuple[Column, Column]], rows: str
 ) -> str:
-    """The condition that a row of `entry` has a partner in `other`. It uses IN, for which SQLite makes an index and
-    PostgreSQL a hash; where an engine takes no IN of several columns, EXISTS."""
+    """The condition that a row of `entry` has a match in `other`. It uses IN, for which SQLite makes an index and
+    PostgreSQL a hash table. If the engine has no IN of several columns, it uses EXISTS.
+    """
     mine, yours = query.entries[entry].alias, query.entries[other].alias
     if len(pairs) > 1 and not dialect.takes_rows_in:
         meet = [f"{yours}.{dialect.quote(right.name)} = {mine}.{dialect.quote(left.name)}" for left, right in pairs]
@@ -137,7 +141,7 @@ def own_conditions(entry: Entry) -> list[str]:
 
 
 def bracketed(condition: str) -> str:
-    """The condition as a part of an AND: in parentheses where it may have an OR."""
+    """The condition as a member of an AND: in parentheses if it may have an OR."""
     return f"({condition})" if re.search(r"\bOR\b", condition, re.IGNORECASE) else condition
 
 

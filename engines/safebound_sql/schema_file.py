@@ -1,4 +1,4 @@
-"""Reads a schema file: the CREATE TABLE statements of an engine that can't be reached, in that engine's own SQL."""
+"""Reads a schema file: the CREATE TABLE statements of an engine that can't be reached, in the SQL of that engine."""
 
 from __future__ import annotations
 
@@ -23,22 +23,23 @@ EQUAL_AS_GROUPED = re.compile(r"DATE|BOOLEAN|BOOL|UUID|CHAR\(\d+\)|(BIG)?NUMERIC
 
 
 class NameRules(Protocol):
-    """The part of a dialect that reading a schema file needs: how the engine compares names."""
+    """The part of a dialect that is needed to read a schema file: how the engine compares names."""
 
     @property
     def rules(self) -> re.Pattern[str]:
         """Matches one token of the engine's SQL."""
 
     def table_key(self, name: Tokens) -> tuple[str, ...]:
-        """The key by which a table of this name is found. Names of one table have one key."""
+        """The key of a table with this name. Different names of one table have the same key."""
 
     def key_of(self, token: Token) -> str:
-        """The key by which a column of this name is found."""
+        """The key of a column with this name."""
 
 
 def kind_of(declared: str) -> Hashable | None:
-    """The kind of a column of this type. Columns of one kind are compared as they are grouped. Whole numbers of any
-    width have one kind; floating point numbers and times with a zone have no kind."""
+    """The kind of a column of this type, or None. Columns of one kind are compared as GROUP BY groups them. Whole
+    numbers of any width have one kind; floating point numbers and times with a zone have none.
+    """
     name = declared.upper().replace(" ", "")
     if WHOLE.fullmatch(name):
         return "a whole number"
@@ -101,7 +102,7 @@ def _table(text: str, pieces: Tokens, dialect: NameRules) -> tuple[Tokens, Table
 
 
 def _of_unknown_kinds(table: Table) -> Table:
-    """The table with columns of no known kind: a collation after the list of columns holds for all of them."""
+    """The table with columns of unknown kinds. A collation after the list of columns applies to all of them."""
     columns = {key: column._replace(kind=None) for key, column in table.by_key.items()}
     return Table(tuple(columns.values()), columns)
 
@@ -121,7 +122,7 @@ def _columns(text: str, pieces: Tokens, dialect: NameRules) -> Table:
 
 
 def _items(pieces: Tokens) -> Iterator[Tokens]:
-    """The parts between those commas that are in no parentheses and in no angle brackets."""
+    """The items between the commas that are outside all parentheses and angle brackets."""
     item: Tokens = []
     depth = at = 0
     while at < len(pieces):
@@ -139,7 +140,7 @@ def _items(pieces: Tokens) -> Iterator[Tokens]:
 
 
 def _column(text: str, item: Tokens, dialect: NameRules) -> Column:
-    """A column. One with a collation of its own has no kind, since it isn't known how its values are grouped."""
+    """A column. A column with its own collation has no kind, since it isn't known how its values are grouped."""
     end = next(
         (at for at, token in enumerate(item) if at and token.kind == "word" and token.says(*AFTER_TYPE)), len(item)
     )

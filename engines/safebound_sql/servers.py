@@ -1,10 +1,10 @@
-"""Tables whose rows lie on other servers. The servers filter and count their own rows, and send the values of a column
-that are left.
+"""Tables whose rows are on other servers. The servers filter and count their own rows, and send the remaining values of
+a column.
 
-PostgreSQL sends a server a whole count or GROUP BY over one of its tables, and a comparison with the values of an
-array. It sends neither a semi-join nor a part of an aggregate, and would fetch the rows for it. So each part of a
-table is asked by itself, and what the servers say of a value is added up here. In place of a semi-join a server gets an
-array of the values that are left of the other column.
+PostgreSQL can send a server a complete count or GROUP BY over one of its tables, and a comparison with the values of an
+array. It can send neither a semi-join nor a part of an aggregate; for these it would fetch the rows. So each part of a
+table is queried alone, and the coordinator adds up the servers' counts of each value. In place of a semi-join a server
+gets an array of the remaining values of the other column.
 """
 
 from __future__ import annotations
@@ -22,24 +22,24 @@ from .reducing import (
 
 @dataclass
 class Source:
-    """Where an entry's rows are asked for: in a part of the statement, or in its table under conditions."""
+    """The place of an entry's rows: a part of the statement, or its table under conditions."""
 
     entry: Entry
     conditions: list[str]
     part: str | None = None
 
     def total(self) -> tuple[str, str]:
-        """The number of rows, and where it is taken from."""
+        """SQL for the number of rows, and the FROM from which it is computed."""
         if len(self._tables()) == 1:
             return "COUNT(*)", self._rows(*self._tables())
         counts = " UNION ALL ".join(f"SELECT COUNT(*) AS n {self._rows(table)}" for table in self._tables())
         return "CAST(SUM(n) AS BIGINT)", f"FROM ({counts}) AS servers"
 
     def degrees(self, column: Column, dialect: Dialect) -> str:
-        """How many rows each value of the column has. The numbers of all servers are added up, unless each value is on
-        one server alone.
+        """How many rows each value of the column has. The counts of all servers are added up, unless each value is on
+        one server only.
 
-        COUNT is of the column and not of rows, so that NULL has degree 0.
+        COUNT counts the column and not rows, so that NULL has degree 0.
         """
         value = f"{self.entry.alias}.{dialect.quote(column.name)}"
         spread = self.entry.about.spread
@@ -52,19 +52,20 @@ class Source:
         return f"SELECT CAST(SUM(n) AS BIGINT) AS d FROM ({counts}) AS servers GROUP BY v"
 
     def values(self, columns: list[Column], dialect: Dialect) -> str:
-        """The values of these columns, from each server once."""
+        """The different values of these columns, from each server once."""
         values = ", ".join(f"{self.entry.alias}.{dialect.quote(column.name)}" for column in columns)
         return " UNION ALL ".join(
             f"SELECT {values} {self._rows(table)}{self._groups(values)}" for table in self._tables()
         )
 
     def _groups(self, values: str) -> str:
-        """A GROUP BY. Where PostgreSQL expects as many groups as rows it may fetch the rows; a HAVING lets it expect
-        fewer groups."""
+        """A GROUP BY. If PostgreSQL expects as many groups as rows, it may fetch the rows; a HAVING makes it expect
+        fewer groups.
+        """
         return f" GROUP BY {values}" + (" HAVING COUNT(*) > 0" if self.entry.about.spread and not self.part else "")
 
     def _tables(self) -> tuple[str, ...]:
-        """The tables that are asked, one by one."""
+        """The tables that are queried, one by one."""
         spread = None if self.part else self.entry.about.spread
         return spread.parts if spread else (self.part or self.entry.table,)
 
@@ -73,8 +74,9 @@ class Source:
 
 
 class Limits:
-    """For each entry what its rows have to satisfy: its own conditions, and that its values are among those that are
-    left of its partners. `texts` are the parts of a statement with these values."""
+    """The conditions on each entry's rows: its own conditions, and that its values are among the remaining values of
+    its partners. `texts` are the parts of a statement with these values.
+    """
 
     def __init__(self, query: Query, dialect: Dialect, prefix: str) -> None:
         self.query, self.dialect, self.prefix = query, dialect, prefix
@@ -83,7 +85,7 @@ class Limits:
         joined = partners(query)
         for entry, others in steps_elsewhere(query, joined):
             for other in others:
-                # No more rows of `other` are left than before, so the new condition takes the place of the old one.
+                # `other` has no more rows left than before, so the new condition replaces the old one.
                 self.among[entry][other] = self._among(entry, other, joined[entry][other])
 
     @property
@@ -109,9 +111,9 @@ class Limits:
 
 
 def steps_elsewhere(query: Query, joined: Joined) -> Iterable[tuple[int, list[int]]]:
-    """The semi-joins in their order. They leave the same rows as `steps`.
+    """The semi-joins in their order. They leave the same rows as those of `steps`.
 
-    Along a tree, an entry without a condition doesn't limit the others at first, since all of its values would be sent.
+    Along a tree, an entry without a condition doesn't limit the others at first, since all its values would be sent.
     """
     limited = {entry.number for entry in query.entries if entry.own}
     for reached in components(joined):
@@ -136,7 +138,7 @@ def lies_elsewhere(query: Query) -> bool:
 def rows_to_count(
     query: Query, dialect: Dialect, columns: dict[int, list[Column]], prefix: str
 ) -> tuple[list[tuple[str, str]], dict[int, Source]]:
-    """Parts of a statement, and where each entry's reduced rows are if the statement has these parts."""
+    """The parts of a statement, and for each entry the place of its reduced rows in the statement with these parts."""
     if lies_elsewhere(query):
         limits = Limits(query, dialect, prefix)
         return limits.texts, {entry.number: Source(entry, limits.of(entry.number)) for entry in query.entries}
@@ -150,7 +152,7 @@ def rows_to_count(
 
 
 def rows_to_join(query: Query, dialect: Dialect, columns: dict[int, list[Column]], prefix: str) -> Parts:
-    """The rows that were counted, with these of their columns."""
+    """The rows that were counted, with these columns."""
     if not lies_elsewhere(query):
         return reduced(query, dialect, columns, prefix)
     limits = Limits(query, dialect, prefix)

@@ -1,4 +1,4 @@
-"""SQLite, by Python's own sqlite3: the file is opened read-only, and one transaction holds its snapshot."""
+"""SQLite by Python's sqlite3. The file is opened read-only, and one transaction holds its snapshot."""
 
 from __future__ import annotations
 
@@ -39,15 +39,16 @@ class SqliteDialect(Dialect):
         return super().key(name, False)
 
     def reads_clock(self, pieces: list[Token], at: int, below: bool = False) -> bool:
-        """date() and its like, of anything but a literal date. A column's values are looked at later, when it is known
-        whose column it is."""
+        """Finds date() and its like with an argument that isn't a literal date. Values of a column are checked later,
+        when it is known whose column it is.
+        """
         dates = self._dates(pieces, at)
         if dates is None:
             return False
         return not dates or not all(_is_date(date) or (not below and _may_be_column(date)) for date in dates)
 
     def _dates(self, pieces: list[Token], at: int) -> list[list[Token]] | None:
-        """The dates among the arguments of the date function that is called there; None if none is called."""
+        """The date arguments of the date function that is called at this token. None if there is no such call."""
         called = pieces[at].names and at + 1 < len(pieces) and pieces[at + 1].says("(")
         function = self.key_of(pieces[at]) if called else ""
         if function not in TIMES:
@@ -60,7 +61,7 @@ class SqliteDialect(Dialect):
             yield from ((token, date) for date in self._dates(pieces, at) or () if not _is_date(date))
 
 
-# CROSS JOIN keeps the order, so that no setting has to.
+# CROSS JOIN keeps the order, so no setting is needed.
 DIALECT = SqliteDialect(
     name="sqlite",
     title="SQLite",
@@ -69,7 +70,7 @@ DIALECT = SqliteDialect(
     merged_columns_first=False,
     equals=("=", "=="),
     calls_without_parentheses=("CURRENT_DATE", "CURRENT_TIME", "CURRENT_TIMESTAMP"),
-    # SQLite reads a part again wherever it is named, and also the parts that it names.
+    # SQLite computes a part again wherever it is named, with all parts that it names.
     most_parts_of_a_part=200,
     join_word="CROSS JOIN",
     keeps_trees=False,
@@ -98,7 +99,7 @@ class SqliteConnection(Connection):
             except sqlite3.OperationalError:
                 if os.access(path.parent, os.W_OK) or self._state() is None:
                     raise
-                # No log can be made in this folder, and there is none: then the file alone has all rows. If that
+                # There is no log, and none can be created in this folder, so the file alone has all rows. If the file
                 # changes while it is read, the statement fails.
                 self.unwritten = self._state()
                 self._open("mode=ro&immutable=1")
@@ -112,7 +113,7 @@ class SqliteConnection(Connection):
         self.connection.execute("SELECT count(*) FROM sqlite_master").fetchone()
 
     def _state(self) -> Row | None:
-        """What changes when the file is written to; None if there is a log beside it."""
+        """A value that changes when the file is written. None if a log lies beside the file."""
         if os.path.exists(f"{self.path}-wal"):
             return None
         about = os.stat(self.path)
@@ -123,7 +124,7 @@ class SqliteConnection(Connection):
 
     @contextlib.contextmanager
     def _as_faults(self) -> Iterator[None]:
-        """Starts the time of a statement, and turns what sqlite3 raises into a fault."""
+        """Starts the time limit of a statement, and turns exceptions of sqlite3 into faults."""
         self.ends = time.monotonic() + self.timeout if self.timeout else None
         try:
             yield
@@ -189,18 +190,19 @@ class SqliteCatalog(Catalog):
         return Table(tuple(column for column, hidden in columns if hidden != 1), by_key, identity)
 
     def _schema_version(self, schema: str) -> int:
-        """A number that each change of the schema changes. A table has no such number of its own."""
+        """A number that changes with the schema. A single table has no such number."""
         return int(self.connection.rows(f"PRAGMA {DIALECT.quote(schema)}.schema_version")[0][0])
 
     def _column(self, table: str, name: str, declared: str, of_table: bool, strict: bool) -> Column:
-        """A column. It has no kind in a view or a virtual table, where its collation isn't known."""
+        """A column. In a view or a virtual table it has no kind, since its collation isn't known."""
         collation = self._collation(table, name) if of_table else None
         kind = (affinity(declared, strict), collation) if collation else None
         return Column(name, declared or "no type", kind)
 
     def _collation(self, table: str, name: str) -> str | None:
-        """A column's collation, found by whether 'a' equals 'A' or 'a ' by it. UNION compares by the collation of its
-        first part."""
+        """A column's collation. It is found by testing whether 'a' equals 'A' or 'a '; UNION compares by the collation
+        of its first part.
+        """
         values = f"SELECT {DIALECT.quote(name)} FROM {table} WHERE 0 UNION SELECT 'a' UNION SELECT ?"
         try:
             case, space = (
@@ -226,7 +228,7 @@ class SqliteCatalog(Catalog):
         self.connection.rows(f"EXPLAIN {sql}")
 
     def why_not_alone(self, inner: list[Token]) -> str | None:
-        """SQLite takes a name in double quotes that it doesn't find for a text, so names get other quotes here."""
+        """SQLite takes an unknown name in double quotes for a text, so names get other quotes here."""
         in_quotes = {token: "`" + unquoted(token).replace("`", "``") + "`" for token in inner if token.text[0] == '"'}
         return super().why_not_alone([token._replace(text=in_quotes.get(token, token.text)) for token in inner])
 
@@ -252,7 +254,7 @@ def opened(file: str, timeout: int | None) -> Engine:
 
 
 def _last(name: str) -> str:
-    """The last part of a name with dots."""
+    """The last component of a name with dots."""
     return DIALECT.key(name.split(".")[-1].strip('"`[] '), True)
 
 
@@ -269,7 +271,7 @@ def affinity(declared: str, strict: bool) -> str:
 
 
 def _field(value: object, null: str) -> str:
-    """A value of CSV, in quotes if it would otherwise be read as another value, or as NULL."""
+    """A value in CSV. It is quoted if it would otherwise be read as another value, or as NULL."""
     text = f"x'{value.hex()}'" if isinstance(value, bytes) else str(value)
     return '"' + text.replace('"', '""') + '"' if text == null or any(mark in text for mark in ',"\n\r') else text
 

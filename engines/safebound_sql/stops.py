@@ -1,4 +1,4 @@
-"""Ctrl-C and SIGTERM: both end a statement on the engine, and then the command."""
+"""Ctrl-C and SIGTERM. Both end a running statement on the engine, and then the command."""
 
 from __future__ import annotations
 
@@ -9,7 +9,7 @@ _came: list[int] = []
 
 
 def heed() -> None:
-    """From now on both signals raise KeyboardInterrupt, and `came` says which signal came."""
+    """Makes both signals raise KeyboardInterrupt from now on. `came` then says which signal came."""
     for number in (signal.SIGINT, signal.SIGTERM):
         signal.signal(number, _come)
 
@@ -20,5 +20,7 @@ def _come(number: int, _frame: FrameType | None) -> None:
 
 
 def came() -> int | None:
-    """The signal that came first, also where an engine's library took the interruption for an error of its own."""
+    """The signal that came first. It is known even if an engine's library took the interruption for an error of its
+    own.
+    """
     return _came[0] if _came else None

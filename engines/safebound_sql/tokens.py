@@ -1,8 +1,8 @@
-"""The tokens of a text of SQL, by the engine's own rules, so that what is handed on is what was written.
+"""Splits SQL into tokens by the engine's own rules, so that texts are handed on exactly as written.
 
-sqlglot's tokens don't tell where they stand, and its texts don't come back as they were: in Debian 12's version x'00ff'
-becomes x'FF', OR binds as AND does, TABLESAMPLE is dropped, and 'sad'::mood can't be read. A condition is passed to the
-engine in the user's own characters, so the text is cut here.
+sqlglot's tokens have no places, and it doesn't reproduce a text exactly. In Debian 12's version x'00ff' becomes x'FF',
+OR binds as AND does, TABLESAMPLE is dropped, and 'sad'::mood can't be read. Conditions go to the engine in the user's
+own characters, so this module splits the text itself.
 """
 
 from __future__ import annotations
@@ -14,7 +14,7 @@ from .faults import Refused
 
 
 class Token(NamedTuple):
-    """A token: what kind, its characters, where it begins, and what stands before it ("", " " or a line's end)."""
+    """A token: its kind, its characters, its place, and the gap before it ("", " " or a line's end)."""
 
     kind: str
     text: str
@@ -22,7 +22,7 @@ class Token(NamedTuple):
     gap: str
 
     def says(self, *words: str) -> bool:
-        """Whether it is one of these words or marks, in whichever case."""
+        """Whether it is one of these words or marks, in upper or lower case."""
         return self.kind in ("word", "mark", "operator") and self.text.upper() in words
 
     @property
@@ -75,9 +75,10 @@ BACKTICKS = r"`[^`'\\.]+`"
 def dialect_rules(
     quoted: str, texts: str = "'", comments: str | None = None, suffixes: str = "(?!)"
 ) -> re.Pattern[str]:
-    """Rules that hold in whichever way an engine reads a backslash in a text, or a comment within a comment. If the way
-    would matter, nothing is matched, and the query is refused. `texts` are the quote marks of texts, and `suffixes` are
-    letters that may end a number."""
+    """Rules that don't depend on how an engine reads a backslash in a text, or a comment within a comment. Where it
+    would matter, no token matches, and the query is refused. `texts` are the quote marks of texts, and `suffixes` are
+    letters that may end a number.
+    """
     text = "|".join(rf"(?!{mark * 3}){mark}(?:[^{mark}\\]|\\(?!{mark})|{mark}{mark})*{mark}" for mark in texts)
     return re.compile(
         "|".join(
@@ -108,7 +109,7 @@ def place(text: str, at: int) -> str:
 
 
 def tokens(text: str, rules: re.Pattern[str]) -> list[Token]:
-    """All tokens of the text. Comments and blanks are left out."""
+    """All tokens of the text, without comments and blanks."""
     found, at, gap, depth = [], 0, "", 0
     while at < len(text):
         match = rules.match(text, at)
@@ -136,7 +137,7 @@ def tokens(text: str, rules: re.Pattern[str]) -> list[Token]:
 
 
 def _end_of_comment(text: str, at: int) -> int:
-    """PostgreSQL's comments nest."""
+    """The end of a comment. PostgreSQL's comments nest."""
     depth = 0
     for match in _COMMENT_ENDS.finditer(text, at):
         depth += 1 if match.group() == "/*" else -1
@@ -146,14 +147,16 @@ def _end_of_comment(text: str, at: int) -> int:
 
 
 def _operator(run: str) -> str:
-    """PostgreSQL's rule: an operator may end in + or - only if it also has one of the characters below."""
+    """The longest operator that the run begins with. In PostgreSQL it may end in + or - only if it also has one of the
+    characters below.
+    """
     while len(run) > 1 and run[-1] in "+-" and not set(run) & set("~!@#%^&|`?"):
         run = run[:-1]
     return run
 
 
 def written(pieces: Iterable[Token]) -> str:
-    """The tokens as text again."""
+    """The text of the tokens."""
     parts: list[str] = []
     before: Token | None = None
     for token in pieces:
@@ -163,20 +166,21 @@ def written(pieces: Iterable[Token]) -> str:
 
 
 def gap_between(before: Token, token: Token) -> str:
-    """What stands between two tokens: a line's end only between texts, which the engine reads as one text that goes
-    on."""
+    """The gap between two tokens. A line's end is kept only between two texts, since the engine joins such texts into
+    one.
+    """
     return "\n" if token.gap == "\n" and token.kind == before.kind == "text" else token.gap and " "
 
 
 def unquoted(token: Token) -> str:
-    """The name that a quoted token stands for."""
+    """The name that a quoted token spells."""
     quote = token.text[-1]
     inner = token.text[1:-1]
     return inner if quote == "]" else inner.replace(quote * 2, quote)
 
 
 def closing(pieces: list[Token], start: int) -> int:
-    """Where the parenthesis or bracket that opens at `start` closes; the end of the tokens where it doesn't."""
+    """Where the parenthesis or bracket at `start` closes. If it doesn't, the number of tokens."""
     depth = 0
     for at in range(start, len(pieces)):
         if pieces[at].says("(", "["):
@@ -189,5 +193,5 @@ def closing(pieces: list[Token], start: int) -> int:
 
 
 def part_of_name(pieces: list[Token], at: int) -> bool:
-    """Whether a word belongs to a name with a dot, so that it is no keyword."""
+    """Whether a word belongs to a name with a dot, and so isn't a keyword."""
     return (at > 0 and pieces[at - 1].says(".")) or (at + 1 < len(pieces) and pieces[at + 1].says("."))

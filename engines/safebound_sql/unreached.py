@@ -1,7 +1,7 @@
-"""Engines that can't be reached from here: their SQL is written, and whoever reaches them runs it.
+"""Engines that can't be reached from here. This program writes their SQL, and the user runs it.
 
-What a connection would tell comes from a schema file of CREATE TABLEs, and from a list of the functions that are
-known to answer alike at each call. What isn't known for sure is refused.
+A schema file of CREATE TABLEs and a list of functions take the place of a connection. The functions in the list give
+the same result at each call. A query is refused where something isn't known for sure.
 """
 
 from __future__ import annotations
@@ -22,7 +22,8 @@ from .tokens import BACKTICKS, DOUBLE_QUOTES, Token, dialect_rules, part_of_name
 
 DAYS = ("now", "today", "tomorrow", "yesterday")
 
-# Without quotes these words keep or leave out rows in another way than an inner join does. As names they need quotes.
+# As keywords, without quotes, these words keep or leave out rows differently from an inner join. As names they need
+# quotes.
 NO_INNER_JOIN = (
     "QUALIFY", "PIVOT", "UNPIVOT", "LATERAL", "TABLESAMPLE", "SEMI", "ANTI", "ASOF", "POSITIONAL", "DIRECTED",
     "MATCH_RECOGNIZE", "UNNEST", "EXPLODE", "MINUS",
@@ -37,7 +38,9 @@ IN_LOWER_CASE = frozenset(word.lower() for word in RESERVED)
 
 @dataclass(frozen=True)
 class UnreachedDialect(Dialect):
-    """If no setting makes an engine keep the order, each level is a temporary table."""
+    """The dialect of an engine without a connection. If no setting makes the engine keep the order, each level is a
+    temporary table.
+    """
 
     calls_without_parentheses: tuple[str, ...] = TIMES
     outputs_in_conditions: bool = True
@@ -53,7 +56,7 @@ class UnreachedDialect(Dialect):
     folds_tables: bool = True
 
     def with_parts(self, parts: list[tuple[str, str]], select: str) -> str:
-        """If each level is a table, each part is one too, and the statement is a script."""
+        """If each level is a table, each part is a table too, and the result is a script."""
         if not self.makes_tables:
             return super().with_parts(parts, select)
         return "".join(f"CREATE OR REPLACE TEMPORARY TABLE {name} AS\n{text};\n" for name, text in parts) + select
@@ -67,14 +70,14 @@ class UnreachedDialect(Dialect):
         return name.lower()
 
     def table_key(self, name: list[Token]) -> tuple[str, ...]:
-        """The key by which a table is found."""
+        """The key of a table."""
         names = [token for token in name if token.names]
         if self.folds_tables:
             return tuple(map(self.key_of, names))
         return tuple(unquoted(token) if token.kind == "quoted" else token.text for token in names)
 
     def reads_clock(self, pieces: list[Token], at: int, below: bool = False) -> bool:
-        """A text such as 'now' that is made a date or a time."""
+        """Whether the token is a text, such as 'now', that becomes the current date or time."""
         token = pieces[at]
         if token.kind != "text" or token.text[1:-1].split(" ")[0].lower() not in DAYS:
             return False
@@ -83,7 +86,7 @@ class UnreachedDialect(Dialect):
 
 
 def reading_again(dialect: UnreachedDialect) -> UnreachedDialect:
-    """The dialect of an engine that reads a part again wherever it is named, and with it the parts that it names."""
+    """The dialect of an engine that computes a part again wherever it is named, with all parts that it names."""
     return replace(dialect, most_parts_of_a_part=200, most_scans=100)
 
 
@@ -135,7 +138,7 @@ DIALECTS = {
 
 
 class SchemaFile(Catalog):
-    """What a schema file tells, and what is known of functions without asking an engine."""
+    """The tables of a schema file, and the functions that are known without asking an engine."""
 
     def __init__(self, dialect: UnreachedDialect, schema: str) -> None:
         self.dialect, self.tables = dialect, declared(schema, dialect)
@@ -144,7 +147,7 @@ class SchemaFile(Catalog):
         return self.tables.get(self.dialect.table_key(name))
 
     def volatile(self, names: set[str]) -> dict[str, str]:
-        """All that isn't known to answer alike at each call."""
+        """All names that aren't known to give the same result at each call."""
         called = [name for name in names if re.match(r"\.?\w", name)]
         return {name: self.dialect.why_volatile for name in sorted(called) if name.lower() not in CALLED}
 
@@ -152,7 +155,7 @@ class SchemaFile(Catalog):
         return []
 
     def check(self, sql: str) -> None:
-        """Refuses what would be read here in another way than by the engine."""
+        """Refuses a query that this program would read differently from the engine."""
         statement, pieces = Statement(sql), tokens(sql, self.dialect.rules)
         for token in _no_inner_joins(pieces):
             raise statement.refuse(token, "only inner joins of whole tables are bounded")
@@ -162,7 +165,7 @@ class SchemaFile(Catalog):
                 raise statement.refuse(
                     source.alias, "it is the name of a schema too, and engines differ in which is meant"
                 )
-        # It takes a while to load, and the engines that are reached don't need it.
+        # sqlglot takes a while to load, and the engines with a connection don't need it.
         try:
             import sqlglot
         except ImportError:
@@ -181,7 +184,9 @@ class SchemaFile(Catalog):
             raise Refused(f"the query has a part that isn't bounded: {', '.join(sorted(odd)) or 'it is no SELECT'}")
 
     def why_not_alone(self, inner: list[Token]) -> str | None:
-        """None if each name in the subquery is of one of its own tables, or is no column's name; else why not."""
+        """None if each name in the subquery belongs to one of its own tables, or isn't a column's name. Otherwise the
+        reason.
+        """
         if any(token.says("SELECT", "WITH", "VALUES") for token in inner[1:]):
             return "there is a subquery within it"
         try:
@@ -226,7 +231,7 @@ class SchemaFile(Catalog):
 
 
 class NoConnection(Connection):
-    """Runs nothing. The settings are printed before the query."""
+    """A connection that runs nothing. The settings are printed before the query."""
 
     def __init__(self, dialect: Dialect) -> None:
         self.dialect = dialect
@@ -241,7 +246,7 @@ class NoConnection(Connection):
         raise not_reached(self.dialect)
 
     def close(self) -> None:
-        """There is nothing to end."""
+        """Does nothing."""
 
 
 def not_reached(dialect: Dialect) -> EngineFault:
@@ -249,13 +254,13 @@ def not_reached(dialect: Dialect) -> EngineFault:
 
 
 def unreached(name: str, schema: str) -> Engine:
-    """An engine of which only its dialect and the schema of its tables are known."""
+    """An engine known only by its dialect and by the schema of its tables."""
     dialect = DIALECTS[name]
     return Engine(dialect, SchemaFile(dialect, schema), NoConnection(dialect))
 
 
 def _no_inner_joins(pieces: Tokens) -> Iterator[Token]:
-    """Words and stars that an engine reads in a way of its own."""
+    """Words and stars that an engine reads differently from an inner join."""
     for at, token in enumerate(pieces):
         if part_of_name(pieces, at) and not token.says("*"):
             continue

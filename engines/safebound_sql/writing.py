@@ -1,5 +1,6 @@
-"""SQL in the planned order: for the query itself, for the true rows of its levels, and for what the engine expects of
-them."""
+"""Writes SQL in the planned order: for the query itself, for the true rows of its levels, and for the rows that the
+engine expects.
+"""
 
 from __future__ import annotations
 
@@ -11,7 +12,7 @@ from .servers import rows_to_join
 
 
 class Writer:
-    """Writes statements over a query. With `reduce` they join the rows that were counted, and without it the tables."""
+    """Writes statements for a query. With `reduce` they join the rows that were counted, otherwise the tables."""
 
     def __init__(self, query: Query, dialect: Dialect, prefix: str, reduce: bool) -> None:
         self.query, self.dialect, self.prefix = query, dialect, prefix
@@ -19,7 +20,7 @@ class Writer:
         self.parts = rows_to_join(query, dialect, self.columns, prefix) if reduce else Parts()
 
     def query_in_order(self, plan: Plan) -> str:
-        """The query with its joins written in the planned order."""
+        """The query with its joins in the planned order."""
         writing, query = Writing(self), self.query
         joined = writing.below_the_outputs(plan.shape)
         outputs = ", ".join(output if isinstance(output, str) else writing.column(output) for output in query.outputs)
@@ -27,14 +28,15 @@ class Writer:
         return writing.before("\n".join(lines))
 
     def true_rows(self, levels: list[Level]) -> str:
-        """For the number of each level, from 1, how many rows it has."""
+        """A statement that counts the rows of each level. Levels are numbered from 1."""
         writing = Writing(self)
         counts = [f"SELECT {number}, COUNT(*) {writing.joined(level.shape)}" for number, level in enumerate(levels, 1)]
         return writing.before("\nUNION ALL ".join(counts))
 
     def plainly(self, shape: Shape) -> str:
-        """The entries of a shape with their conditions over the tables themselves, in an order that the engine
-        chooses."""
+        """The join of a shape's entries over the tables themselves, with their conditions, in an order that the engine
+        chooses.
+        """
         numbers = sorted(entries_of(shape))
         entries = [self.query.entries[number] for number in numbers]
         conditions = [text for entry in entries for text in own_conditions(entry)]
@@ -43,8 +45,10 @@ class Writer:
 
 
 class Writing:
-    """One statement while it is written. If the engine doesn't keep the shape of a join tree, a side of a join that has
-    several entries becomes a part. `within` has the part of each entry whose columns are those of a part."""
+    """One statement while it is written. If the engine doesn't keep the shape of a join tree, the right side of a join
+    becomes a part of WITH when it has several entries. `within` has, for each entry in such a part, the name of the
+    part.
+    """
 
     def __init__(self, writer: Writer) -> None:
         self.query, self.dialect, self.columns = writer.query, writer.dialect, writer.columns
@@ -60,17 +64,17 @@ class Writing:
         return text.naming(self._elsewhere)
 
     def column(self, named: Named) -> str:
-        """A column of a star as an output, by its own name."""
+        """A column of a star as an output, under its own name."""
         name = self.dialect.quote(named.column.name)
         visible = self._visible(named)
         return f"{self.query.entries[named.entry].alias}.{visible}{'' if visible == name else f' AS {name}'}"
 
     def _visible(self, named: Named) -> str:
-        """What the column is called beside its entry's alias."""
+        """The name of the column beside its entry's alias."""
         return self._name_within(named) if named in self.query.renamed else self.dialect.quote(named.column.name)
 
     def _elsewhere(self, named: Named) -> str | None:
-        """The column's name if it is a column of a part with several entries, or has been renamed."""
+        """The column's name in a part of several entries, or its new name if it was renamed. Otherwise None."""
         part = self.within.get(named.entry)
         if part:
             return f"{part}.{self._name_within(named)}"
@@ -82,8 +86,9 @@ class Writing:
         return self.dialect.quote(f"{self.prefix}{named.entry}_{named.column.name}")
 
     def below_the_outputs(self, shape: Shape) -> str:
-        """FROM and WHERE for what stands above the join: each entry is there under its own alias, with its columns'
-        own names."""
+        """FROM and WHERE for the clauses above the join: each entry has its own alias, and its columns have their own
+        names.
+        """
         if self.query.frame:
             return self._in_frame(self.joined(shape))
         self.within = {}
@@ -92,8 +97,8 @@ class Writing:
         return f"FROM {joins}{again}{where(self._left_over(shape))}"
 
     def _in_frame(self, joined: str) -> str:
-        """FROM as it was written, with the joined rows' columns in place of each table, so that USING merges as it
-        did."""
+        """FROM as written, with the joined rows' columns in place of each table, so that USING merges as in the query.
+        """
         columns = {number: self._named_above(number) for number in range(len(self.query.entries))}
         outputs = [
             f"{self._source(named)} AS {self._name_within(named)}" for some in columns.values() for named in some
@@ -112,7 +117,7 @@ class Writing:
         return [named for column in self.columns[number] if (named := Named(number, column)) in self.query.named_above]
 
     def _entries_of_parts(self) -> str:
-        """Joins each entry within a part once more, under its own alias. Rows meet by the number of the part's row."""
+        """Joins each entry of a part once more, under its own alias. Rows match by the row number that the part has."""
         again, numbered = "", f"{self.prefix}row"
         for number, part in sorted(self.within.items()):
             columns, alias = self._named_above(number), self.query.entries[number].alias
@@ -134,7 +139,7 @@ class Writing:
         return again
 
     def joined(self, shape: Shape) -> str:
-        """FROM with the joins of this shape, and WHERE with what is left."""
+        """FROM with the joins of this shape, and WHERE with the remaining conditions."""
         self.within = {}
         joins = self._from(shape)
         return f"FROM {joins}{where(self._left_over(shape))}"
@@ -146,8 +151,9 @@ class Writing:
         return bracketed(self.text(text))
 
     def _alone(self, shape: Shape) -> list[str]:
-        """The own conditions of entries that nothing has tested yet: a part tests those of its entries, and a renamed
-        column comes from a subquery that does."""
+        """The own conditions that haven't been tested yet. A part tests those of its entries, and a renamed column
+        comes from a subquery that tests them.
+        """
         within = {*self.rows, *self.within, *(named.entry for named in self.query.renamed)}
         numbers = [number for number in entries_of(shape) if number not in within]
         return [text for number in numbers for text in own_conditions(self.query.entries[number])]
@@ -184,7 +190,7 @@ class Writing:
         return self._part(shape)
 
     def _part(self, shape: Shape) -> str:
-        """Makes the joins of this shape a part. Answers its name."""
+        """Writes the joins of this shape as a part. Returns its name."""
         outside, self.within = self.within, {}
         joins, alone = self._from(shape), self._alone(shape)
         needed = [Named(number, column) for number in entries_of(shape) for column in self.columns[number]]

@@ -1,7 +1,7 @@
-"""A cluster on this machine: a coordinator, and servers that hold the rows of its tables.
+"""A cluster on this machine: a coordinator, and servers that have the rows of its tables.
 
-Each table of the coordinator is partitioned by the hash of its first column, and each part is a table of another
-server, reached by postgres_fdw. Plans join and count part by part.
+Each table of the coordinator is partitioned by the hash of its first column. Each partition is a table of another
+server, reached by postgres_fdw. Plans join and count partition by partition.
 """
 
 from __future__ import annotations
@@ -18,13 +18,14 @@ from server import GoneOnLeaving, Server, connected_by, free_ports, new_folder, 
 
 SERVERS = 2
 PART_BY_PART = ("enable_partitionwise_join=on", "enable_partitionwise_aggregate=on")
-# Rows come and go in large pieces, and from all servers at once.
+# Rows are sent in large batches, and from all servers at once.
 OPTIONS = {"host": "127.0.0.1", "fetch_size": "10000", "batch_size": "1000", "async_capable": "true"}
 
 
 class Cluster:
-    """The cluster whose servers have their data in a folder, through one database of each server. It runs until `stop`,
-    whichever process calls that."""
+    """The servers of a cluster, with their data in a folder, and one database of each server. They run until `stop`,
+    which another process may call.
+    """
 
     def __init__(self, folder: str, database: str = "postgres") -> None:
         self.folder = folder
@@ -48,8 +49,9 @@ class Cluster:
         server.start()
 
     def add_database(self, name: str) -> None:
-        """Makes a database of this name on each server, and links the coordinator's to the others. Only the process
-        that started the cluster may call it."""
+        """Makes a database of this name on each server, and links the coordinator's database to the others. Only the
+        process that started the cluster may call it.
+        """
         at_once(partial(server.add_database, name) for server in self.all)
         self._link(name)
 
@@ -73,7 +75,7 @@ class Cluster:
         return self.coordinator.url
 
     def script(self, text: str) -> None:
-        """Runs statements, of which each CREATE TABLE makes a table whose rows lie on the servers."""
+        """Runs statements. Each CREATE TABLE among them makes a table whose rows are on the servers."""
         with connected(self.coordinator) as coordinator:
             for statement in filter(str.strip, text.split(";")):
                 made = re.match(r"\s*CREATE TABLE (\w+)\s*\((.*)\)\s*$", statement, re.DOTALL)
@@ -86,7 +88,7 @@ class Cluster:
                     coordinator.execute(statement)
 
     def _partitioned(self, coordinator: Any, name: str, columns: str) -> None:
-        """Keys are left out: a partitioned table can't have a key over parts on other servers."""
+        """Creates a partitioned table without keys: it can't have a key over partitions on other servers."""
         keyless = re.sub(r"\s+(PRIMARY KEY|UNIQUE)\b", " NOT NULL", columns)
         coordinator.execute(f"CREATE TABLE {name} ({keyless}) PARTITION BY HASH ({columns.split()[0]})")
         for number in range(1, SERVERS + 1):
@@ -95,8 +97,9 @@ class Cluster:
             coordinator.execute(f"CREATE FOREIGN TABLE {part} OPTIONS (table_name '{name}')")
 
     def on_servers(self, statement: str) -> None:
-        """Runs a statement on each server. In it {number} stands for the number of the server, from 0, and {servers}
-        for how many servers there are."""
+        """Runs a statement on each server. It may have {number} for the number of the server, from 0, and {servers} for
+        the number of servers.
+        """
         texts = [
             statement.replace("{number}", str(number)).replace("{servers}", str(SERVERS)) for number in range(SERVERS)
         ]
@@ -119,7 +122,7 @@ def at_once(calls: Iterable[Callable[[], None]]) -> None:
 
 
 class Here(Cluster, GoneOnLeaving):
-    """A cluster that starts on entering, and is gone on leaving."""
+    """A cluster for a `with`. It starts on entering, and is removed on leaving."""
 
     def __init__(self) -> None:
         super().__init__(new_folder())

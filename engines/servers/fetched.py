@@ -1,4 +1,4 @@
-"""What comes from the servers of a cluster, as EXPLAIN tells it."""
+"""The statements and rows that servers of a cluster send and receive, by EXPLAIN."""
 
 from __future__ import annotations
 
@@ -9,19 +9,19 @@ PREPARED = re.compile(r"\bWHERE\b|\bGROUP BY\b|\bcount\(", re.IGNORECASE)
 
 
 class Fetch(NamedTuple):
-    """What a server is asked, and how many rows come."""
+    """The statement that a server gets, and the number of rows that it sends."""
 
     asked: str
     rows: int
 
     @property
     def whole(self) -> bool:
-        """Whether all rows of a table come, as they are."""
+        """Whether all rows of a table are sent unchanged."""
         return not PREPARED.search(self.asked)
 
 
 def fetches(ask: Callable[[str], list[tuple[Any, ...]]], sql: str) -> list[Fetch]:
-    """What servers are asked when the statement is run, and how many rows come."""
+    """The statements that servers get when the statement runs, and the numbers of rows that they send."""
     return list(_of(ask(f"EXPLAIN (ANALYZE, VERBOSE, FORMAT JSON) {sql}")[0][0][0]["Plan"]))
 
 

@@ -1,4 +1,4 @@
-"""Tables that the servers of a cluster fill themselves, or one server alone, at a multiple of a size."""
+"""Tables that are filled by the servers of a cluster themselves, or by a single server, at a multiple of a size."""
 
 from __future__ import annotations
 
@@ -8,14 +8,15 @@ from typing import NamedTuple
 from cluster import Cluster, connected
 from server import Server
 
-# Every server makes all rows, and keeps those that the coordinator's partitions put there.
+# Every server makes all rows, and keeps those that the coordinator's partitioning assigns to it.
 PLACES = "CREATE TABLE IF NOT EXISTS place (k INTEGER) PARTITION BY HASH (k)"
 KEPT = " WHERE satisfies_hash_partition('place'::regclass, {servers}, {number}, k)"
 
 
 class Made(NamedTuple):
-    """The schema of some tables, and for each of them a query that makes its rows at size {s}. The first column, k,
-    says on which server a row lies."""
+    """The schema of some tables, and for each table a query that makes its rows at size {s}. The first column, k,
+    decides which server has a row.
+    """
 
     schema: str
     rows: dict[str, str]
@@ -26,7 +27,7 @@ class Made(NamedTuple):
         for table in self.rows:
             cluster.on_servers(self.filling(table, times, KEPT))
         cluster.on_servers("ANALYZE")
-        # Tables are named, since ANALYZE alone passes over foreign tables.
+        # The tables are named, since a bare ANALYZE skips foreign tables.
         cluster.script(f"ANALYZE {', '.join(self.rows)}")
 
     def fill_one(self, server: Server, times: int | Fraction) -> None:

@@ -1,5 +1,6 @@
-"""A PostgreSQL of our own: its data in a folder, reached by a socket there, or by a port of this machine and a
-password."""
+"""A PostgreSQL server of our own. Its data is in a folder. It is reached by a socket in that folder, or by a port of
+this machine and a password.
+"""
 
 from __future__ import annotations
 
@@ -16,7 +17,7 @@ SETTINGS = ("fsync=off", "full_page_writes=off", "synchronous_commit=off", "max_
 
 
 def programs() -> str | None:
-    """The folder of PostgreSQL's programs, the newest one's; None where none is installed."""
+    """The folder of the newest PostgreSQL's programs, or None if PostgreSQL isn't installed."""
     folders = sorted(glob.glob("/usr/lib/postgresql/*/bin"), key=lambda folder: int(folder.split("/")[-2]))
     found = shutil.which("initdb")
     if found:
@@ -25,7 +26,7 @@ def programs() -> str | None:
 
 
 def owner() -> str | None:
-    """The user that servers run as, where it is another one: PostgreSQL refuses to be root."""
+    """The user that servers run as, or None for the current user. PostgreSQL refuses to run as root."""
     return "postgres" if os.geteuid() == 0 else None
 
 
@@ -37,7 +38,7 @@ def own(path: str) -> None:
 
 
 def free_ports(count: int) -> list[int]:
-    """Ports of this machine that nobody listens on."""
+    """Free ports of this machine."""
     sockets = [socket.socket() for _ in range(count)]
     for one in sockets:
         one.bind(("127.0.0.1", 0))
@@ -62,7 +63,7 @@ def connected_by(url: str) -> Iterator[Any]:
 
 
 class Server:
-    """A server in a folder of its own, which no other user may look into."""
+    """A server in a folder of its own, which other users can't read."""
 
     def __init__(
         self, folder: str, port: int | None = None, settings: tuple[str, ...] = (), database: str = "postgres"
@@ -98,7 +99,7 @@ class Server:
             raise RuntimeError("PostgreSQL isn't installed")
         front = ["runuser", "-u", user, "--"] if user else []
         command = front + [os.path.join(folder, program), *words]
-        # To a file, since the server that pg_ctl starts would keep a pipe open.
+        # The output goes to a file: the server that pg_ctl starts would keep a pipe open.
         with tempfile.TemporaryFile("w+") as said:
             done = subprocess.run(command, cwd=self.folder, stdout=said, stderr=subprocess.STDOUT)
             if done.returncode:
@@ -107,7 +108,7 @@ class Server:
 
     @property
     def url(self) -> str:
-        """Where its database is reached while it runs, whichever process started it."""
+        """The address of its database while it runs. Any process may have started it."""
         return self.url_of(self.database)
 
     def url_of(self, database: str) -> str:
@@ -119,7 +120,7 @@ class Server:
 
 
 class GoneOnLeaving:
-    """Stops on leaving, and takes its folder away."""
+    """Stops on leaving a `with`, and removes its folder."""
 
     folder: str
 
@@ -134,7 +135,7 @@ class GoneOnLeaving:
 
 
 class Alone(Server, GoneOnLeaving):
-    """A server that starts on entering, and is gone on leaving."""
+    """A server for a `with`. It starts on entering, and is removed on leaving."""
 
     def __init__(self, settings: tuple[str, ...] = ()) -> None:
         super().__init__(new_folder(), settings=settings)

@@ -1,4 +1,4 @@
-"""The shop of `bench/shop` at a multiple of its size."""
+"""The shop of `bench/shop`, at a multiple of its size."""
 
 from __future__ import annotations
 
@@ -17,7 +17,7 @@ CREATE TABLE item (order_id INTEGER NOT NULL, product INTEGER NOT NULL);
 CREATE TABLE orders (id INTEGER PRIMARY KEY, customer INTEGER NOT NULL, dayno INTEGER NOT NULL);
 CREATE TABLE customer (id INTEGER PRIMARY KEY, region INTEGER NOT NULL)"""
 
-# The rows of each table, by the number i of a row and the size s. The first column, k, says on which server a row lies.
+# The rows of each table, by the number i of a row and the size s. The first column, k, decides which server has a row.
 ROWS = {
     "product": "SELECT i AS k, i % 4 FROM generate_series(0, 20000 * {s} - 1) AS i",
     "item": (

@@ -1,7 +1,7 @@
 """Skewed tables of films and people, and random queries over them.
 
-A few films have most castings, keywords, ratings and awards, and these films are recent. A few people have most
-castings, ratings and awards. Planners expect fewer rows, since they take columns for independent.
+A few films have most of the castings, keywords, ratings and awards, and these films are recent. A few people have most
+of the castings, ratings and awards. Planners expect too few rows, since they assume that columns are independent.
 """
 
 from __future__ import annotations
@@ -21,13 +21,14 @@ CREATE TABLE award (person INTEGER NOT NULL, title INTEGER NOT NULL, kind INTEGE
 
 
 def _chance(number: int) -> str:
-    """SQL for a number that row i gets, at least 0 and below 1. It looks random, and is the same on all servers."""
+    """SQL for a pseudorandom number of row i, at least 0 and below 1. It is the same on all servers."""
     return f"((hashint8(i * 16 + {number}) & 2147483647) / 2147483648.0::float8)"
 
 
 def _few(most: str, power: float, number: int) -> str:
-    """SQL for a whole number that row i gets, at least 0 and below `most`. If `power` is above 1, low numbers are more
-    frequent."""
+    """SQL for a pseudorandom whole number of row i, at least 0 and below `most`. If `power` is above 1, low numbers are
+    more frequent.
+    """
     return f"floor({most} * power({_chance(number)}, {power}))::integer"
 
 
@@ -51,7 +52,7 @@ MADE = Made(
     },
 )
 
-# Which columns are joined: a table and its column, and then the other table and its column.
+# The columns that are joined: a table and its column, then the other table and its column.
 EDGES = [
     ("casting", "title", "title", "id"), ("casting", "person", "person", "id"), ("keyword", "title", "title", "id"),
     ("rating", "title", "title", "id"), ("rating", "person", "person", "id"), ("award", "person", "person", "id"),
@@ -73,8 +74,8 @@ CONDITIONS = {
 
 
 def query(number: int) -> str:
-    """A random query of three to six entries. The same number gives the same query. It selects count(*), so that its
-    rows needn't be read.
+    """A random query of three to six entries. The same number gives the same query. It selects count(*), so that no
+    rows have to be read.
     """
     chosen = random.Random(number)
     entries = [chosen.choice(EDGES)[0]]
@@ -95,6 +96,6 @@ def query(number: int) -> str:
 
 
 def _ways(table: str) -> list[tuple[str, str, str]]:
-    """What a table is joined with: its own column, the other table, and the other table's column."""
+    """The joins of a table: its own column, the other table, and the other table's column."""
     forth = [(mine, other, theirs) for one, mine, other, theirs in EDGES if one == table]
     return forth + [(mine, other, theirs) for other, theirs, one, mine in EDGES if one == table]

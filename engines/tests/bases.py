@@ -1,4 +1,4 @@
-"""Databases of the tests, one on each engine, with a connection of the engine's own driver, which may write."""
+"""Databases for the tests, one on each engine. Each has a connection by the engine's own driver, which may write."""
 
 from __future__ import annotations
 
@@ -22,16 +22,18 @@ if TYPE_CHECKING:
 ROOT = Path(__file__).resolve().parents[2]
 POSTGRES = os.environ.get("SAFEBOUND_SQL_POSTGRES")
 CLUSTER = os.environ.get("SAFEBOUND_SQL_CLUSTER")
-# The database of this process. Roles and other databases, which all databases of a server share, have names made of it.
+# The database of this process. All databases of a server share its roles and the list of databases, so their names are
+# made from it.
 DATABASE = os.environ.get("SAFEBOUND_SQL_DATABASE", "postgres")
 GATE = bool(os.environ.get("SAFEBOUND_SQL_GATE"))
-# Numbers that tests add up. engines/test prints them at the end.
+# Numbers that tests add up. engines/test prints the sums.
 COUNTED: Counter[str] = Counter()
 
 
 class SqliteBase:
-    """A file in a temporary folder. It has a write-ahead log, so that others may write while it is read: then a test
-    can see whether there is a snapshot."""
+    """A file in a temporary folder. Its write-ahead log lets other connections write while it is read, so that tests
+    can check the snapshot.
+    """
 
     engine = "sqlite"
 
@@ -90,7 +92,7 @@ class PostgresBase:
 
 
 class ClusterBase:
-    """The cluster's database, emptied. One server has the same tables and rows, and gives the right answers."""
+    """The cluster's database, emptied. A single server has the same tables and rows, for comparison."""
 
     engine = "postgres"
 
@@ -133,12 +135,13 @@ class ClusterBase:
 
 class OnEachEngine(unittest.TestCase):
     """Tests that run on SQLite. `on_postgres` makes a class that runs them on PostgreSQL. `schema` and `fill` make the
-    tables."""
+    tables.
+    """
 
     base: Any
     base_class: type = SqliteBase
     schema = ""
-    # Whether each test may run in a process of its own, beside the others.
+    # Whether each test may run in a process of its own.
     apart = False
 
     @classmethod
@@ -151,10 +154,10 @@ class OnEachEngine(unittest.TestCase):
 
     @classmethod
     def fill(cls) -> None:
-        """Puts rows into the tables."""
+        """Fills the tables."""
 
     def opened(self, text: str, reduce: bool = True) -> Planner:
-        """A planner over the query."""
+        """A planner for the query."""
         engine = opened(self.base.url, None)
         self.addCleanup(engine.connection.close)
         return Planner(engine, text, reduce)
@@ -166,13 +169,13 @@ class OnEachEngine(unittest.TestCase):
         return planner, planner.plan(accuracy, budget, tree)
 
     def same_rows(self, planner: Planner, plan: Plan, text: str) -> None:
-        """Checks that the rows of the planned SQL are those of the query itself, each as often."""
+        """Checks that the planned SQL returns the rows of the query itself, each as often."""
         connection = planner.engine.connection
         connection.keep_order()
         self.assertEqual(counted(connection.rows(planner.sql(plan))), counted(self.base.rows(text)), text)
 
     def never_under(self, planner: Planner, plan: Plan, text: str) -> list[int]:
-        """Checks that no level has more rows than its bound. Answers the rows of the levels."""
+        """Checks that no level has more rows than its bound. Returns the numbers of rows."""
         true = planner.true_rows(plan)
         for level, rows in zip(plan.levels, true, strict=True):
             self.assertLessEqual(rows, level.bound, f"{level.shape} of {text}\n{planner.sql(plan)}")
@@ -184,14 +187,14 @@ def counted(rows: list[Row]) -> Counter[str]:
 
 
 def on_postgres(test: type[OnEachEngine]) -> type[OnEachEngine]:
-    """The same tests on PostgreSQL, passed over where there is none."""
+    """The same tests on PostgreSQL. They are skipped if it isn't installed."""
     return unittest.skipUnless(POSTGRES, "no PostgreSQL")(
         type(test.__name__ + "OnPostgres", (test,), {"base_class": PostgresBase, "__module__": test.__module__})
     )
 
 
 def on_cluster(test: type[OnEachEngine]) -> type[OnEachEngine]:
-    """The same tests on the cluster, passed over where there is none."""
+    """The same tests on the cluster. They are skipped if there is no cluster."""
     return unittest.skipUnless(CLUSTER, "no cluster")(
         type(test.__name__ + "OnCluster", (test,), {"base_class": ClusterBase, "__module__": "test_cluster"})
     )

@@ -1,4 +1,4 @@
-"""A movie schema with skew, in the manner of the Join Order Benchmark, and queries of its form."""
+"""A skewed schema of movies like that of the Join Order Benchmark, and queries of its form."""
 
 from __future__ import annotations
 
@@ -55,7 +55,7 @@ WHERE cn.country_code IS NOT NULL AND mi.info > '5.0' AND t.production_year BETW
 
 
 def rows() -> dict[str, list[Row]]:
-    """The tables' rows: few movies have most of everything."""
+    """The tables' rows. A few movies have most of the rows."""
     chosen = random.Random(52)
 
     def few(most: int) -> int:

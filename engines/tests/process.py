@@ -1,4 +1,4 @@
-"""safebound-sql as a process of its own."""
+"""Runs safebound-sql as a process of its own."""
 
 from __future__ import annotations
 
@@ -8,12 +8,12 @@ from typing import Any
 
 from bases import ROOT
 
-# A test of a mutant runs a copy of the program.
+# Tests of mutants set this variable to a changed copy of the program.
 PROGRAM = os.environ.get("SAFEBOUND_SQL_PROGRAM", str(ROOT / "engines" / "safebound-sql"))
 
 
 class Process:
-    """For tests that have a `base`: a command over its database, and a query on standard input."""
+    """For tests that have a `base`: runs a command on its database, with a query on standard input."""
 
     base: Any
 

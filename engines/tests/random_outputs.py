@@ -1,5 +1,6 @@
-"""Random queries over USING or ON, with ORDER BY, and with outputs named like columns of the tables. What stands above
-the join (outputs, grouping, order, limit) has to mean the same in the planned SQL."""
+"""Random queries over USING or ON, with ORDER BY and with outputs named like columns of the tables. The clauses above
+the join (outputs, grouping, order, limit) must mean the same in the planned SQL.
+"""
 
 from __future__ import annotations
 
@@ -15,14 +16,15 @@ TYPES_OF_ID = {
     "sqlite": ("INTEGER", "INTEGER", "REAL", "NUMERIC"),
     "postgres": ("INTEGER", "INTEGER", "BIGINT", "NUMERIC", "NUMERIC(7, 1)"),
 }
-# If USING merges columns of two of these types, PostgreSQL converts the earlier type to the later one. But if INTEGER
-# or BIGINT meets NUMERIC(7, 1), it converts both to NUMERIC.
+# The order of types by conversion. If USING merges columns of two of these types, PostgreSQL converts the earlier type
+# to the later one. There is one exception: INTEGER or BIGINT with NUMERIC(7, 1) are both converted to NUMERIC.
 WIDER = ("INTEGER", "BIGINT", "NUMERIC(7, 1)", "NUMERIC")
 
 
 class QueriesOfNamedOutputs:
-    """Tables and queries from a number, the same each time. Every query has ORDER BY over all its outputs, so that the
-    order of its rows is determined."""
+    """Tables and queries that a number determines. Every query has ORDER BY over all its outputs, so that the order of
+    its rows is determined.
+    """
 
     def __init__(self, number: int, engine: str) -> None:
         self.random = random.Random(f"names {number} {engine}")
@@ -51,7 +53,7 @@ class QueriesOfNamedOutputs:
         return number if name in "kv" else "abcdef"[number]
 
     def query(self) -> str:
-        """A query over USING or ON of two to four entries."""
+        """A query over USING or ON, of two to four entries."""
         choose = self.random.choice
         count = choose((2, 2, 3, 4))
         self.entries = [(f"e{n}", self.random.randrange(TABLES)) for n in range(count)]
@@ -69,8 +71,9 @@ class QueriesOfNamedOutputs:
         return choose((self._plain, self._plain, self._grouped))(sources, where)
 
     def converts_both(self, schema: str) -> bool:
-        """Whether USING merges an INTEGER or BIGINT column with a later NUMERIC(7, 1) one. The type of the merged
-        column is then neither of theirs."""
+        """Whether USING merges an INTEGER or BIGINT column with a later NUMERIC(7, 1) column. The merged column then
+        has neither of their types.
+        """
         if self.engine == "sqlite" or "id" not in self.merged:
             return False
         types = re.findall(r"\(id (.*?), k", schema)
@@ -91,7 +94,7 @@ class QueriesOfNamedOutputs:
         )
 
     def _operand(self) -> str:
-        """A column: a merged one without a table, another one with its entry."""
+        """A column: a merged column without a table, any other column with its entry."""
         if self.merged and self.random.random() < 0.5:
             return self.random.choice(self.merged)
         alias, table = self.random.choice(self.entries)
@@ -136,7 +139,7 @@ class QueriesOfNamedOutputs:
         )
 
     def _order(self, aliases: list[str]) -> str:
-        """All outputs, by their names or numbers."""
+        """ORDER BY over all outputs, by their names or numbers."""
         places = list(range(len(aliases)))
         self.random.shuffle(places)
         return ", ".join(

@@ -1,4 +1,6 @@
-"""Random queries over random skewed tables, in the SQL of either engine, with what the test knows of their meaning."""
+"""Random queries over random skewed tables, in the SQL of PostgreSQL or SQLite. A test also gets their conditions and
+entries.
+"""
 
 from __future__ import annotations
 
@@ -37,8 +39,9 @@ OUTPUTS = (
 
 
 def in_tens(queries: int) -> Callable[[type[OnEachEngine]], type[OnEachEngine]]:
-    """Gives a class one test for each ten random queries, which share their tables. The test calls the method `ask`
-    with the numbers of the queries."""
+    """A decorator that gives a class one test for each ten random queries, which share their tables. The test calls the
+    method `ask` with the numbers of the queries.
+    """
 
     def with_tests(test: type[OnEachEngine]) -> type[OnEachEngine]:
         for begin in range(SEED, SEED + queries, 10):
@@ -59,21 +62,22 @@ class RandomQuery:
     text: str = ""
 
     def count_of(self, names: set[str]) -> str:
-        """The query that counts the choices of rows of these entries which satisfy the conditions on them alone."""
+        """A query that counts the choices of rows of these entries that satisfy the conditions on these entries alone.
+        """
         sources = ", ".join(f"t{table} AS {name}" for name, table in self.entries if name in names)
         complete = [f"({text})" for text, named in self.conditions if named <= names]
         return f"SELECT count(*) FROM {sources}" + (f" WHERE {' AND '.join(complete)}" if complete else "")
 
 
 class Randomly:
-    """Tables and queries from a number, the same each time."""
+    """Tables and queries that a number determines."""
 
     def __init__(self, number: int, engine: str) -> None:
         self.random = random.Random(f"{number} {engine}")
         self.sqlite = engine == "sqlite"
 
     def schema(self) -> str:
-        """Columns of some tables are compared in another way than those of others."""
+        """The schema. Columns of some tables are compared differently from those of other tables."""
         tables = []
         for table in range(TABLES):
             nocase = " COLLATE NOCASE" if self.sqlite and self.random.random() < 0.3 else ""
@@ -82,7 +86,7 @@ class Randomly:
         return "\n".join(tables)
 
     def lay(self, base: Any) -> None:
-        """Makes the tables in a base of the tests, and fills them."""
+        """Makes the tables in a test database, and fills them."""
         base.script(self.schema())
         for table in range(TABLES):
             base.fill(f"t{table}", self.rows())
@@ -131,8 +135,9 @@ class Randomly:
         found.conditions.append((text, frozenset((found.entries[left][0], found.entries[right][0]))))
 
     def _filled(self, found: RandomQuery, form: str, left: int, right: int) -> str:
-        """The form with columns in place of letters: of the left entry for small ones, of the right one for
-        capitals."""
+        """The form with columns in place of letters. A small letter is a column of the left entry, a capital letter one
+        of the right entry.
+        """
         values = {"c": self.random.randrange(5), "a": found.entries[left][0]}
         for name in TYPES:
             values[name] = self._column(found, left, name)
@@ -140,7 +145,7 @@ class Randomly:
         return form.format(**values)
 
     def _column(self, found: RandomQuery, entry: int, name: str) -> str:
-        """A column with its entry, or at times without it, if no other entry has this column."""
+        """A column with its entry. If no other entry has this column, the entry is left out at times."""
         alias, table = found.entries[entry]
         clear = sum(other == table for _, other in found.entries) == 1
         return f"{name}{table}" if clear and self.random.random() < 0.2 else f"{alias}.{name}{table}"

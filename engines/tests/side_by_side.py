@@ -1,4 +1,4 @@
-"""Pieces of work side by side, each in a process of its own, which has a database of its own."""
+"""Runs pieces of work side by side, each in a process of its own with a database of its own."""
 
 from __future__ import annotations
 
@@ -19,8 +19,8 @@ PASSED_OVER = "passed over"
 
 @dataclass(frozen=True)
 class Result:
-    """How a test ended, and for one that failed or was passed over why. `worked` is processor time, without that of
-    servers."""
+    """The outcome of a test, and why it failed or was skipped. `worked` is processor time, without that of servers.
+    """
 
     name: str
     seconds: float
@@ -31,7 +31,7 @@ class Result:
 
 @dataclass(frozen=True)
 class Done:
-    """The results of a piece, and what its tests counted."""
+    """The results of a piece, and the numbers that its tests added up."""
 
     results: list[Result]
     counted: Counter[str] = field(default_factory=Counter)
@@ -39,7 +39,7 @@ class Done:
 
 @dataclass(frozen=True)
 class Piece(Generic[T]):
-    """Some work under a name. It begins in a process in which nothing of safebound_sql is loaded."""
+    """A named piece of work. Its process starts without any module of safebound_sql loaded."""
 
     name: str
     work: Callable[[], T]
@@ -49,7 +49,7 @@ Place = Dict[str, str]
 
 
 def all_done(pieces: list[Piece[T]], places: list[Place]) -> Iterator[tuple[Piece[T], T | None]]:
-    """The answer of each piece, as soon as it is there; None if its process ended without one.
+    """The result of each piece, as soon as it is there. The result is None if the process ended without one.
 
     A place is the environment of a process. No two processes have the same place at the same time.
     """
@@ -67,7 +67,7 @@ def all_done(pieces: list[Piece[T]], places: list[Place]) -> Iterator[tuple[Piec
 
 
 def _started(piece: Piece[T], place: Place) -> Connection:
-    """A process that is a copy of this one as it is now (a fork)."""
+    """Starts a process that is a copy of this one (a fork)."""
     fork = multiprocessing.get_context("fork")
     receives, sends = fork.Pipe(duplex=False)
     fork.Process(target=_worked, args=(piece, place, sends), daemon=True).start()
@@ -90,7 +90,7 @@ def _received(receives: Connection) -> Any:
 
 
 class TimedResult(unittest.TestResult):
-    """Results of tests, with the time that each took."""
+    """Results of tests, and the time that each took."""
 
     def __init__(self) -> None:
         super().__init__()
@@ -130,8 +130,9 @@ def tests(names: list[str]) -> Done:
 
 
 def found(names: list[str], processes: int) -> list[tuple[str, list[str]]]:
-    """The tests of these names, or all, in pieces. The tests of a class are one piece, or a few pieces if the class is
-    `apart`."""
+    """The tests of these names, or all tests, in pieces. The tests of a class are one piece, or a few pieces if the
+    class is `apart`.
+    """
     loader = unittest.defaultTestLoader
     suite = loader.loadTestsFromNames(names) if names else loader.discover(os.getcwd(), "test_*.py")
     classes: dict[str, dict[str, None]] = {}

@@ -1,5 +1,6 @@
-"""Queries of several blocks and outer joins: each block's levels have no more rows than their bounds, and the rows
-are the query's."""
+"""Tests queries of several blocks and outer joins. No level of a block has more rows than its bound, and the rows are
+those of the query.
+"""
 
 from __future__ import annotations
 
@@ -19,7 +20,7 @@ QUERIES_OF_THE_ARCHIVE = ROOT / "bench" / "archive_queries"
 
 class InBlocks(OnEachEngine, Process):
     def tried_in_blocks(self, text: str, budget: int = MOST_BUDGET) -> block_plans.Planner:
-        """Plans a query, and checks its rows and those of its levels. Answers the planner."""
+        """Plans a query, and checks its rows and those of its levels. Returns the planner."""
         engine = opened(self.base.url, None)
         try:
             self.assertTrue(block_plans.several(text, engine))
@@ -41,7 +42,7 @@ class InBlocks(OnEachEngine, Process):
             engine.connection.close()
 
     def bounded(self, text: str) -> bool:
-        """Whether each join of the query is bounded."""
+        """Whether every join of the query has a bound."""
         engine = opened(self.base.url, None)
         several = block_plans.several(text, engine)
         engine.connection.close()
@@ -72,7 +73,7 @@ class Blocks(InBlocks):
         cls.base.fill("v", [(None,)] * 5)
 
     def bounds(self, text: str, *bounds: list[int]) -> None:
-        """Checks the bounds of the blocks' levels, the inner blocks first, against those that are counted by hand."""
+        """Compares the bounds of the blocks' levels with bounds computed by hand. The inner blocks come first."""
         with self.subTest(text):
             planner = self.tried_in_blocks(text)
             self.assertEqual(planner.unbounded, [])
@@ -82,7 +83,8 @@ class Blocks(InBlocks):
                 )
 
     def test_outer_joins(self) -> None:
-        # The rows of k meet at most 12 rows of b: three values stand in four rows each. Up to 3 rows of k are added.
+        # The rows of k match at most 12 rows of b: three values occur in four rows each. A LEFT JOIN adds up to 3 rows
+        # of k.
         self.bounds("SELECT k.x, b.z FROM k LEFT JOIN b ON k.x = b.x", [3, 15])
         self.bounds("SELECT k.x, b.z FROM k LEFT JOIN b ON k.x = b.x AND b.z < 5", [3, 6])
         self.bounds("SELECT k.x, b.z FROM b RIGHT JOIN k ON k.x = b.x", [20, 15])
@@ -134,7 +136,7 @@ class Blocks(InBlocks):
         for count in ("count(*)", "count(*) FILTER (WHERE b.z > 0)", "coalesce(max(b.z), 1)"):
             self.bounds(f"SELECT s.n, k.x FROM (SELECT {count} AS n FROM b WHERE b.z > 99) AS s, k", [0], [1, 3])
         self.bounds("SELECT s.x FROM (SELECT x FROM k UNION ALL SELECT y FROM c) AS s, k", [3], [12], [3, 45])
-        # A part of WITH hides the table of its name.
+        # A part of WITH hides the table with the same name.
         self.bounds("WITH c AS (SELECT 1 AS y) SELECT b.z FROM b WHERE b.y IN (SELECT y FROM c)")
         self.bounds("SELECT s.n, k.x FROM (SELECT count(*) AS n FROM b, c WHERE b.y = c.y) AS s, k", [12, 60], [1, 3])
 
@@ -210,8 +212,8 @@ class Blocks(InBlocks):
         self.assertIn("refused: not all blocks are bounded: WITH RECURSIVE at line 1, column 6", done.stderr)
 
     def test_bounds_past_all_numbers(self) -> None:
-        """The bound of twelve entries without an equality is past 64 bits; then the block above isn't bounded
-        either."""
+        """The bound of twelve entries without an equality exceeds 64 bits. Then the block above isn't bounded either.
+        """
         many = ", ".join(f"b AS b{n}" for n in range(12))
         done = self.tried("plan", text=f"SELECT s.n FROM (SELECT b0.x AS n FROM {many}) AS s, k")
         self.assertIn("not bounded: the query: s at line 1", done.stdout, done.stderr)
@@ -229,7 +231,7 @@ class Blocks(InBlocks):
 
 @unittest.skipUnless(POSTGRES, "no PostgreSQL")
 class Tpch(InBlocks):
-    """The 22 queries of TPC-H: in each of them each join is bounded."""
+    """The 22 queries of TPC-H. Each join of each query has a bound."""
 
     base_class = PostgresBase
     schema = tpch.SCHEMA
@@ -249,7 +251,7 @@ class Tpch(InBlocks):
 
 @unittest.skipUnless(QUERIES_OF_THE_ARCHIVE.is_dir(), "no queries of the archive")
 class Archive(InBlocks):
-    """Queries over packages that the program itself doesn't take: outer joins, WITH, UNION, subqueries."""
+    """Queries over packages that safebound_cli doesn't accept: outer joins, WITH, UNION, subqueries."""
 
     @classmethod
     def fill(cls) -> None:

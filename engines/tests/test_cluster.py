@@ -1,4 +1,4 @@
-"""A cluster: counts and rows are those of one server, and servers send what is left of their tables."""
+"""Tests a cluster. Its counts and rows are those of a single server, and servers send only remaining rows or values."""
 
 from __future__ import annotations
 
@@ -39,13 +39,13 @@ class OnCluster(OnEachEngine):
             engine.connection.close()
 
     def same_counts(self, text: str) -> None:
-        """Counts, and so the plan, are the same as on one server."""
+        """Checks that counts, and so the plan, equal those of a single server."""
         for reduce in (True, False):
             with self.subTest(reduce=reduce):
                 self.assertEqual(self.counts(text, reduce), self.counts(text, reduce, self.base.alone.url), text)
 
     def asked(self, text: str, reduce: bool = True, rows: bool = False) -> list[Fetch]:
-        """What the servers are asked by the counting statement, or by the one that joins the rows."""
+        """The statements that servers get from the counting statement, or from the statement that joins the rows."""
         from fetched import fetches
 
         planner = self.opened(text, reduce)
@@ -58,7 +58,7 @@ class OnCluster(OnEachEngine):
 
 @unittest.skipUnless(CLUSTER, "no cluster")
 class TheShop(OnCluster, Process):
-    """67,000 rows."""
+    """Tests the shop with 67,000 rows."""
 
     TIMES = Fraction(1, 10)
     text: str
@@ -105,7 +105,7 @@ class TheShop(OnCluster, Process):
                     self.assertLess(sum(fetch.rows for fetch in asked), 10_000)
 
     def test_no_nested_loops(self) -> None:
-        """PostgreSQL expects one row of what is left of a part, however many there are."""
+        """PostgreSQL expects one row in a part with remaining values, however many there are."""
         planner, plan = self.planned(
             """SELECT 1 FROM item_1 i JOIN orders_1 o ON o.id = i.order_id JOIN customer_1 c ON c.id = o.customer
             JOIN product_1 p ON p.id = i.product WHERE c.region < 5 AND o.dayno < 50 AND p.id > 2"""
@@ -115,15 +115,16 @@ class TheShop(OnCluster, Process):
         self.assertIn("SET enable_nestloop = off;\nSET jit = off;\n", planner.script(plan))
 
     def test_servers_group_what_isnt_spread_by_the_column(self) -> None:
-        """Of 40,000 items each server sends some 2,000 products. A table that is spread by the column is grouped on the
-        servers too."""
+        """From 40,000 items each server sends some 2,000 products. A table that is partitioned by the column is grouped
+        on the servers too.
+        """
         asked = self.asked("SELECT 1 FROM item i JOIN product p ON p.id = i.product", reduce=False)
         grouped = [fetch for fetch in asked if "GROUP BY" in fetch.asked]
         self.assertEqual(len(grouped), 4)
         self.assertLess(sum(fetch.rows for fetch in grouped), 10_000)
 
     def test_entries_under_no_condition_tell_nothing_at_first(self) -> None:
-        """All 20,000 orders would be sent if the semi-joins began with this leaf of the tree."""
+        """The semi-joins mustn't begin with this leaf of the tree: all 20,000 orders would be sent."""
         text = (
             "SELECT 1 FROM product p JOIN item i ON i.product = p.id JOIN orders o ON o.id = i.order_id WHERE p.id ="
             " 1999"
@@ -132,7 +133,9 @@ class TheShop(OnCluster, Process):
         self.assertLess(sum(fetch.rows for fetch in self.asked(text)), 1_000)
 
     def test_the_command(self) -> None:
-        """It starts servers, fills them, plans, audits and runs, shows what comes from servers, and stops them."""
+        """Runs `engines/cluster`: it starts servers, fills them, plans, audits and runs, shows what servers send, and
+        stops them.
+        """
         done = subprocess.run(
             [ROOT / "engines" / "cluster", "--times", "1/10"], text=True, capture_output=True, timeout=600
         )
@@ -155,7 +158,7 @@ class TheShop(OnCluster, Process):
 
 @unittest.skipUnless(CLUSTER, "no cluster")
 class OtherTables(OnCluster):
-    """Small tables of many kinds. PostgreSQL doesn't send conditions of all kinds to the servers."""
+    """Small tables with conditions of many kinds, some of which PostgreSQL doesn't send to servers."""
 
     schema = """CREATE TABLE a (x INTEGER, y INTEGER, v VARCHAR(5), t TEXT);
 CREATE TABLE b (z INTEGER, x INTEGER, y INTEGER, v VARCHAR(9), t TEXT)"""
@@ -184,7 +187,7 @@ CREATE TABLE b (z INTEGER, x INTEGER, y INTEGER, v VARCHAR(9), t TEXT)"""
         self.assertEqual([fetch for fetch in asked if fetch.whole], [])
 
     def test_what_isnt_sent(self) -> None:
-        """Values of an enum, functions of one's own, and subqueries."""
+        """Conditions on enum values, on functions of the user's own, and with subqueries."""
         kind = "CREATE TYPE mood AS ENUM ('good', 'bad', 'none')"
         self.base.cluster.on_servers(kind)
         odd = "CREATE FUNCTION odd(integer) RETURNS boolean IMMUTABLE LANGUAGE sql AS 'SELECT $1 % 2 = 1'"
@@ -197,7 +200,7 @@ CREATE TABLE b (z INTEGER, x INTEGER, y INTEGER, v VARCHAR(9), t TEXT)"""
         self.checked("SELECT * FROM a JOIN b ON b.x = a.x WHERE odd(b.z) AND a.y IN (SELECT y FROM b WHERE z < 3)")
 
     def test_two_equalities_of_the_same_entries(self) -> None:
-        """The values of each column are sent by themselves. Which of them are of one row is tested in the join."""
+        """The values of each column are sent separately. The join tests which of them are in one row."""
         self.checked("SELECT * FROM a JOIN b ON b.x = a.x AND b.y = a.y WHERE a.t = 't2'")
 
     def test_entries_under_no_condition_tell_in_the_end(self) -> None:
@@ -221,7 +224,7 @@ CREATE TABLE b (z INTEGER, x INTEGER, y INTEGER, v VARCHAR(9), t TEXT)"""
         self.checked("SELECT * FROM a JOIN b ON b.x < a.x WHERE a.x = 3 AND b.z < 4")
 
     def test_parts_of_parts(self) -> None:
-        """By range, by list below it, and one part on the coordinator."""
+        """A table partitioned by range, with partitions partitioned by list, and one part on the coordinator."""
         coordinator = self.base.cluster.coordinator
         self.base.cluster.on_servers("CREATE TABLE deep (z INTEGER, x INTEGER)")
         self.base.on(
@@ -261,7 +264,7 @@ CREATE TABLE b (z INTEGER, x INTEGER, y INTEGER, v VARCHAR(9), t TEXT)"""
         self.assertNotIn("IN (SELECT", planner.counting)
 
     def reader(self, *tables: str) -> str:
-        """The coordinator's address for a user who may read these tables alone."""
+        """The coordinator's address for a user who may read only these tables."""
         coordinator = self.base.cluster.coordinator
         options: list[str] = self.base.on(coordinator, "SELECT umoptions FROM pg_user_mapping LIMIT 1")[0][0]
         password = next(option.partition("=")[2] for option in options if option.startswith("password="))
@@ -276,12 +279,14 @@ CREATE TABLE b (z INTEGER, x INTEGER, y INTEGER, v VARCHAR(9), t TEXT)"""
         return url.replace("//postgres@", f"//{reader}@")
 
     def test_parts_that_may_not_be_read(self) -> None:
-        """A user who may read the table, but not its parts, gets the same counts: rows are fetched to be counted."""
+        """A user who may read the table but not its parts gets the same counts; PostgreSQL fetches the rows and counts
+        them.
+        """
         text = "SELECT 1 FROM a JOIN b ON b.x = a.x WHERE a.y < 3"
         self.assertEqual(self.counts(text, True, self.reader("a", "b")), self.counts(text, True))
 
     def test_policies_of_parts(self) -> None:
-        """A policy of a part hides rows from users who read the part, but not from those who read the whole table."""
+        """A policy on a part hides rows from users who read the part, but not from users who read the whole table."""
         coordinator = self.base.cluster.coordinator
         self.base.on(
             coordinator,
@@ -304,7 +309,7 @@ CREATE TABLE b (z INTEGER, x INTEGER, y INTEGER, v VARCHAR(9), t TEXT)"""
 @unittest.skipUnless(CLUSTER, "no cluster")
 @in_tens(max(10, QUERIES // 4))
 class RandomQueriesOnCluster(AnyQueries, OnCluster):
-    """Fewer than on one server."""
+    """Runs fewer random queries than on a single server."""
 
     def check(self, randomly: Randomly, found: RandomQuery) -> bool:
         self.same_counts(found.text)

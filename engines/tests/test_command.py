@@ -1,4 +1,4 @@
-"""The commands as processes: what they print, how they end, and what they leave behind."""
+"""Runs the commands as processes. Tests what they print, how they end, and that they leave nothing behind."""
 
 from __future__ import annotations
 
@@ -43,7 +43,7 @@ class Commands(OnEachEngine, Process):
         cls.base.fill("trip", trips)
 
     def done(self, command: str, *words: str, text: str | None = None, status: int = 0) -> str:
-        """What a command prints on standard output, or on standard error if it has to fail."""
+        """A command's standard output, or its standard error if it has to fail."""
         ended = self.tried(command, *words, text=self.text if text is None else text)
         self.assertEqual(ended.returncode, status, ended.stderr)
         return ended.stderr if status else ended.stdout
@@ -91,7 +91,7 @@ class Commands(OnEachEngine, Process):
         self.assertIn("budget 3 would do", ended.stderr)
 
     def test_run_with_a_limit(self) -> None:
-        """The rows are some of those of the query without it."""
+        """The rows are among those of the query without the limit."""
         rows = self.done("run", "--budget", "3", text=self.text + "ORDER BY price LIMIT 2").splitlines()
         self.assertEqual(rows[1:], ["Lyon,Ada,80", "\"Paris, capital\",Cleo,90"])
 

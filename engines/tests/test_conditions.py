@@ -1,4 +1,6 @@
-"""Conditions of every kind: those of one entry come first, the others are tested, and texts stay as they were."""
+"""Tests conditions of every kind. Conditions on one entry are tested first, the others in the join; texts are
+unchanged.
+"""
 
 from __future__ import annotations
 
@@ -21,8 +23,9 @@ class Conditioned(OnEachEngine):
         cls.base.fill("b", [(n % 4, n, TEXTS[n % 5], f"2020-02-{n + 1:02}", f"2020-01-{n + 1:02}") for n in range(12)])
 
     def conditions(self, *conditions: tuple[str, int]) -> None:
-        """Checks the rows of a join under each condition, and how many of its conjuncts are on one entry alone: the
-        number beside it."""
+        """Checks the rows of a join under each condition. The number beside it says how many of its conjuncts are on a
+        single entry.
+        """
         for condition, own in conditions:
             text = f"SELECT a.x, b.u, a.d FROM a JOIN b ON a.x = b.x WHERE {condition} ORDER BY 1, 2, 3"
             for reduce in (True, False):

@@ -1,5 +1,5 @@
-"""Corners of SQL where a plan could count other rows than it joins, or hand back another query: each was a wrong
-answer once."""
+"""Corners of SQL where a plan could count other rows than it joins, or return another query. Each was once a bug.
+"""
 
 from __future__ import annotations
 
@@ -16,7 +16,7 @@ WAYS = [(reduce, tree) for reduce in (True, False) for tree in (False, True)]
 
 
 class Corners(OnEachEngine, Process):
-    """Checks that all classes here make."""
+    """Checks that all classes of this file use."""
 
     def refused(self, text: str, *words: str) -> None:
         with self.subTest(text):
@@ -29,8 +29,9 @@ class Corners(OnEachEngine, Process):
                 self.assertIn(word, str(raised.exception))
 
     def right(self, *texts: str) -> None:
-        """Checks for each kind of plan that the rows are those of the query, in the query's order, and that no bound is
-        too low."""
+        """Checks, for each kind of plan, that the rows are those of the query, in the query's order, and that no bound
+        is too low.
+        """
         for text in texts:
             for reduce, tree in WAYS:
                 with self.subTest(text, reduce=reduce, tree=tree):
@@ -45,7 +46,7 @@ class Corners(OnEachEngine, Process):
 
 
 class Names(Corners):
-    """What stands above the join (outputs, grouping, order) means the same in the planned SQL."""
+    """Clauses above the join (outputs, grouping, order) mean the same in the planned SQL."""
 
     schema = """
     CREATE TABLE a (id INTEGER, qty INTEGER, name TEXT);
@@ -158,7 +159,7 @@ class Names(Corners):
 
 
 class ViewsThatChoose(Corners):
-    """A view that chooses some of its rows may choose others while it is counted than while it is joined."""
+    """A view that chooses some of its rows may choose other rows when it is joined than when it is counted."""
 
     schema = """
     CREATE TABLE a (x INTEGER, y INTEGER, t TEXT);
@@ -237,7 +238,7 @@ class CornersOfPostgres(Corners):
         )
 
     def test_the_order_is_kept_over_using(self) -> None:
-        """The planned SQL has USING above the join too, but the engine makes no join for it."""
+        """The planned SQL also has USING above the join, but the engine makes no join for it."""
         planner, plan = self.planned("SELECT x FROM a JOIN b USING (x) JOIN e USING (x)", reduce=False)
         planner.engine.connection.keep_order()
         [[told]] = planner.engine.connection.rows(f"EXPLAIN (FORMAT JSON) {planner.sql(plan)}")
@@ -433,7 +434,7 @@ class Texts(Corners):
         cls.base.fill("b", [(1,), (2,)])
 
     def test_line_ends_stay(self) -> None:
-        """A line end within a text stays as it was written."""
+        """A line end within a text is unchanged."""
         text = "SELECT a.x\r\nFROM a, b\r\nWHERE a.x = b.x AND t = 'one\r\ntwo'\r\n"
         with tempfile.NamedTemporaryFile("wb", suffix=".sql") as file:
             file.write(b"\xef\xbb\xbf" + text.encode())

@@ -1,5 +1,6 @@
-"""Bounds that are counted, on PostgreSQL: the numbers of examples, what isn't counted, and random queries beside the
-engine's own counts."""
+"""Tests counted bounds on PostgreSQL: examples with known numbers, conditions that aren't counted, and random queries
+compared with the engine's own counts.
+"""
 
 from __future__ import annotations
 
@@ -21,14 +22,16 @@ CIRCLE = f"SELECT * FROM e e1, e e2, e e3 WHERE {TRIANGLE}"
 
 
 class CountedBounds(OnEachEngine):
-    """Has no tests of its own."""
+    """Methods for the tests of this file."""
 
     def counted(self, text: str, reduce: bool = True, tree: bool = False) -> tuple[Planner, Plan]:
         planner = self.opened(text, reduce)
         return planner, planner.plan_by_counting(1, MOST_BUDGET, tree)
 
     def bounds(self, text: str, reduce: bool = True) -> list[int]:
-        """The counted bounds of the levels. Checks that they are the levels' rows, and at most the other bounds."""
+        """The counted bounds of the levels. Checks that they equal the levels' rows, and don't exceed the uncounted
+        bounds.
+        """
         planner, plan = self.counted(text, reduce)
         self.assertEqual(planner.true_rows(plan), [level.bound for level in plan.levels], text)
         without = planner.plan(1, MOST_BUDGET, False)
@@ -39,7 +42,7 @@ class CountedBounds(OnEachEngine):
 
 
 class Examples(CountedBounds):
-    """Numbers that are known."""
+    """Examples with known numbers."""
 
     base_class = PostgresBase
     schema = """
@@ -111,7 +114,7 @@ class Examples(CountedBounds):
 
 
 class NotCounted(CountedBounds):
-    """What isn't counted keeps its bound."""
+    """Bounds are unchanged where something can't be counted."""
 
     base_class = PostgresBase
     schema = """
@@ -138,7 +141,7 @@ class NotCounted(CountedBounds):
         cls.base.script("INSERT INTO hub SELECT 0, i FROM generate_series(1, 2001) AS i")
 
     def test_equal_values_that_differ(self) -> None:
-        """Rows are grouped by equal values, and a condition would be tested with one of the values alone."""
+        """Rows are grouped by equal values, so a condition would be tested with only one of the values."""
         for condition in (
             "p.n::text <> q.n::text", "p.u COLLATE \"C\" <> q.u", "p.f::text <> q.f::text", "p.i::text <> q.i::text",
             "p.o < q.o",
@@ -160,7 +163,7 @@ class NotCounted(CountedBounds):
         self.assertEqual(self.bounds("SELECT * FROM a p, a q WHERE p.u = q.u AND p.t <= q.t"), [2, 3])
 
     def test_the_limit_of_pairs(self) -> None:
-        """At the limit pairs are counted; past it they aren't."""
+        """At the limit pairs are counted; above it they aren't."""
         self.assertEqual(MOST_PAIRS, 2000 * 2000)
         text = "SELECT 1 FROM g p, g q WHERE p.x < q.x AND p.x <= 2000 AND q.x"
         self.assertEqual(self.counted(f"{text} <= 2000")[1].levels[-1].bound, 1999000)
@@ -170,7 +173,7 @@ class NotCounted(CountedBounds):
         self.assertEqual(plan.notes, [told])
 
     def test_equalities_alone(self) -> None:
-        """With one of the two equalities alone there would be more choices."""
+        """With only one of the two equalities there would be more choices."""
         text = "SELECT 1 FROM three p, three q WHERE p.a = q.a AND p.b = q.b AND p.c < q.c"
         self.assertEqual(self.planned(text)[1].cost, 2002**2 + 1)
         plan = self.counted(text)[1]
@@ -200,7 +203,7 @@ class NotCounted(CountedBounds):
 
 
 class Commands(OnEachEngine, Process):
-    """The option, in a process of its own."""
+    """Tests the option in a process of its own."""
 
     base_class = PostgresBase
     schema = "CREATE TABLE w (b INTEGER, a INTEGER); INSERT INTO w VALUES (1, 1), (1, 2), (2, 1), (2, 2);"
@@ -255,7 +258,7 @@ class CommandsOfSqlite(OnEachEngine, Process):
 
 
 class RandomlyCounted(Randomly):
-    """Texts of v are equal in upper and lower case, numbers of n have any scale, and more conditions may join."""
+    """Texts of v are compared without regard to case, numbers of n have any scale, and further conditions may join."""
 
     def schema(self) -> str:
         collation = (
@@ -286,7 +289,7 @@ CROSS = (
 @unittest.skipUnless(POSTGRES, "no PostgreSQL")
 @in_tens(QUERIES)
 class RandomCounts(CountedBounds):
-    """Each level beside what the engine counts."""
+    """Compares each level's bound with the engine's own count."""
 
     base_class = PostgresBase
 
@@ -306,8 +309,9 @@ class RandomCounts(CountedBounds):
         self.assertGreater(exact, levels // 2)
 
     def check(self, randomly: Randomly, found: RandomQuery) -> tuple[int, int]:
-        """Checks one query. Answers for how many levels the bound has to be the number of rows, and how many joins
-        there are."""
+        """Checks one query. Returns how many levels must have a bound equal to their rows, and how many joins there
+        are.
+        """
         choose = randomly.random.choice
         reduce, accuracy, tree = choose((True, True, False)), choose((1, 8)), choose((False, False, True))
         planner = self.opened(found.text, reduce)
@@ -329,7 +333,7 @@ class RandomCounts(CountedBounds):
         return exact, levels
 
     def apart_within(self, plan: Plan, entries: frozenset[int]) -> bool:
-        """Whether a condition on these entries alone isn't taken into account by any bound."""
+        """Whether some condition on these entries alone is used by no bound."""
         unused = {text for text, _ in plan.unused}
         return any(one.text in unused and one.entries <= entries for one in plan.query.conditions)
 

@@ -1,7 +1,8 @@
-"""Engines that can't be reached: sqlglot parses each text in its dialect, and another engine runs it.
+"""Tests engines that can't be reached: sqlglot parses each text in its dialect, and another engine runs it.
 
-SQLite understands the forms of all five dialects but for the settings and for CREATE OR REPLACE TEMPORARY TABLE, and
-PostgreSQL those of Trino and DuckDB. So the counting statement and the planned SQL run there, over random tables.
+SQLite understands the SQL of all five dialects, except for settings and CREATE OR REPLACE TEMPORARY TABLE. PostgreSQL
+understands that of Trino and DuckDB. So these two engines run the counting statement and the planned SQL over random
+tables.
 """
 
 from __future__ import annotations
@@ -28,7 +29,7 @@ from safebound_sql.planner import Planner
 from safebound_sql.query import Row
 from safebound_sql.unreached import DIALECTS, SchemaFile, unreached
 
-# Each query is asked in five dialects.
+# Each query is asked in all five dialects.
 MOST = 60
 TAKEN_BY_POSTGRES = ("trino", "duckdb")
 
@@ -43,17 +44,17 @@ JOINED = "SELECT a.y, b.z FROM a JOIN b ON a.x = b.x WHERE a.y > 1"
 
 
 def statements(script: str) -> list[str]:
-    """The statements of a script. It must have no text in which a line ends with a semicolon."""
+    """The statements of a script. No text in it may have a line that ends in a semicolon."""
     return [statement for statement in re.split(r";(?:\n|\Z)", script) if statement.strip()]
 
 
 def parsed(script: str, dialect: str) -> list[exp.Expression]:
-    """The script as sqlglot reads it; MATERIALIZED, which it doesn't know, is left out."""
+    """The script as sqlglot reads it. MATERIALIZED is left out, since sqlglot doesn't know it."""
     return [sqlglot.parse_one(text.replace(" AS MATERIALIZED (", " AS ("), read=dialect) for text in statements(script)]
 
 
 class Dialects(OnEachEngine):
-    """On each of the dialects, over a database of SQLite."""
+    """Methods for tests of each dialect, over an SQLite database."""
 
     def planner(self, dialect: str, text: str, schema: str = SCHEMA, reduce: bool = True) -> Planner:
         return Planner(unreached(dialect, schema), text, reduce)
@@ -78,7 +79,7 @@ class RandomDialects(Dialects):
         for number in numbers:
             randomly = Randomly(number, self.base.engine)
             if number == numbers[0]:
-                # In SQLite a table that is made of a query loses collations; in other engines it keeps them.
+                # In SQLite a table made from a query loses its collations; in the other engines it keeps them.
                 schema = randomly.schema().replace(" COLLATE NOCASE", "")
                 self.base.script(schema)
                 for table in range(TABLES):
@@ -91,7 +92,7 @@ class RandomDialects(Dialects):
         self.assertGreater(joined, len(numbers) // 2)
 
     def check(self, dialect: str, randomly: Randomly, schema: str, found: RandomQuery) -> bool:
-        """Checks one query on one engine. Answers whether bounds had an equality to go by."""
+        """Checks one query on one engine. Returns whether bounds could use an equality."""
         choose = randomly.random.choice
         planner = self.planner(dialect, found.text, schema, choose((True, True, False)))
         parsed(planner.counting, dialect)
@@ -109,7 +110,7 @@ class RandomDialects(Dialects):
 
 @in_tens(min(NAMED, MOST // 3))
 class RandomOutputsInDialects(Dialects):
-    """Outputs named like columns, over USING: the script's rows are the query's, in its order."""
+    """Outputs named like columns, over USING. The script's rows are the query's, in its order."""
 
     def ask(self, numbers: range) -> None:
         for number in numbers:
@@ -135,7 +136,7 @@ RandomDialectsOnPostgres = on_postgres(RandomDialects)
 
 
 class Written(Dialects):
-    """What is written, beside what each engine needs."""
+    """Compares the written SQL with what each engine needs."""
 
     def test_the_way_to_keep_the_order(self) -> None:
         words = {
@@ -164,7 +165,7 @@ class Written(Dialects):
                 self.assertEqual(joins, order)
 
     def some_counts(self, planner: Planner) -> Counts:
-        """Counts for which the best order joins the entries from the last one to the first."""
+        """Counts for which the best order joins the entries from the last to the first."""
         rows = []
         for entry in planner.query.entries:
             many = 10 - entry.number
@@ -173,8 +174,9 @@ class Written(Dialects):
         return counts_of(planner.query, rows)
 
     def test_parts_that_would_be_computed_too_often(self) -> None:
-        """If the engine doesn't keep parts, a statement that would read a table more than 100 times counts under own
-        conditions alone."""
+        """If the engine doesn't keep parts, a statement that would read a table more than 100 times counts only under
+        own conditions.
+        """
         text = (
             "SELECT 1 FROM a AS e1, a AS e2, a AS e3, a AS e4, a AS e5 WHERE e1.y = e2.y AND e2.y = e3.y AND e3.y ="
             " e4.y AND e4.y = e5.y"

@@ -1,5 +1,6 @@
-"""How commands end: interruptions, full disks, other encodings, folders that can't be written to, rows beyond a
-bound."""
+"""Tests how commands end: interruptions, full disks, other encodings, folders without write permission, rows above a
+bound.
+"""
 
 from __future__ import annotations
 
@@ -36,7 +37,7 @@ class Ends(OnEachEngine, Process):
             self.assertEqual(ended.stdout, f'x,t\n1,{null}\n2,{empty}\n3,{word}\n4,"a ""b"", c"\n', ended.stderr)
 
     def test_signals(self) -> None:
-        """Both signals end the command while it joins, and the statement on the server."""
+        """Both signals end the command while it joins, and end the statement on the server."""
         for number, status in ((signal.SIGINT, 130), (signal.SIGTERM, 143)):
             ours, theirs = pty.openpty()
             line = [PROGRAM, "audit", "--db", self.base.url, "-"]
@@ -112,8 +113,9 @@ class EndsOfPostgres(OnEachEngine, Process):
             planner.engine.connection.close()
 
     def test_rights_on_columns(self) -> None:
-        """A condition has a word that is also the name of a column which may not be read. The planned SQL doesn't read
-        it."""
+        """A word in a condition is also the name of a column that the user may not read. The planned SQL doesn't read
+        this column.
+        """
         reader = f"reader_{DATABASE}"
         self.base.script(
             f"""
@@ -132,7 +134,7 @@ class EndsOfPostgres(OnEachEngine, Process):
             self.base.script(f"DROP OWNED BY {reader}; DROP ROLE {reader}")
 
     def test_what_the_engine_refuses_is_told_first(self) -> None:
-        """GROUP BY has a key, and another column of the table can't be grouped by. Then nothing is admitted."""
+        """GROUP BY names a key, and another column of the table can't be grouped. The query isn't admitted then."""
         self.base.script(
             "DROP TABLE IF EXISTS keyed; CREATE TABLE keyed (x INTEGER PRIMARY KEY, j JSON); INSERT INTO keyed VALUES"
             " (3, '1')"
@@ -156,7 +158,7 @@ class EndsOfPostgres(OnEachEngine, Process):
         )
 
     def test_rows_above_a_bound(self) -> None:
-        """A function that calls itself IMMUTABLE, but is false for the first five calls and true afterwards."""
+        """A function is declared IMMUTABLE, but is false in the first five calls and true afterwards."""
         self.base.script(
             """
             CREATE OR REPLACE FUNCTION changing(INTEGER) RETURNS boolean LANGUAGE plpgsql IMMUTABLE AS $$

@@ -1,4 +1,4 @@
-"""The shop, the films and the best seller of bench/estimates, loaded into each engine."""
+"""Loads the shop, the films and the best seller of bench/estimates into each engine, and checks their plans."""
 
 from __future__ import annotations
 
@@ -26,7 +26,7 @@ class Examples(OnEachEngine):
         return planner, plan, true
 
     def loaded(self, schema: str, tables: dict[str, list[Row]]) -> None:
-        """Fresh tables."""
+        """Creates the tables, after dropping old ones."""
         self.doCleanups()
         for table in reversed(schema.split("CREATE TABLE ")[1:]):
             self.base.script(f"DROP TABLE IF EXISTS {table.split(' ')[0]}")
@@ -45,7 +45,7 @@ class Examples(OnEachEngine):
                     self.assertGreater(true[-1], 0)
 
     def test_the_best_seller(self) -> None:
-        """PostgreSQL expects some 20 rows of the whole join; there are 100,010, and the bound says just that."""
+        """PostgreSQL expects some 20 rows in the complete join. It has 100,010 rows, which is also the bound."""
         loader = importlib.machinery.SourceFileLoader("estimates", str(ROOT / "bench" / "estimates"))
         spec = importlib.util.spec_from_loader("estimates", loader)
         assert spec

@@ -1,4 +1,4 @@
-"""Kept counts: when they are taken, and how rows that came later are added. No bound by them is too low."""
+"""Tests kept counts: when they are used, and how later rows are added. No bound from them is too low."""
 
 from __future__ import annotations
 
@@ -42,7 +42,7 @@ class WithKept(OnEachEngine):
         return new
 
     def by_kept(self, text: str, tree: bool = False) -> tuple[Plan, list[int]]:
-        """A plan by kept counts. No bound of it is too low."""
+        """A plan from kept counts. Checks that no bound of it is too low."""
         planner = self.opened(text, reduce=False)
         plan = planner.plan_by_kept(1, MOST_BUDGET, tree, Kept(self.file))
         true = self.never_under(planner, plan, text)
@@ -120,7 +120,7 @@ class Taken(WithKept):
         self.assertEqual(Path(self.file).read_text(), before)
 
     def test_a_table_that_was_made_anew(self) -> None:
-        """The new table has the same name, columns and number of rows, but one value alone."""
+        """The new table has the same name, columns and number of rows, but all its rows have one value."""
         self.keep(JOINED)
         self.base.script("DROP TABLE a; CREATE TABLE a (x INTEGER, y INTEGER)")
         self.base.fill("a", [(0, n) for n in range(13)])

@@ -1,4 +1,4 @@
-"""What is counted, what is an edge and what isn't, on small tables whose counts are known by hand."""
+"""Tests what is counted and which conditions are edges, on small tables whose counts are known."""
 
 from __future__ import annotations
 
@@ -16,7 +16,7 @@ Explained = Dict[str, Any]
 
 
 class Counted(OnEachEngine):
-    """The histogram of each joined column."""
+    """Tests the histogram of each joined column."""
 
     schema = "CREATE TABLE a (x INTEGER, y INTEGER); CREATE TABLE b (x INTEGER, z INTEGER); CREATE TABLE n (x INTEGER)"
 
@@ -55,7 +55,9 @@ class Counted(OnEachEngine):
         self.assertEqual(self.counts(text, reduce=True).rows, {"p": 1, "q": 1})
 
     def test_a_column_without_values(self) -> None:
-        """Its rows join nothing. A list with one value would let it join the two rows of a in which x is 1."""
+        """A column with only NULLs joins no row. A list with one value would let it join the two rows of a in which x
+        is 1.
+        """
         text = "SELECT a.y FROM a, n WHERE a.x = n.x"
         for reduce, bounds in ((True, [0, 0]), (False, [3, 0])):
             for tree in (False, True):
@@ -70,7 +72,7 @@ class Counted(OnEachEngine):
 
 
 class Edges(OnEachEngine):
-    """Which conditions are equalities that bounds may use."""
+    """Tests which conditions are equalities that bounds may use."""
 
     schema = """
     CREATE TABLE a (x INTEGER, y INTEGER, t TEXT);
@@ -111,7 +113,7 @@ class Edges(OnEachEngine):
                 )
 
     def taken(self, condition: str) -> bool:
-        """PostgreSQL has no = of a number with a truth value."""
+        """Whether the engine accepts the condition. PostgreSQL has no = between a number and a truth value."""
         return not (self.base.engine == "postgres" and "IS NOT NULL" in condition)
 
     def test_equality_within_an_entry(self) -> None:
@@ -135,7 +137,7 @@ class Edges(OnEachEngine):
 
 @unittest.skipUnless(POSTGRES, "no PostgreSQL")
 class EdgesOfPostgres(OnEachEngine):
-    """Types that PostgreSQL compares with =, though it groups them otherwise."""
+    """Types that PostgreSQL compares with = differently from how it groups them."""
 
     base_class = PostgresBase
     schema = """
@@ -177,7 +179,7 @@ class EdgesOfPostgres(OnEachEngine):
 
 
 class EdgesOfSqlite(OnEachEngine):
-    """Columns that SQLite compares with =, though it groups them otherwise: 1 meets '1' and '01'."""
+    """Columns that SQLite compares with = differently from how it groups them: 1 equals '1' and '01'."""
 
     base_class = SqliteBase
     schema = """
@@ -237,7 +239,7 @@ class EdgesOfSqlite(OnEachEngine):
 
 
 class Orders(OnEachEngine):
-    """The order of the SQL, and what a budget is compared with."""
+    """Tests the order in the SQL, and the number that is compared with a budget."""
 
     schema = """
     CREATE TABLE a (x INTEGER, p INTEGER);
@@ -256,7 +258,7 @@ class Orders(OnEachEngine):
         cls.base.fill("e", [(n,) for n in range(5)])
 
     def test_the_sql_has_the_planned_order(self) -> None:
-        """The best order begins with a product, which no engine would choose."""
+        """The best order begins with a product, which no engine would choose itself."""
         text = "SELECT a.p FROM b JOIN a ON a.x = b.x AND a.p = 3 JOIN e ON b.y = e.y"
         planner, plan = self.planned(text, reduce=False)
         order = [planner.query.entries[number].name for number in entries_of(plan.shape)]
@@ -266,7 +268,7 @@ class Orders(OnEachEngine):
         self.assertEqual(self.joined_by_engine(planner, sql), order)
 
     def joined_by_engine(self, planner: Planner, sql: str) -> list[str]:
-        """The order in which the engine says that it joins, the first two in either order."""
+        """The order in which the engine says that it joins. The first two entries may be in either order."""
         planner.engine.connection.keep_order()
         if self.base.engine == "sqlite":
             steps = planner.engine.connection.rows(f"EXPLAIN QUERY PLAN {sql}")
@@ -296,7 +298,7 @@ def leaves(plan: Explained) -> list[str]:
 
 
 class Trees(OnEachEngine):
-    """A join tree is kept by the engine: PostgreSQL by parentheses, SQLite by a materialised part."""
+    """The engine keeps a join tree: PostgreSQL by parentheses, SQLite by a materialised part."""
 
     schema = "CREATE TABLE a (x INTEGER, p INTEGER); CREATE TABLE b (x INTEGER, y INTEGER, z INTEGER)"
     text = """SELECT p.p, q.p + 1, s.z FROM a p JOIN b r ON p.x = r.x JOIN b s ON r.y = s.y AND r.z <= s.z
@@ -329,7 +331,7 @@ class Trees(OnEachEngine):
             read = [(step[1], step[3].split()[1]) for step in steps if step[3].split()[0] in ("SCAN", "SEARCH")]
             self.assertIn("MATERIALIZE safebound_1", [step[3] for step in steps])
             self.assertEqual([name for parent, name in read if parent and name[0] != "("], ["s", "q"])
-            # Each entry of the part is joined to it by its row numbers, to have its name again.
+            # Each entry of the part is joined to the part by row numbers, so that it has its own name again.
             self.assertEqual(
                 [name for parent, name in read if not parent], ["p", "r", "safebound_1", "safebound_1", "safebound_1"]
             )
@@ -346,7 +348,7 @@ def joins(plan: Explained) -> list[list[str]]:
 
 
 class Reduced(OnEachEngine):
-    """With semi-joins the SQL that is handed back joins the rows that were counted, and without them the tables."""
+    """With semi-joins the planned SQL joins the rows that were counted, otherwise the tables."""
 
     schema = "CREATE TABLE a (x INTEGER, p INTEGER); CREATE TABLE b (x INTEGER, q INTEGER)"
 
@@ -368,7 +370,7 @@ class Reduced(OnEachEngine):
 
 
 class Snapshots(OnEachEngine):
-    """The rows that are joined are those that were counted, whatever others write meanwhile."""
+    """The joined rows are the counted ones, even if other connections write meanwhile."""
 
     schema = "CREATE TABLE a (x INTEGER); CREATE TABLE b (x INTEGER)"
 

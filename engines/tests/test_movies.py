@@ -1,4 +1,4 @@
-"""Queries of the Join Order Benchmark's form, from a text to an audit."""
+"""Tests queries in the form of the Join Order Benchmark, from their text to an audit."""
 
 from __future__ import annotations
 

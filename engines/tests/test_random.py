@@ -1,5 +1,5 @@
-"""Random queries on both engines: no level is above its bound, and the rows of the planned SQL are those of the
-query."""
+"""Tests random queries on both engines: no level exceeds its bound, and the planned SQL returns the rows of the query.
+"""
 
 from __future__ import annotations
 
@@ -14,7 +14,7 @@ from safebound_sql.levels import entries_of
 
 
 class AnyQueries(OnEachEngine):
-    """Has no queries of its own."""
+    """Methods for the tests of this file."""
 
     def ask(self, numbers: range) -> None:
         done = joined = 0
@@ -32,7 +32,7 @@ class AnyQueries(OnEachEngine):
         self.assertGreater(joined, len(numbers) // 4)
 
     def check(self, randomly: Randomly, found: RandomQuery) -> bool:
-        """Checks one query. Answers whether bounds had an equality to go by."""
+        """Checks one query. Returns whether bounds could use an equality."""
         choose = randomly.random.choice
         reduce, tree = choose((True, True, False)), choose((False, False, True))
         planner, plan = self.planned(found.text, reduce, choose((1, 1, 8, 64)), tree)
@@ -57,7 +57,7 @@ class RandomQueries(AnyQueries):
 
 @in_tens(NAMED)
 class RandomOutputs(OnEachEngine):
-    """Outputs named like columns, over USING, with ORDER BY. For each number one query is answered."""
+    """Outputs named like columns, over USING, with ORDER BY. One query is planned for each number."""
 
     def ask(self, numbers: range) -> None:
         done = 0
@@ -77,7 +77,7 @@ class RandomOutputs(OnEachEngine):
         self.assertEqual(done, len(numbers))
 
     def taken(self, randomly: QueriesOfNamedOutputs, schema: str) -> str:
-        """The first query that has to be planned. Those before it have to be refused."""
+        """The first query that has to be planned. The queries before it have to be refused."""
         while True:
             text = randomly.query()
             if not randomly.converts_both(schema):

@@ -1,4 +1,4 @@
-"""What isn't bounded is refused by its name and place, and nothing is run for it."""
+"""Tests refusals: the message names the unsupported part and its place, and no statement is run for it."""
 
 from __future__ import annotations
 
@@ -50,8 +50,8 @@ class Refusals(Refusing):
         self.refused("SELECT 1 FROM a, generate_series(1, 3) g", "generate_series(", "line 1, column 33")
         self.refused("SELECT 1 FROM a, nowhere", "nowhere", "line 1, column 18", "no such table")
         self.refused("SELECT 1 FROM a JOIN a ON 1 = 1", "line 1, column 22", "two entries have this alias")
-        many = ", ".join(f"a AS a{n}" for n in range(13))
-        self.refused(f"SELECT 1 FROM {many}", "a12 at line 1, column", "at most 12")
+        many = ", ".join(f"a AS a{n}" for n in range(17))
+        self.refused(f"SELECT 1 FROM {many}", "a16 at line 1, column", "at most 16")
 
     def test_forms_of_joins(self) -> None:
         self.refused(

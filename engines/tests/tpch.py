@@ -1,7 +1,8 @@
-"""The eight tables of TPC-H in small, and its 22 queries in PostgreSQL's dialect with the validation parameters.
+"""Small versions of the eight tables of TPC-H, and its 22 queries in PostgreSQL's dialect with the validation
+parameters.
 
-The tables are made here from random numbers over the standard's domains of values, so that the queries find rows;
-they are no data of the standard's generator.
+The tables are made from random numbers over the standard's domains of values, so that the queries find rows. They
+aren't data of the standard's generator.
 """
 
 from __future__ import annotations

@@ -4,7 +4,7 @@
        WHERE CI.PERSON = P.ID AND CI.TITLE = T.ID AND MC.TITLE = T.ID AND MC.COMPANY = C.ID
          AND CI.PART = 'director' AND C.COUNTRY = 'NO'
 
-   A planner has its own way to the values of a column. Here they are read from the files of that folder:
+   A planner has its own access to the values of a column. This program reads them from the files of that folder:
 
        cc -Iinclude examples/embed/films.c library/out/libsafebound.a -o films
        ./films examples/films */
@@ -22,7 +22,7 @@
 
 static const char *const NAMES[ENTRIES] = {"P", "CI", "T", "MC", "C"};
 
-/* The joined columns, each with its file, and the condition on its entry where there is one. */
+/* The joined columns, each with its file and, if there is one, the condition on its entry. */
 static const struct {
     uint32_t entry, column;
     const char *file, *name, *where, *is;
@@ -45,7 +45,7 @@ static void stop(const char *what, uint64_t number) {
     exit(1);
 }
 
-/* What a status means is in the header. Here any but SAFEBOUND_OK ends the program. */
+/* The header explains each status. This program ends at any status but SAFEBOUND_OK. */
 static void need_ok(safebound_status status) {
     if (status != SAFEBOUND_OK) stop("status", status);
 }
@@ -67,7 +67,7 @@ static int place_of(const char *header, const char *name) {
     return -1;
 }
 
-/* The values of a column in the rows where another one is as it is asked. The fields of these files have no quotes. */
+/* The values of a column in the rows where another column has the given value. The fields of these files have no quotes. */
 static size_t read_keys(FILE *file, const char *name, const char *where, const char *is, uint64_t *keys) {
     char header[256], line[256], copy[256];
     if (fgets(header, sizeof header, file) == NULL) stop("no header", 0);
@@ -87,7 +87,7 @@ static safebound_run runs[COLUMN_COUNT * MOST_RUNS];
 static safebound_list lists[COLUMN_COUNT];
 static size_t run_count;
 
-/* The list of a column: its degree sequence, in few runs. It goes behind the lists before it. */
+/* Appends the list of a column to the lists before it: the column's degree sequence, in few runs. */
 static void add_list(size_t i, const uint64_t *keys, size_t count) {
     safebound_run all[MOST_ROWS];
     uint64_t length, few;

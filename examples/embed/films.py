@@ -4,7 +4,7 @@
     WHERE CI.PERSON = P.ID AND CI.TITLE = T.ID AND MC.TITLE = T.ID AND MC.COMPANY = C.ID
       AND CI.PART = 'director' AND C.COUNTRY = 'NO'
 
-A planner has its own way to the values of a column. Here they are read from the files of that folder:
+A planner has its own access to the values of a column. This program reads them from the files of that folder:
 
     python3 examples/embed/films.py examples/films
 """

@@ -4,14 +4,14 @@
 //!     WHERE CI.PERSON = P.ID AND CI.TITLE = T.ID AND MC.TITLE = T.ID AND MC.COMPANY = C.ID
 //!       AND CI.PART = 'director' AND C.COUNTRY = 'NO'
 //!
-//! A planner has its own way to the values of a column. Here they are read from the files of that folder:
+//! A planner has its own access to the values of a column. This program reads them from the files of that folder:
 //!
 //!     cargo run --manifest-path rust/Cargo.toml --example films -- examples/films
 
 use safebound::{compress, degree_sequence, Bounds, Error, Query};
 use std::{env, fs, io};
 
-/// The entries, each with its file, and the condition on it where there is one: a column and its value.
+/// The entries, each with its file and, if there is one, the condition on it: a column and its value.
 type Condition = Option<(&'static str, &'static str)>;
 const ENTRIES: [(&str, &str, Condition); 5] = [
     ("P", "person.csv", None),
@@ -73,7 +73,7 @@ impl Table {
     }
 }
 
-/// What is known of the query: the number of rows of each entry, and lists of few runs.
+/// The query: the number of rows of each entry, and lists with few runs.
 fn query_over(folder: &str) -> Result<Query, Box<dyn std::error::Error>> {
     let mut query = Query::new();
     let mut joined: Vec<Column> = EQUALITIES

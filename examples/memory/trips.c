@@ -16,7 +16,7 @@ static const char QUERY[] =
     "SELECT CITY.NAME, GUIDE.NAME, PRICE FROM CITY, TRIP, GUIDE "
     "WHERE CITY.COUNTRY = 'FR' AND TRIP.CITY = CITY.NAME AND TRIP.GUIDE = GUIDE.ID AND PRICE < 100";
 
-/* A program's own data, which becomes a table file. */
+/* The program's own data. It becomes a table file. */
 static const struct {
     const char *city;
     int guide, price;

@@ -17,7 +17,7 @@ QUERY = """
     WHERE CITY.COUNTRY = 'FR' AND TRIP.CITY = CITY.NAME AND TRIP.GUIDE = GUIDE.ID AND PRICE < 100
 """
 
-# A program's own data, which becomes a table file.
+# The program's own data. It becomes a table file.
 PARIS = "Paris, capital"
 TRIPS = [("Lyon", 1, 80), ("Lyon", 2, 95), ("Turin", 1, 60), (PARIS, 1, 120), (PARIS, 3, 90), ("Turin", 3, 70)]
 

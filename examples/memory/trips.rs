@@ -16,7 +16,7 @@ const QUERY: &str = "
     WHERE CITY.COUNTRY = 'FR' AND TRIP.CITY = CITY.NAME AND TRIP.GUIDE = GUIDE.ID AND PRICE < 100
 ";
 
-/// A program's own data, which becomes a table file.
+/// The program's own data. It becomes a table file.
 const TRIPS: [(&str, u32, u32); 6] = [
     ("Lyon", 1, 80),
     ("Lyon", 2, 95),

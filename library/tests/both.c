@@ -1,4 +1,4 @@
-/* Linked beside command.c: the other library is in the same program, and both use the same functions for memory. */
+/* Linked beside command.c. The program then has both libraries, which use the same functions for memory. */
 #include "safebound.h"
 
 #include <stdlib.h>

@@ -8,9 +8,9 @@
      order BUDGET ROOM N BOUND..      tree BUDGET ROOM N BOUND..      version ROOM
      joined_rows KIND ROOM 3 INNER LEFT RIGHT
 
-   Before a call `refuse N` lets its Nth request for memory fail. Each array ends where its page ends, and the next page
-   can't be touched, so that a step past a length ends the program. After a call it is checked that no argument has changed,
-   no memory is kept, and nothing past the answer is written. If the status isn't OK, only the detail may be written. */
+   Before a call `refuse N` lets its Nth request for memory fail. Each array ends at the end of a page, and touching the next
+   page ends the program, so no step past a length goes unnoticed. After a call the program checks that no argument has
+   changed, no memory is kept, and nothing past the result is written. Unless the status is OK, only the detail may be written. */
 #define _GNU_SOURCE
 #include "safebound.h"
 #include "counted_memory.h"
@@ -73,7 +73,7 @@ static uint64_t number(void) {
     return read;
 }
 
-/* A length and so many elements. Each has `narrow` numbers of 32 bits and then `wide` numbers of 64 bits. */
+/* Reads a length and as many elements. Each element has `narrow` numbers of 32 bits, then `wide` numbers of 64 bits. */
 static void *elements(size_t *length, size_t wide, size_t narrow) {
     *length = number();
     array made = array_of(*length * (8 * wide + 4 * narrow));

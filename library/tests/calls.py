@@ -1,6 +1,6 @@
-"""Calls as plain numbers, and what C and Python get for them.
+"""Calls given as plain numbers, and their results in C and in Python.
 
-A call is made by the C program (calls.c) and through ctypes. Both must get the same.
+Each call is made by the C program (calls.c) and through ctypes. The results have to be equal.
 """
 
 from __future__ import annotations
@@ -48,7 +48,7 @@ ARRAYS: dict[str, list[Any]] = {
 WITHOUT_ROOM = {"set_bound", "joined_rows"}
 
 
-# A number, or several that belong together, as a run's degree and its keys.
+# A number, or several that belong together, such as a run's degree and its number of keys.
 Element = Union[int, Tuple[int, ...]]
 
 
@@ -59,7 +59,7 @@ class Answer(NamedTuple):
 
 
 class Call(NamedTuple):
-    """A call's name, its arrays, the room for its answer, and the number that it takes beside them, as an accuracy."""
+    """A call: its name, its arrays, the room for its result, and its further number, such as an accuracy."""
 
     name: str
     arrays: Sequence[Sequence[Element]]
@@ -92,7 +92,7 @@ def fields(element: Any) -> list[int]:
 
 
 def shaped(name: str, numbers: list[int]) -> list[Element]:
-    """The numbers of an answer as elements: tuples, where they have several numbers."""
+    """The numbers of a result as elements. An element with several numbers is a tuple."""
     wide = len(getattr(ELEMENTS[name], "_fields_", [0]))
     return [n if wide == 1 else tuple(numbers[at : at + wide]) for at, n in enumerate(numbers) if at % wide == 0]
 
@@ -115,7 +115,7 @@ def by_ctypes(call: Call) -> Answer:
 
 
 def by_c(lines: list[str]) -> Iterator[tuple[Answer, int]]:
-    """The answers of the C program, each with how many requests for memory there were."""
+    """The results of the C program, each with the number of its requests for memory."""
     done = subprocess.run(
         [PROGRAM], input="".join(line + "\n" for line in lines), capture_output=True, text=True, timeout=300
     )
@@ -132,7 +132,7 @@ def by_c(lines: list[str]) -> Iterator[tuple[Answer, int]]:
 
 
 def answers(calls: Sequence[Call]) -> list[Answer]:
-    """What C and Python both get."""
+    """The result of each call, which is the same in C and in Python."""
     found = []
     for call, (answer, _) in zip(calls, by_c([call.line() for call in calls])):
         other = by_ctypes(call)

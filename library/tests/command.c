@@ -1,11 +1,11 @@
-/* The program, made of the library for files in memory. It reads the files of the current folder, and makes the call with the
-   words of its command line. It writes both texts that come back, and ends with the status. So cases/run-cases tests the
+/* A program made from the library for files in memory. It reads the files of the current folder, and calls the library with the
+   words of its command line. It writes both resulting texts, and ends with the status. So cases/run-cases tests the
    library as it tests the program.
 
-   Each word, name, file and room ends where its page ends, and the next page can't be touched; what is only read can't be
-   written. Rooms begin at 16 bytes, and grow if one is too small. The text in the smaller room has to be the beginning of the
-   text in the larger one. Only notes may differ, if the output was cut too: they may have the line of that fault. No memory
-   is kept. With REFUSE=N in the environment the first N requests for memory are answered, and the next one isn't. */
+   Each word, name, file and room ends at the end of a page, and touching the next page ends the program. Arguments that are
+   only read can't be written. Rooms begin at 16 bytes, and grow if one is too small. The text in the smaller room has to be
+   the beginning of the text in the larger one. Only notes may differ if the output was cut too: they may then have the line of
+   that fault. No memory is kept. With REFUSE=N in the environment, the request for memory after the first N fails. */
 #define _GNU_SOURCE
 #include "safebound_command.h"
 #include "counted_memory.h"
@@ -100,7 +100,7 @@ static void empty(stream *of) {
     of->length = UINT64_MAX;
 }
 
-/* Whether the room was filled to its end. Then a larger one takes its place. */
+/* Whether the room was filled to its end. If so, it is replaced by a larger room. */
 static bool grown(stream *of, block *before) {
     if (of->length != of->room.size) return false;
     *before = of->room;

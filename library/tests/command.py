@@ -1,4 +1,4 @@
-"""The whole program over files in memory, from Python, and from C with requests for memory refused:
+"""Tests the whole program over files in memory from Python, and from C with requests for memory refused.
 `library/test-command` runs it.
 
 SAFEBOUND_COMMAND names the C program (command.c), linked with both libraries.
@@ -65,7 +65,8 @@ class Texts(unittest.TestCase):
             self.assertEqual(safebound.run(["plan", name, "q"], {}), (3, b"", f"error read {name}\n".encode()))
 
     def test_texts_that_fill_the_first_room(self) -> None:
-        # A header of 3 bytes and 3 bytes for each row: 21844 rows leave one byte, and 21845 are two too many.
+        # The header takes 3 bytes, and each row takes 3. 21844 rows leave one byte of the first room, and 21845 need
+        # two more than it has.
         for rows in (21843, 21844, 21845):
             table = "X\n" + "7\n" * rows
             output = safebound.run(RUN, {**FILES, "r.csv": table, "s.csv": "X\n7\n"})
@@ -111,7 +112,7 @@ class Texts(unittest.TestCase):
 
 
 class Statistics(unittest.TestCase):
-    """Plans from the text of a statistics file: the lines of `plan`, and an exception for each way to be refused."""
+    """Plans from the text of a statistics file: the lines of `plan`, and an exception for each reason to refuse."""
 
     def setUp(self) -> None:
         self.stats = safebound.run(["stats", "schema.sql", "query.sql"], FILES).out
@@ -197,7 +198,7 @@ class Library(unittest.TestCase):
 
 
 class Memory(unittest.TestCase):
-    """From C: if a request for memory is refused, whichever it is, there is the line of that fault and no row."""
+    """From C: whichever request for memory is refused, the program writes the line of that fault and no row."""
 
     def ends(self, refuse: int, words: list[str]) -> tuple[int, bytes, bytes]:
         with tempfile.TemporaryDirectory() as folder:

@@ -1,4 +1,5 @@
-/* Memory over malloc that counts what is kept. The program that includes it says in is_refused whether the next request fails. */
+/* Memory over malloc that counts the blocks not yet freed. The including program defines is_refused, which says whether
+   the next request fails. */
 #ifndef COUNTED_MEMORY_H
 #define COUNTED_MEMORY_H
 #include "safebound_memory.h"

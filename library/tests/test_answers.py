@@ -1,8 +1,9 @@
-"""Random calls beside the slow reading of the definitions (cases/reading.py), and bounds beside true counts."""
+"""Compares random calls with the slow reading of the definitions (cases/reading.py), and bounds with true counts."""
 
 from __future__ import annotations
 
 import itertools
+import math
 import random
 import sqlite3
 import time
@@ -10,18 +11,19 @@ import unittest
 from collections import Counter
 from typing import Any, Callable, Dict, Iterable, Iterator, Sequence, Tuple, Union
 
-from calls import NO_BOUND, NO_VALUES, Call, Status, answers
+from calls import NO_BOUND, NO_VALUES, Answer, Call, Status, answers, by_ctypes
 import reading
 
 RUNS = 150
+MOST_ENTRIES = MOST_TURNS = 16
 
 Pair = Tuple[int, int]
-# Two columns, each an entry and a number of it.
+# Two columns. Each is a pair of an entry and a column number.
 Equality = Tuple[Pair, Pair]
 DegreeLists = Dict[Pair, "list[int]"]
-# An entry, or two trees.
+# An entry, or a pair of trees.
 Tree = Union[int, Tuple["Tree", "Tree"]]
-# The set of the left tree, and the places of both.
+# The set of the left tree, and the places of both trees. It decides between trees of equal cost and sum.
 Place = Tuple[int, Tuple[Any, ...], Tuple[Any, ...]]
 
 
@@ -41,7 +43,7 @@ def random_degrees(pick: random.Random) -> list[int]:
 
 class Lists(unittest.TestCase):
     def check(self, made: list[tuple[Call, list[int]]]) -> None:
-        """`made` has pairs of a call and of the degrees that its runs have to give."""
+        """`made` has pairs of a call and of the degrees that its runs have to expand to."""
         for (call, expected), answer in zip(made, answers([call for call, _ in made])):
             self.assertEqual(answer, (Status.OK, len(runs_of(expected)), runs_of(expected)), call)
 
@@ -91,7 +93,9 @@ class Lists(unittest.TestCase):
         self.check(made)
 
     def test_lists_of_conditions_dominate(self) -> None:
-        """Rows have a key, a colour and a size. What calls make of lists of these rows is never below true counts."""
+        """Rows have a key, a colour and a size. Lists that calls make for conditions on these rows are never below true
+        counts.
+        """
         calls, keys = [], []
         for seed in range(RUNS):
             pick = random.Random(seed)
@@ -131,7 +135,8 @@ class Lists(unittest.TestCase):
         each.
 
         At accuracy 1 the second degree isn't below half of the first, so the list begins with the first degree twice:
-        8,000,000,000 rows. The first two values and 500 of the thousand have as many rows, so 500 of these are left.
+        8,000,000,000 rows. The first two values and 500 of the thousand values have as many rows, so 500 of the
+        thousand are left.
         """
         table = [(4_000_000_000, 1), (3_000_000_000, 1), (2_000_000, 1000), (1, 1_000_000_000)]
         self.check_runs([
@@ -146,15 +151,16 @@ class Lists(unittest.TestCase):
 
 
 class GivenLists(reading.ListBounds):
-    """Bounds as cases/reading.py computes them, over given lists."""
+    """Bounds over given lists, computed as cases/reading.py does."""
 
     def __init__(self, equalities: list[Equality], rows: list[int], lists: DegreeLists) -> None:
         self.all, self.rows, self.lists = equalities, rows, lists
 
 
 def with_values(rows: list[int], lists: DegreeLists, equalities: list[Equality]) -> tuple[list[int], DegreeLists]:
-    """Row bounds and lists for a set in which these equalities hold: a row without a value in one of their columns
-    joins with nothing, and isn't counted."""
+    """Row bounds and lists for a set in which these equalities hold. A row without a value in one of their columns
+    joins with nothing, and isn't counted.
+    """
     rows = list(rows)
     for entry, column in itertools.chain(*equalities):
         rows[entry] = min(rows[entry], sum(lists[entry, column]))
@@ -162,7 +168,7 @@ def with_values(rows: list[int], lists: DegreeLists, equalities: list[Equality])
 
 
 class RandomQuery:
-    """Small tables with values and rows without one, equalities, and lists that dominate the columns."""
+    """Small tables in which some rows have no value, equalities, and lists that dominate the columns."""
 
     def __init__(self, seed: int) -> None:
         self.pick = pick = random.Random(seed)
@@ -196,8 +202,9 @@ class RandomQuery:
         self.lists = {side: self.list_of(*side) for equality in self.equalities for side in equality}
 
     def list_of(self, entry: int, column: int) -> list[int]:
-        """A list that dominates the column: the degrees over the table or over one with more rows, as they are,
-        compressed, or appended from two parts."""
+        """A list that dominates the column. It is made from the degrees over the table or over a table with more rows:
+        unchanged, compressed, or appended from two parts.
+        """
         values = [row[column] for row in self.whole[entry] if row[column] is not None]
         shape, degrees = self.pick.random(), list(reading.falling(values))
         if shape < 0.3:
@@ -208,7 +215,7 @@ class RandomQuery:
         return degrees
 
     def call(self) -> Call:
-        """The call, with the lists in any order, and names of columns that are any numbers."""
+        """The call, with the lists in random order, and with arbitrary numbers as names of columns."""
         def name(column: int) -> int:
             return (column * 2_147_483_647 + 5) % 2**32
 
@@ -222,7 +229,7 @@ class RandomQuery:
         return Call("bounds", [self.rows, equalities, lists, runs], 2**self.entries)
 
     def read(self, entries: list[int]) -> int:
-        """The bound of a set by the definitions."""
+        """The bound of a set, by the definitions."""
         rows, lists = with_values(self.rows, self.lists, self.within(entries))
         return GivenLists(self.equalities, rows, lists).of_set(set(entries))
 
@@ -235,18 +242,35 @@ class RandomQuery:
         length = {side: len(runs_of(degrees)) for side, degrees in self.lists.items()}
         sets = [[e for e in range(self.entries) if number >> e & 1] for number in range(2**self.entries)]
         return sum(
-            min(max(len(own), 1), 16) * (1 + sum(length[side] for e in own for side in e))
+            min(max(len(own), 1), MOST_TURNS) * (1 + sum(length[side] for e in own for side in e))
             for own in map(self.within, sets)
         )
 
     def counted(self, entries: list[int]) -> int:
-        """How many choices of one row of each entry of a set satisfy the equalities between them, by nested loops."""
+        """Counts by nested loops the choices, of one row of each entry of a set, that satisfy the equalities between
+        them.
+        """
         inner = self.within(entries)
         found = 0
         for rows in itertools.product(*(self.tables[entry] for entry in entries)):
             row = dict(zip(entries, rows))
             found += all(row[a][x] is not None and row[a][x] == row[b][y] for (a, x), (b, y) in inner)
         return found
+
+
+def clique(entries: int, limit: int | None) -> Call:
+    """All pairs of entries, each by columns of its own."""
+    equalities = [(a, b, b, a) for a, b in itertools.combinations(range(entries), 2)]
+    lists = [(entry, column, 0, 12) for entry in range(entries) for column in range(entries) if column != entry]
+    runs = [(12 - at, 1000) for at in range(12)]
+    return Call("bounds_within", [[78000] * entries, equalities, lists, runs], 2**entries, limit)
+
+
+def timed(call: Call) -> tuple[Answer, float]:
+    """The result of a call, and the processor time that this process spent on it, in seconds."""
+    began = time.process_time()
+    found = by_ctypes(call)
+    return found, time.process_time() - began
 
 
 class Bounds(unittest.TestCase):
@@ -266,8 +290,9 @@ class Bounds(unittest.TestCase):
         self.assertGreater(equal, 100)
 
     def test_rows_without_values(self) -> None:
-        """Two tables of a million rows, of which ten and all have a value, all different: at most ten can join. Alone
-        each has its rows."""
+        """Two tables of a million rows. Ten rows of one and all rows of the other have a value, and all values differ.
+        So at most ten rows join; alone, each table has its million rows.
+        """
         million = 10**6
         lists, runs = [(0, 0, 0, 1), (1, 0, 1, 1)], [(1, 10), (1, million)]
         none = [(0, 0, NO_VALUES, 0), (1, 0, 1, 1)]
@@ -281,7 +306,7 @@ class Bounds(unittest.TestCase):
         self.assertEqual(apart.elements, [1, million, million, million**2])
 
     def test_sets_alone(self) -> None:
-        """The bound of a set alone is that of the set among all."""
+        """The bound of a set asked alone equals its bound among all sets."""
         queries = [RandomQuery(seed) for seed in range(RUNS)]
         calls = [query.call() for query in queries]
         for call, answer in zip(calls, answers(calls)):
@@ -291,8 +316,9 @@ class Bounds(unittest.TestCase):
             )
 
     def test_limits_of_work(self) -> None:
-        """With a limit that is just enough the bounds are the same; with one less they are refused, and the detail is
-        that limit."""
+        """With the smallest sufficient limit the bounds are unchanged. With one less they are refused, and the detail
+        is that limit.
+        """
         queries = [RandomQuery(seed) for seed in range(RUNS)]
         calls = [query.call() for query in queries]
         for query, call, answer in zip(queries, calls, answers(calls)):
@@ -302,24 +328,24 @@ class Bounds(unittest.TestCase):
             self.assertEqual(less, (Status.WORK, work, []), call)
 
     def test_a_limit_ends_at_once(self) -> None:
-        """All pairs of twelve entries, each by columns of its own: the bounds take more than a second, and the refusal
-        next to nothing."""
-        equalities = [(a, b, b, a) for a, b in itertools.combinations(range(12), 2)]
-        lists = [(entry, column, 0, 12) for entry in range(12) for column in range(12) if column != entry]
-        runs = [(12 - at, 1000) for at in range(12)]
-        arrays: list[Sequence[Any]] = [[78000] * 12, equalities, lists, runs]
-        began = time.monotonic()
-        (refused,) = answers([Call("bounds_within", arrays, 4096, 10**6)])
-        taken = time.monotonic() - began
-        self.assertEqual((refused.status, refused.elements), (Status.WORK, []))
-        self.assertLess(taken, 0.3)
-        began = time.monotonic()
-        (whole,) = answers([Call("bounds_within", arrays, 4096, refused.detail)])
+        """All pairs of entries are joined, each pair by columns of its own. Refusing the bounds of twelve entries takes
+        less than a twentieth of the time in which they are computed. Refusing those of sixteen, which would take most
+        of a minute or more, takes less than half of it. Time is this process's processor time, so that other work on
+        the machine doesn't count.
+        """
+        sixteen, twelve = answers([clique(16, 10**6), clique(12, 10**6)])
+        for refused in (sixteen, twelve):
+            self.assertEqual((refused.status, refused.elements), (Status.WORK, []))
+        whole, taken = timed(clique(12, twelve.detail))
         self.assertEqual(whole.status, Status.OK)
-        self.assertGreater(time.monotonic() - began, 5 * taken)
+        for entries, part in ((12, 20), (16, 2)):
+            _, refusing = timed(clique(entries, 10**6))
+            self.assertLess(part * refusing, taken, entries)
 
     def test_saturated_bounds(self) -> None:
-        """Two columns of one value each have the product of their rows; twelve of 2**48 rows are past every number."""
+        """Two columns with one value each have the product of their rows as bound; with twelve columns of 2**48 rows it
+        exceeds 64 bits.
+        """
         for rows, expected in [
             ((2**31, 2**32), 2**63),
             ((2**32, 2**32), NO_BOUND),
@@ -333,7 +359,7 @@ class Bounds(unittest.TestCase):
         self.assertEqual(Counter(min(n, NO_BOUND) for n in twelve), {1: 1, 2**48: 12, NO_BOUND: 4083})
 
     def test_ten_billion_rows(self) -> None:
-        """Two tables joined by one column: rank by rank the products of degrees, summed."""
+        """Two tables joined by one column: the bound sums, rank by rank, the products of the degrees."""
         one, other = [(4_000_000_000, 1), (2, 3_000_000_000)], [(1000, 1_000_000), (1, 9_000_000_000)]
         rows = [10_000_000_000, 10_000_000_000]
         joined = 4_000_000_000 * 1000 + 2 * 1000 * 999_999 + 2 * (3_000_000_000 - 999_999)
@@ -381,7 +407,7 @@ class JoinedTables(unittest.TestCase):
             self.assertGreaterEqual(answer.detail, count, call)
 
     def test_each_kind(self) -> None:
-        """Sums that 64 bits don't hold, and bounds that say nothing."""
+        """Sums that 64 bits can't hold, and bounds that are unknown."""
         numbers = [0, 1, 5, 2**48, 2**63, 2**64 - 2, NO_BOUND]
         asked = [(bounds, kind) for kind in KINDS for bounds in itertools.product(numbers, repeat=3)]
         calls = [Call("joined_rows", [bounds], 0, kind) for bounds, kind in asked]
@@ -391,14 +417,14 @@ class JoinedTables(unittest.TestCase):
 
 
 def orders(bounds: list[int], entries: int) -> Iterator[tuple[int, int, tuple[int, ...], list[int]]]:
-    """All orders with their greatest level, their sum and their levels; the first of the least of these is best."""
+    """All orders with their greatest level, their sum and their levels. The first of the least triples is best."""
     for order in itertools.permutations(range(entries)):
         levels = [bounds[sum(1 << e for e in order[: k + 1])] for k in range(entries)]
         yield max(levels), sum(levels), order, levels
 
 
 def trees(entries: tuple[int, ...]) -> Iterator[Tree]:
-    """All trees over a set of entries: a leaf, or two trees, of which the left one has the first entry."""
+    """All trees over a set of entries: a leaf, or two trees. The left one has the first entry of the set."""
     if len(entries) == 1:
         yield entries[0]
     for size in range(1, len(entries)):
@@ -413,12 +439,12 @@ def set_of(tree: Tree) -> int:
 
 
 def place_of(tree: Tree) -> Place:
-    """What decides between trees of one cost and one sum."""
+    """The key that decides between trees of equal cost and sum."""
     return (set_of(tree[0]), place_of(tree[0]), place_of(tree[1])) if isinstance(tree, tuple) else (0, (), ())
 
 
 def joins_of(tree: Tree, bounds: list[int], joins: list[tuple[int, int, int]], entries: int) -> int:
-    """Puts a tree's joins behind the others. Answers the number of its root."""
+    """Appends a tree's joins to `joins`. Returns the number of its root."""
     if not isinstance(tree, tuple):
         return tree
     left, right = joins_of(tree[0], bounds, joins, entries), joins_of(tree[1], bounds, joins, entries)
@@ -452,7 +478,7 @@ def random_bounds(pick: random.Random, entries: int) -> list[int]:
 
 class Plans(unittest.TestCase):
     def check(self, name: str, best: Callable[[list[int], int], tuple[int, Sequence[Any]]]) -> None:
-        """Plans random bounds with a budget that is just enough, with one less, and with the greatest."""
+        """Plans random bounds with the least sufficient budget, with one less, and with the greatest budget."""
         calls, expected = [], []
         for seed in range(2 * RUNS):
             pick = random.Random(seed)
@@ -484,19 +510,118 @@ class Plans(unittest.TestCase):
 
         self.check("tree", best)
 
-    def test_twelve_entries(self) -> None:
-        """A chain of twelve entries, each with a thousand keys once: a set has a thousand rows for each run of
-        neighbours in it."""
-        ends = [bin(number & ~(number >> 1)).count("1") for number in range(4096)]
-        equalities = [(e, 0, e + 1, 0) for e in range(11)]
-        lists, runs = [(e, 0, e, 1) for e in range(12)], [(1, 1000)] * 12
-        bounds = answers([Call("bounds", [[1000] * 12, equalities, lists, runs], 4096)])[0].elements
-        self.assertEqual(bounds, [1000**count for count in ends])
-        order, tree = answers([Call("order", [bounds], 12, 1000), Call("tree", [bounds], 11, 1000)])
-        self.assertEqual(order, (Status.OK, 12, [(e, 1000) for e in range(12)]))
-        # Of trees with the same cost and sum the best has the least left sets: each entry is joined with all later
-        # ones.
-        self.assertEqual(tree, (Status.OK, 11, [(10, 11, 1000)] + [(9 - k, 12 + k, 1000) for k in range(10)]))
+
+# ---- many entries
+
+
+def star(entries: int, centre: int) -> Call:
+    """One entry is joined with each other entry, by columns of its own."""
+    others = [entry for entry in range(entries) if entry != centre]
+    equalities = [(centre, entry, entry, 0) for entry in others]
+    lists = [(centre, entry, 0, 2) for entry in others] + [(entry, 0, 2, 2) for entry in others]
+    rows = [10 if entry == centre else 6 for entry in range(entries)]
+    return Call("bounds", [rows, equalities, lists, [(3, 1), (1, 7), (2, 1), (1, 4)]], 2**entries)
+
+
+def ring(entries: int) -> Call:
+    """Column 1 of each entry is joined with column 0 of the next one. In column 0 each value occurs once."""
+    equalities = [(entry, 1, (entry + 1) % entries, 0) for entry in range(entries)]
+    lists = [(entry, column, column, 1) for entry in range(entries) for column in (0, 1)]
+    return Call("bounds", [[8] * entries, equalities, lists, [(1, 8), (2, 4)]], 2**entries)
+
+
+def clique_of_one_class(entries: int, number: int) -> Call:
+    """A set of entries whose first columns are equal, with an equality for each pair."""
+    equalities = [(a, 0, b, 0) for a, b in itertools.combinations(range(entries), 2)]
+    lists = [(entry, 0, 0, 2) for entry in range(entries)]
+    return Call("set_bound", [[3] * entries, equalities, lists, [(2, 1), (1, 1)]], 0, number)
+
+
+def clique_of_keys(rows: list[int], number: int) -> Call:
+    """A set of entries of which each pair is joined by columns of its own, whose values occur once."""
+    entries = range(len(rows))
+    equalities = [(a, b, b, a) for a, b in itertools.combinations(entries, 2)]
+    lists = [(entry, column, entry, 1) for entry in entries for column in entries if column != entry]
+    return Call("set_bound", [rows, equalities, lists, [(1, count) for count in rows]], 0, number)
+
+
+class ManyEntries(unittest.TestCase):
+    """Queries of up to sixteen entries, whose bounds are known from their shapes."""
+
+    SIZES = (3, *range(12, MOST_ENTRIES + 1))
+
+    def test_chains(self) -> None:
+        """Chains of many entries, each with 100 keys that occur once. For each run of neighbours in it, a set has as
+        many rows as one entry.
+        """
+        for entries in self.SIZES:
+            rows, last = 100, entries - 1
+            ends = [bin(number & ~(number >> 1)).count("1") for number in range(2**entries)]
+            equalities = [(e, 0, e + 1, 0) for e in range(last)]
+            lists, runs = [(e, 0, e, 1) for e in range(entries)], [(1, rows)] * entries
+            bounds = answers([Call("bounds", [[rows] * entries, equalities, lists, runs], 2**entries)])[0].elements
+            self.assertEqual(bounds, [rows**count for count in ends])
+            order, tree = answers([Call("order", [bounds], entries, rows), Call("tree", [bounds], last, rows)])
+            self.assertEqual(order, (Status.OK, entries, [(e, rows) for e in range(entries)]))
+            # Of trees with equal cost and sum, the best one has the least left sets: each entry is joined with all
+            # later ones.
+            later = [(last - 2 - k, entries + k, rows) for k in range(entries - 2)]
+            self.assertEqual(tree, (Status.OK, last, [(last - 1, last, rows)] + later))
+
+    def test_stars(self) -> None:
+        """In each column of the centre, which has ten rows, one value occurs three times. Each other entry has one
+        value twice and four values once. At worst three rows of the centre match two rows of each other entry, and four
+        rows match one. So the centre and m others have 3 * 2**m + 4 rows. The best order begins with another entry,
+        which has six rows, and goes on with the centre.
+        """
+        for entries, centre in [(entries, centre) for entries in self.SIZES for centre in (0, entries - 1)]:
+            joined = [10, *(3 * 2**count + 4 for count in range(1, entries))]
+            (bounds,) = answers([star(entries, centre)])
+            self.assertEqual(bounds.status, Status.OK)
+            for number, bound in enumerate(bounds.elements):
+                count = bin(number & ~(1 << centre)).count("1")
+                self.assertEqual(bound, joined[count] if number >> centre & 1 else 6**count, (entries, centre, number))
+            first, *others = [entry for entry in range(entries) if entry != centre]
+            (order,) = answers([Call("order", [bounds.elements], entries, joined[-1])])
+            self.assertEqual(order, (Status.OK, entries, list(zip([first, centre, *others], [6, *joined[1:]]))))
+
+    def test_rings(self) -> None:
+        """Each row joins with at most one row of the next entry, and the last entry is joined with the first. So each
+        arc of a ring has as many rows as its first entry, and the whole ring too.
+        """
+        for entries in self.SIZES:
+            (bounds,) = answers([ring(entries)])
+            self.assertEqual(bounds.status, Status.OK)
+            for number, bound in enumerate(bounds.elements):
+                before = number << 1 | number >> (entries - 1)
+                arcs = bin(number & ~before).count("1") or min(number, 1)
+                self.assertEqual(bound, 8**arcs, (entries, number))
+
+    def test_cliques(self) -> None:
+        """All pairs of entries are joined. By one column in which one value is in two of three rows, m entries have at
+        most 2**m + 1 rows. By columns of keys a set has at most as many rows as any of its entries; the last has the
+        fewest.
+        """
+        for entries in self.SIZES:
+            rows = [100 - entry for entry in range(entries)]
+            for number in (1, 3, 2**entries - 2, 2**entries - 1):
+                most = [2 ** bin(number).count("1") + 1, rows[number.bit_length() - 1]]
+                found = answers([clique_of_one_class(entries, number), clique_of_keys(rows, number)])
+                self.assertEqual(found, [(Status.OK, bound, []) for bound in most], (entries, number))
+
+    def test_sets_of_sixteen_entries(self) -> None:
+        """The bound of a set of sixteen entries without equalities is the product of their row bounds. The last entry
+        counts like the others.
+        """
+        rows = [2, 3] * 8
+        given: list[Sequence[Any]] = [rows, [], [], []]
+        (whole,) = answers([Call("bounds", given, 2**16)])
+        self.assertEqual((whole.status, whole.detail), (Status.OK, 2**16))
+        for number in (0, 1, 2**15, 2**15 + 1, 2**16 - 2, 2**16 - 1):
+            product = math.prod(rows[e] for e in range(16) if number >> e & 1)
+            self.assertEqual(whole.elements[number], product)
+            (alone,) = answers([Call("set_bound", given, 0, number)])
+            self.assertEqual((alone.status, alone.detail), (Status.OK, product))
 
 
 if __name__ == "__main__":

@@ -1,4 +1,4 @@
-"""Columns of all kinds, beside a count of their values: what Python, numpy, pandas and Arrow's protocol give.
+"""Compares the lists of columns of all kinds with counts of their values: Python, numpy, pandas and Arrow's protocol.
 
 numpy and pandas are tested if they are installed; library/test runs this file once more with a Python that has them.
 """
@@ -25,7 +25,7 @@ NAN = float("nan")
 
 
 def counted(values: Iterable[Hashable]) -> list[tuple[int, int]]:
-    """The runs by a count of the values that are there."""
+    """The runs, from a count of the values that aren't missing."""
     degrees = Counter(Counter(values).values())
     return sorted(degrees.items(), reverse=True)
 
@@ -78,7 +78,7 @@ class Python(Columns):
         self.gives([None, NAN], [])
 
     def test_what_is_no_column(self) -> None:
-        """A mapping's keys and a set have each value once: four rows of one value would have the list (1, 1)."""
+        """A mapping's keys and a set have each value once: for four rows of one value the list would be (1, 1)."""
         for mapping in ({"x": [1, 1, 1, 1]}, OrderedDict(x=1), Counter([1, 1, 1, 1])):
             self.refuses(mapping, type(mapping).__name__, "mapping")
         for once in ({1}, frozenset([1]), {"a": 1}.keys(), {"a": 1}.items()):
@@ -119,8 +119,8 @@ class Python(Columns):
 
 
 class ArrowLike:
-    """What a column of Arrow offers: `to_pylist`, and an iterator over scalars, which aren't None where the column is
-    null."""
+    """A column as in Arrow: it has `to_pylist`, and an iterator over scalars. For a null, the scalar isn't None.
+    """
 
     shape: tuple[int, ...]
 
@@ -236,7 +236,7 @@ class Numpy(Columns):
 @unittest.skipIf(pandas is None, "pandas isn't here")
 class Pandas(Columns):
     def of(self, column: Any, values: Iterable[Hashable]) -> None:
-        """The column itself, its array, and as an index."""
+        """Checks the column itself, its array, and the column as an index."""
         for given in (column, column.array, pandas.Index(column), column[::-1], column.iloc[[]]):
             self.gives(given, [] if len(given) == 0 else values)
 
@@ -274,7 +274,7 @@ class Pandas(Columns):
 
 class Joins(unittest.TestCase):
     def test_a_frame_s_column_bounds_its_join(self) -> None:
-        """Four rows of one value on both sides join to 16 rows. The names of a frame's columns would say four."""
+        """Four rows of one value on both sides join to 16 rows. By the names of a frame's columns it would be four."""
         column = [1, 1, 1, 1]
         kinds = (
             [column]

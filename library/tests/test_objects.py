@@ -1,5 +1,6 @@
-"""The objects of the Python package as values: how they are shown, compared, pickled and typed, and that a query
-refuses the plans of another one."""
+"""The objects of the Python package as values: how they are shown, compared, pickled and typed. A query refuses the
+plans of another query.
+"""
 
 from __future__ import annotations
 
@@ -92,7 +93,7 @@ class Shown(unittest.TestCase):
         self.assertRaises(BadPlan, lambda: Tree(("r",), ()).cost)
 
     def test_explanations(self) -> None:
-        """Entries, the lists that are used and the bounds stand there; a list that no equality uses doesn't."""
+        """The text has the entries, the lists that are used, and the bounds. It has no list that no equality uses."""
         query = pair(lists={**GIVEN["lists"], ("s", "unused"): [(5, 1)]})
         for text in (query.explain(), query.best_order(12).explain(), query.best_tree(12).explain()):
             for words in (["r", "6"], ["s", "5"], ["r.x", "=", "s.x"], ["r.x", "6", "2", "3"], ["s.x", "5", "3", "2"]):
@@ -169,7 +170,7 @@ class Pickled(unittest.TestCase):
             self.assertEqual((type(copied), str(copied), vars(copied)), (type(error), str(error), vars(error)))
 
     def test_a_pool_of_processes(self) -> None:
-        """Each error comes out of the pool as itself, and the pool goes on."""
+        """Each error comes out of the pool unchanged, and the pool still works."""
         with concurrent.futures.ProcessPoolExecutor(2) as pool:
             for place, error in enumerate(ERRORS):
                 found = pool.submit(raised, place).exception(timeout=60)
@@ -187,7 +188,9 @@ class OfOneQuery(unittest.TestCase):
             self.assertIn(words, str(caught.exception))
 
     def test_another_query_s_plan(self) -> None:
-        """The other plans take other numbers of bytes, though entries, places and even levels are the same."""
+        """The other plans need other numbers of bytes, though their entries, their numbers and even their levels are
+        equal.
+        """
         query = pair()
         others = [
             pair(row_bounds={"r": 60, "s": 5}),
@@ -202,14 +205,29 @@ class OfOneQuery(unittest.TestCase):
             for plan in plans:
                 self.assertIs(plan.query, other)
                 self.refuses(query, plan, "another query")
-        self.assertEqual(query.memory(pair().best_order(12)), 556)
+        self.assertEqual(query.memory(pair().best_order(12)), 531)
         self.assertEqual(query.memory(pair().best_tree(12)), 507)
 
+    def test_the_engine_takes_twelve_entries(self) -> None:
+        """Thirteen entries are bounded and planned; SafeBound's own engine takes twelve, so no bytes are told."""
+        for entries in (12, 13):
+            names = [f"e{n}" for n in range(entries)]
+            query = Query(names, [], dict.fromkeys(names, 2), {})
+            plans: tuple[Order | Tree, ...] = (query.best_order(2**entries), query.best_tree(2**entries))
+            for plan in plans:
+                if entries == 12:
+                    self.assertGreater(query.memory(plan), 0)
+                    continue
+                with self.assertRaises(errors.BadEntries) as caught:
+                    query.memory(plan)
+                self.assertEqual(caught.exception.place, 13)
+
     def test_plans_put_together_by_hand(self) -> None:
-        """Plans with this query's entries and bounds are taken, and no others: no number is cut to 64 bits or rounded
-        to a whole one."""
+        """Only plans with this query's entries and bounds are accepted. No number is cut to 64 bits or rounded to a
+        whole number.
+        """
         query = pair()
-        self.assertEqual(query.memory(Order(("s", "r"), (5, 12))), 556)
+        self.assertEqual(query.memory(Order(("s", "r"), (5, 12))), 531)
         self.assertEqual(query.memory(Tree(("r", "s"), (Join(0, 1, 12),))), 507)
         levels: tuple[Any, ...] = (12 + 2**64, 12 - 2**64, 12.0, 12.5, 3, None, "12")
         for level in levels:
@@ -330,15 +348,15 @@ class Numbers(unittest.TestCase):
         )
         self.assertEqual(query, pair())
         order = query.best_order(numpy.int64(12))
-        self.assertEqual((order, query.memory(order)), (pair().best_order(12), 556))
-        self.assertEqual(query.memory(Order(("s", "r"), (numpy.int64(5), numpy.uint64(12)))), 556)
+        self.assertEqual((order, query.memory(order)), (pair().best_order(12), 531))
+        self.assertEqual(query.memory(Order(("s", "r"), (numpy.int64(5), numpy.uint64(12)))), 531)
         self.assertEqual(safebound.compress([(numpy.int64(5), 1)], numpy.int8(1)), [(5, 1)])
         for wrong in (numpy.float64(12), numpy.array([1, 2]), numpy.datetime64("2020-01-01")):
             self.assertRaises(WrongType, query.best_order, wrong)
 
 
 class Typed(unittest.TestCase):
-    """typed.py calls the package. mypy finds errors in just those of its lines that end in `# wrong`."""
+    """typed.py calls the package. mypy reports exactly its lines that end in `# wrong`."""
 
     def test_mypy(self) -> None:
         if shutil.which("mypy") is None:

@@ -1,5 +1,6 @@
-"""The Python package: what its pages show, its errors, several threads, and how it is installed and finds the
-library."""
+"""The Python package: the examples of its pages, its errors, several threads, its installation, and how it finds the
+library.
+"""
 
 from __future__ import annotations
 
@@ -87,7 +88,7 @@ class Errors(unittest.TestCase):
     def test_queries(self) -> None:
         one, other = ("r", "x"), ("s", "x")
         runs = {one: [(3, 2)], other: [(2, 2), (1, 1)]}
-        for n in (0, 13, 64):
+        for n in (0, 17, 64):
             names = [f"e{i}" for i in range(n)]
             self.raises(safebound.BadEntries, n, safebound.Query(names, [], dict.fromkeys(names, 1), {}).bounds)
         self.raises(safebound.BadEntries, "r", lambda: pair(entries=["r", "s", "r"]))
@@ -129,7 +130,7 @@ class Errors(unittest.TestCase):
 
 class Answers(unittest.TestCase):
     def test_by_name(self) -> None:
-        """A triangle: three equalities that close a cycle."""
+        """A triangle: three equalities that form a cycle."""
         columns = [(entry, column) for entry in "rst" for column in ("x", "y")]
         asked = safebound.Query(
             list("rst"),
@@ -151,8 +152,9 @@ class Answers(unittest.TestCase):
         self.assertEqual((tree.joins, tree.shape), (((1, 2, 5), (0, 3, 9)), ("r", ("s", "t"))))
 
     def test_no_rows_and_no_values(self) -> None:
-        """An empty table has empty lists; of a column with the list (1, 1) one row has a value, and at most that one is
-        joined."""
+        """An empty table has empty lists. A column with the list (1, 1) has one row with a value, and at most that row
+        joins.
+        """
         empty = pair(
             row_bounds={"r": 0, "s": 5}, lists={("r", "x"): safebound.degree_sequence([]), ("s", "x"): [(2, 2), (1, 1)]}
         )
@@ -187,7 +189,7 @@ class Answers(unittest.TestCase):
         self.assertEqual(alone.best_tree(7).shape, "r")
 
     def test_threads(self) -> None:
-        """Four threads at once get what one gets."""
+        """Four threads at the same time get the result that one thread gets."""
         asked = [
             pair(row_bounds={"r": 6, "s": rows}, lists={("r", "x"): [(3, 2)], ("s", "x"): [(2, 2), (1, rows)]})
             for rows in range(5, 205)
@@ -222,7 +224,7 @@ SAY = "import safebound; print(safebound.version(), safebound.path())"
 
 
 class Installed(unittest.TestCase):
-    """The package away from the repository."""
+    """The package in a copy outside of the repository."""
 
     def setUp(self) -> None:
         self.folder = tempfile.mkdtemp()
@@ -268,8 +270,9 @@ class Installed(unittest.TestCase):
         self.assertIn("isn't of version 0.0.1", done.stderr)
 
     def test_pip(self) -> None:
-        """As docs/EMBEDDING.md says, from a copy of the repository's folders, with the library where `make library`
-        leaves it."""
+        """Installs as docs/EMBEDDING.md says, from a copy of the repository's folders, with the library that `make
+        library` built.
+        """
         shutil.copytree(
             os.path.join(calls.ROOT, "python"),
             os.path.join(self.folder, "python"),

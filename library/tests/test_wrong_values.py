@@ -1,6 +1,6 @@
-"""Each value wrong in turn, each room too small, and each request for memory refused.
+"""Tests each wrong value, each room that is too small, and each refused request for memory.
 
-calls.c checks that nothing is written but the detail, that nothing is read past a length, and that no memory is kept.
+calls.c checks that only the detail is written, that nothing is read past a length, and that no memory is kept.
 """
 
 from __future__ import annotations
@@ -14,7 +14,7 @@ from calls import MOST_BUDGET, MOST_ROWS, NO_VALUES, Answer, Call, Status, answe
 
 _E = TypeVar("_E")
 Pair = Tuple[int, int]
-# Of an equality an entry and a column, twice. Of a list an entry, a column, its first run and how many runs it has.
+# Equality: an entry and a column, twice. List: an entry, a column, its first run and its number of runs.
 Equality = Tuple[int, int, int, int]
 
 WRONG_LISTS = [
@@ -36,7 +36,7 @@ WRONG_LISTS = [
 ]
 RIGHT = [(5, 1), (4, 1), (3, 1), (1, 1)]
 
-# Three entries in a chain; the list of column 7 of entry 1 stands between the other two in `runs`.
+# Three entries in a chain. In `runs` the list of column 7 of entry 1 lies between the other two lists.
 ROWS = [6, 5, 4]
 EQUALITIES = [(0, 0, 1, 7), (1, 8, 2, 0)]
 LISTS = [(0, 0, 0, 1), (1, 7, 1, 2), (1, 8, 3, 1), (2, 0, 4, 2)]
@@ -60,7 +60,7 @@ def bounds_of(
 
 class WrongValues(unittest.TestCase):
     def check(self, made: list[tuple[Call, int, Optional[int]]]) -> None:
-        """`made` has triples of a call, its status and its detail. Nothing else may be answered."""
+        """`made` has triples of a call, its expected status and its expected detail. Nothing else may be returned."""
         for (call, status, detail), got in zip(made, answers([call for call, _, _ in made])):
             self.assertEqual(got, Answer(status, detail, []), call)
 
@@ -92,7 +92,7 @@ class WrongValues(unittest.TestCase):
         self.check(
             [
                 (bounds_of(rows=[1] * n, equalities=[], lists=[], runs=[]), Status.BAD_ENTRIES, n)
-                for n in (0, 13, 64, 256)
+                for n in (0, 17, 64, 256)
             ]
         )
 
@@ -172,7 +172,8 @@ class WrongValues(unittest.TestCase):
         self.check(
             [(bounds_of(runs=replaced(RUNS, place, (1, 2**64 - 1))), Status.BAD_RUN, place) for place in range(6)]
         )
-        # The list of a column that no equality names is looked at too; the first list decides, and not the first run.
+        # A list of a column that no equality names is checked too. `detail` names a run of the first wrong list, even
+        # if a lower run is wrong.
         self.check([(bounds_of(lists=LISTS + [(2, 9, 6, 1)], runs=RUNS + [(0, 0)]), Status.BAD_RUN, 6)])
         self.check(
             [(bounds_of(lists=LISTS[::-1], runs=replaced(replaced(RUNS, 0, (0, 0)), 5, (0, 0))), Status.BAD_RUN, 5)]
@@ -185,8 +186,9 @@ class WrongValues(unittest.TestCase):
         self.check([(bounds_of(equalities=[(0, 7, 1, 7), (1, 8, 2, 0)]), Status.MISSING_LIST, 0)])
 
     def test_number_of_bounds(self) -> None:
-        for name, room in [("order", 12), ("tree", 12)]:
-            self.check([(Call(name, [[1] * n], room, 1), Status.BAD_BOUNDS, n) for n in (0, 1, 3, 7, 12, 4095, 8192)])
+        for name in ("order", "tree"):
+            counts = (0, 1, 3, 7, 2**16 - 1, 2**17)
+            self.check([(Call(name, [[1] * n], 16, 1), Status.BAD_BOUNDS, n) for n in counts])
 
     def test_budget(self) -> None:
         for name in ("order", "tree"):
@@ -195,20 +197,21 @@ class WrongValues(unittest.TestCase):
             )
 
     def test_a_level_in_the_middle(self) -> None:
-        """A budget is for the greatest level, wherever it is: two of these three entries have 9 rows in every plan, and
-        all three have 6."""
+        """The budget applies to the largest level, wherever it is. In every plan two of these three entries have 9
+        rows, and all three have 6.
+        """
         bounds = [1, 2, 2, 9, 2, 9, 9, 6]
         self.check(
             [(Call(name, [bounds], 3, budget), Status.BUDGET, 9) for name in ("order", "tree") for budget in (6, 8)]
         )
 
     def test_what_comes_first(self) -> None:
-        """If several statuses apply, the first of the header's list is answered."""
+        """If several statuses apply, the call returns the first one in the header's list."""
         wrong: dict[str, Any] = dict(
-            rows=[MOST_ROWS + 1] * 13, equalities=[(0, 0, 0, 0)] * 257, lists=[(0, 0, 9, 9)], runs=[(0, 0)], room=0
+            rows=[MOST_ROWS + 1] * 17, equalities=[(0, 0, 0, 0)] * 257, lists=[(0, 0, 9, 9)], runs=[(0, 0)], room=0
         )
         for name, right, status, detail in [
-            ("rows", [6, MOST_ROWS + 1, 4], Status.BAD_ENTRIES, 13),
+            ("rows", [6, MOST_ROWS + 1, 4], Status.BAD_ENTRIES, 17),
             ("rows", ROWS, Status.BAD_ROWS, 1),
             ("equalities", [(0, 0, 0, 0)], Status.BAD_EQUALITIES, 257),
             ("equalities", EQUALITIES, Status.BAD_EQUALITY, 0),
@@ -295,8 +298,9 @@ class Rooms(unittest.TestCase):
 
 class Memory(unittest.TestCase):
     def test_each_request_refused(self) -> None:
-        """Whichever request is refused, the call says that memory is lacking, or it does with less and gives the whole
-        answer. The same call made again then has its answer."""
+        """Whichever request is refused, the call reports too little memory, or it does without that memory and gives
+        the whole result. The same call made again gives its result.
+        """
         wanting = Answer(Status.NO_MEMORY, None, [])
         told = 0
         for call in CALLS + [bounds_of()._replace(name="set_bound", room=0, number=7)]:
@@ -310,7 +314,7 @@ class Memory(unittest.TestCase):
         self.assertGreater(told, 10)
 
     def test_python(self) -> None:
-        """A process of its own, with too little memory for a column."""
+        """Runs Python in a process of its own, with too little memory for a column."""
         if not sys.platform.startswith("linux"):
             self.skipTest("limits of memory are those of Linux")
         done = subprocess.run([sys.executable, "-c", WITHOUT_MEMORY], capture_output=True, text=True, timeout=120)

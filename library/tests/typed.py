@@ -1,4 +1,6 @@
-"""Calls of the library, for their types: `mypy --strict` faults just the lines with `# wrong`. Nothing here is run."""
+"""Calls of the library, for their types: `mypy --strict` reports exactly the lines with `# wrong`. This file is never
+run.
+"""
 
 from __future__ import annotations
 

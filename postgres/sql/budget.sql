@@ -66,7 +66,7 @@ SET safebound.budget = 79;
 SELECT count(*) FROM r, s;
 SET safebound.budget = 80;
 SELECT count(*) FROM r, s;
--- What has no bound: a table without statistics, a function, a query in FROM, more than 12 entries.
+-- What has no bound: a table without statistics, a function, a query in FROM, more than 16 entries.
 SET safebound.budget = 1000000000;
 \set VERBOSITY default
 SELECT count(*) FROM r JOIN unknown USING (x);
@@ -84,7 +84,8 @@ SELECT count(*) FROM pairs JOIN pairs p2 USING (x) JOIN pairs p3 USING (x) JOIN 
 DROP VIEW pairs;
 SET join_collapse_limit = 1;
 SELECT count(*) FROM s t1 JOIN s t2 USING (x) JOIN s t3 USING (x) JOIN s t4 USING (x) JOIN s t5 USING (x) JOIN s t6 USING (x) JOIN s t7 USING (x)
-    JOIN s t8 USING (x) JOIN s t9 USING (x) JOIN s t10 USING (x) JOIN s t11 USING (x) JOIN s t12 USING (x) JOIN s t13 USING (x) WHERE x = 1;
+    JOIN s t8 USING (x) JOIN s t9 USING (x) JOIN s t10 USING (x) JOIN s t11 USING (x) JOIN s t12 USING (x) JOIN s t13 USING (x) JOIN s t14 USING (x)
+    JOIN s t15 USING (x) JOIN s t16 USING (x) JOIN s t17 USING (x) WHERE x = 1;
 \set VERBOSITY terse
 RESET join_collapse_limit;
 SET safebound.unbounded = admit;

@@ -2,11 +2,11 @@
 
     postgres/tests/beside.py URL [SEED [SETS [QUERIES]]] [--unwatched]
 
-For each of SETS sets of tables QUERIES queries are asked while three other sessions insert, update, delete, copy,
-truncate and fold. Half of them run in REPEATABLE READ, where the plan's numbers are bounds of the snapshot in which it
-runs. The others are prepared and run in READ COMMITTED under a budget that is near their bound: what is admitted has no
-join with more rows. With --unwatched nobody follows the rows that come. Then joins have to be above their bound, which
-shows that the test would see it.
+For each of SETS sets of tables, QUERIES queries are asked while three other sessions insert, update, delete, copy,
+truncate and fold. Half of the queries run in REPEATABLE READ, where the plan's numbers are bounds for the snapshot in
+which it runs. The others are prepared, and run in READ COMMITTED under a budget near their bound; if a query is
+admitted, no join has more rows than the budget. With --unwatched, new rows aren't followed. Then some joins have to
+exceed their bounds, which shows that the test would notice it.
 """
 
 from __future__ import annotations
@@ -22,12 +22,12 @@ from never_under import ASKING, JOINS, KINDS, NOT_RUN, PARTITIONED, PRELUDE
 from never_under import Connection, Plan, Table, limited, nodes, query, value
 
 WRITERS = 3
-# States of a query that is refused.
+# SQLSTATEs of a refused query.
 ABOVE, UNBOUNDED = "SB001", "SB002"
 
 
 def all_joins(plan: Plan, repeated: bool = False) -> Iterator[Plan]:
-    """The joins of a plan that aren't repeated for each row of others."""
+    """The joins of a plan that aren't repeated for each row of another relation."""
     if plan["Node Type"] in JOINS and plan["Actual Loops"] == 1 and not repeated:
         yield plan
     for below in plan.get("Plans", []):
@@ -75,7 +75,7 @@ class Writer(threading.Thread):
         kind = r.choices(kinds, [12, 4, 8, 8, 4, 1, 2 if self.watched else 0])[0]
         i = r.randrange(len(table.columns))
         some = value(r, table.columns[i], table.distinct[i], 0)
-        # Into the whole table, or straight into a part of it.
+        # Into the whole table, or directly into a part.
         into = r.choice([table.name, table.name, *table.parts()])
         if kind in ("insert", "one"):
             rows = (f"({', '.join(self.row(table))})" for _ in range(1 if kind == "one" else r.randint(1, 20)))
@@ -99,7 +99,7 @@ class Writer(threading.Thread):
 
 
 class Asking:
-    """The session that asks, and how often it saw what."""
+    """The session that asks queries, and counts of what it saw."""
 
     def __init__(self, connection: Connection, r: random.Random, watched: bool) -> None:
         self.connection, self.r, self.watched = connection, r, watched
@@ -113,17 +113,17 @@ class Asking:
                 print(f"{node['Node Type']} has {node['Actual Rows']} rows, at most {most}: {text}")
 
     def all_known(self) -> None:
-        """Counts watched tables that have become unknown. What writers do here makes none unknown."""
+        """Counts the watched tables that have become unknown. The writers of this file make no table unknown."""
         unknown = self.connection.execute('SELECT "table" FROM safebound.kept WHERE NOT known').fetchall()
         self.seen["unknown tables"] += len(unknown)
 
     def bounded(self, told: list[Plan], known: set[str], text: str) -> None:
-        """Each scan and join of known tables has at most as many rows as the plan says."""
+        """Checks that each scan and join of known tables has at most as many rows as the plan says."""
         for node in nodes(told[0]["Plan"], known):
             self.node(node, node["Plan Rows"], f"snapshot {'joins' if node['Node Type'] in JOINS else 'scans'}", text)
 
     def admitted(self, told: list[Plan], budget: int, text: str) -> None:
-        """Each join of an admitted query has at most as many rows as the budget says."""
+        """Checks that each join of an admitted query has at most as many rows as the budget."""
         self.seen["admitted"] += 1
         for node in all_joins(told[0]["Plan"]):
             self.node(node, budget, "budget joins", text)
@@ -143,7 +143,7 @@ class Asking:
                 self.bounded(self.explained(text), known, text)
 
     def under_budget(self, text: str) -> None:
-        """Runs a prepared query again and again under a budget near its bound."""
+        """Runs a prepared query several times under a budget near its bound."""
         self.connection.execute(f"PREPARE asked AS {text}")
         for _ in range(4):
             told = self.connection.execute("EXPLAIN (FORMAT JSON) EXECUTE asked").fetchone()
@@ -174,7 +174,9 @@ class Asking:
 
 
 def make_tables(connection: Connection, r: random.Random, watched: bool) -> list[Table]:
-    """Plain tables, or also partitions and children; in half of the sets with references to the tables before them."""
+    """Creates plain tables, or also partitioned tables and tables with children. In half of the sets, tables refer to
+    earlier ones.
+    """
     kinds = r.choice([("plain",), KINDS])
     refers = r.random() < 0.5
     tables = [Table(r, f"nu{i}", kinds) for i in range(3)]
@@ -186,7 +188,7 @@ def make_tables(connection: Connection, r: random.Random, watched: bool) -> list
 
 
 def one_set(url: str, asking: Asking, r: random.Random, watched: bool, queries: int) -> Counter[str]:
-    """A set of tables, with writers beside."""
+    """Runs a set of tables, with writers beside the queries."""
     asking.connection.execute("SET safebound.estimates = off")
     tables = make_tables(asking.connection, r, watched)
     known = {table.name for table in tables if table.kind in ("plain", *PARTITIONED)}

@@ -1,10 +1,10 @@
-"""Puts known bugs into the extension, one at a time, and sees whether its tests find them.
+"""Puts known bugs into the extension, one at a time, and checks that its tests find them.
 
     postgres/tests/mutants.py [WORD]
 
-Each bug is an edit of a C file. For each edit whose name has WORD in it (without WORD for all of them) the extension
-is built anew, and the test that has to fail is run on a server of its own. An edit whose test passes is printed as
-MISSED, and the exit status is then 1. Without WORD each of these tests is first run without an edit, and has to pass.
+Each bug is an edit of a C file. WORD selects the edits whose name has it. For each edit the extension is built again,
+and the test that has to fail is run on a server of its own. If that test passes, the edit is printed as MISSED, and the
+exit status is 1. Without WORD each of these tests is first run without an edit, and has to pass.
 """
 
 from __future__ import annotations
@@ -26,9 +26,9 @@ from installed import SETTINGS, Alone, lay_server
 
 @dataclass
 class Edit:
-    """A bug: what goes wrong, the C file, texts of it with what replaces them, and the test that has to fail.
+    """A bug: what goes wrong, the C file, pairs of an old and a new text in it, and the test that has to fail.
 
-    The test is a regression or an isolation test, by its name.
+    The test is the name of a regression or an isolation test.
     """
 
     name: str
@@ -189,7 +189,7 @@ def apply(edit: Edit, folder: Path) -> None:
 
 
 def passes(folder: Path, test: str) -> bool:
-    """Whether one test of the folder passes, on a new server with the extension as it was built there."""
+    """Whether one test of the folder passes, on a new server with the extension that was built there."""
     kind = "ISOLATION" if (folder / "specs" / f"{test}.spec").exists() else "REGRESS"
     other = {"ISOLATION": "REGRESS", "REGRESS": "ISOLATION"}[kind]
     with Alone(SETTINGS) as server:

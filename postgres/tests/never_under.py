@@ -1,12 +1,12 @@
-"""Random queries over random tables: no scan and no join of a plan has more rows than its bound.
+"""Checks random queries over random tables: no scan and no join of a plan has more rows than its bound.
 
     postgres/tests/never_under.py URL [SEED [TABLES [QUERIES]]]
 
-The server at URL has the extension installed. For each of TABLES sets of tables QUERIES queries are planned with
-safebound.estimates = bound and run by EXPLAIN ANALYZE, which counts the rows of each node. Tables are plain,
-partitioned or have children; queries read them alone, by a view, a subquery or WITH. If a join reads what isn't known,
-the plan has PostgreSQL's own number for it, which isn't looked at. The statements of a set are sent in few texts, so
-that thousands of sets take no longer than their queries do.
+The server at URL has the extension installed. For each of TABLES sets of tables, QUERIES queries are planned with
+safebound.estimates = bound. EXPLAIN ANALYZE runs them and counts the rows of each node. Tables are plain, partitioned
+or have children. Queries read them directly, by a view, a subquery or WITH. If a join reads an unknown table, the plan
+has PostgreSQL's own number for the join, which isn't checked. The statements of a set are sent in few texts, so that
+thousands of sets take no longer than their queries do.
 """
 
 from __future__ import annotations
@@ -23,7 +23,7 @@ Connection = psycopg.Connection[Any]
 # A node of a plan, as EXPLAIN tells it.
 Plan = Dict[str, Any]
 
-# Types whose values compare across columns, with a text for a small number.
+# Types whose values can be compared across columns, each with a form of text for a small number.
 TYPES = {
     "integer": "{n}",
     "bigint": "{n}",
@@ -39,7 +39,7 @@ JOINS = ("Nested Loop", "Hash Join", "Merge Join")
 SCANS = ("Seq Scan", "Index Scan", "Index Only Scan", "Bitmap Heap Scan")
 # A partitioned table is read by its parts.
 APPENDS = ("Append", "Merge Append")
-# Nodes between a join and the tables below it, which have the rows of what is below them.
+# Nodes between a join and the tables below it. They have the rows of the node below.
 PASSES = ("Hash", "Sort", "Incremental Sort", "Materialize", "Memoize", "Bitmap Index Scan", "BitmapOr", "BitmapAnd")
 # A join with more outer and semi-joins in it isn't bounded.
 MOST_SPECIAL_JOINS = 6
@@ -47,7 +47,7 @@ MOST_SPECIAL_JOINS = 6
 TOGETHER, TOLD_AFTER = 20, 250
 ASKING = "SET safebound.estimates = bound"
 KINDS = ("plain", "plain", "plain", "hash", "list", "children")
-# These have no rows but those of their parts, and statistics as a whole.
+# These tables have only the rows of their parts, and statistics as a whole.
 PARTITIONED = ("hash", "list")
 PRELUDE = """
 CREATE EXTENSION IF NOT EXISTS safebound;
@@ -58,9 +58,10 @@ DO $$ BEGIN CREATE DOMAIN small AS integer CHECK (VALUE < 100000); EXCEPTION WHE
 
 
 def limited(queries: str) -> str:
-    """Queries with a limit of time, since some would take minutes; the statements that make tables have none. If a
+    """Queries with a time limit, since some would take minutes. The statements that create tables have no limit. If a
     query ends just as the limit is reached, PostgreSQL cancels the statement after it. So the statement that lifts the
-    limit is in the same text."""
+    limit is in the same text.
+    """
     return f"SET LOCAL statement_timeout = '1s'; {queries}; SET LOCAL statement_timeout = 0"
 
 
@@ -86,7 +87,7 @@ class Table:
         return [f"{self.name}_{i}" for i in range(2)]
 
     def listed(self, part: int) -> str:
-        """The values of a part by lists: one value and NULL, and all others."""
+        """The values of a list partition: one value and NULL, or all other values."""
         return "DEFAULT" if part else f"FOR VALUES IN (NULL, {TYPES[self.columns[0]].format(n=0, zeros='0', case='v')})"
 
     def created(self) -> Iterator[str]:
@@ -114,14 +115,15 @@ class Table:
                 yield f"INSERT INTO {self.name}_0 SELECT * FROM ONLY {self.name} LIMIT 30"
 
     def keyed(self) -> Iterator[str]:
-        """The first column becomes the key: rows without a value there are deleted, and all but one of each value."""
+        """Makes the first column the key. Rows without a value there are deleted, and all rows but one of each value.
+        """
         again = f"EXISTS (SELECT FROM {self.name} b WHERE a.c0 = b.c0 AND a.ctid < b.ctid)"
         yield f"DELETE FROM {self.name} a WHERE c0 IS NULL OR {again}"
         yield f"ALTER TABLE {self.name} ADD PRIMARY KEY (c0)"
         self.has_key = True
 
     def referring(self, other: Table) -> Iterator[str]:
-        """Each column of the key's type refers to the other table's key: rows with other values are deleted."""
+        """Makes each column of the key's type refer to the other table's key. Rows with other values are deleted."""
         for i, of in enumerate(self.columns):
             if other.has_key and of == other.columns[0] and (i > 0 or not self.has_key):
                 there = f"EXISTS (SELECT FROM {other.name} o WHERE o.c0 = {self.name}.c{i})"
@@ -145,12 +147,12 @@ class Table:
             yield f"CREATE INDEX ON {self.name} (c{self.r.randrange(len(self.columns))})"
 
     def make(self, connection: Connection, others: list[Table]) -> None:
-        """Makes the table, and in a transaction after it its statistics."""
+        """Creates the table, and in a later transaction its statistics."""
         for statements in (self.made(others), self.kept()):
             connection.execute("; ".join(statements))
 
     def read(self, alias: str, alone: set[str]) -> str:
-        """What FROM has for the table before its alias. If a part is read alone, `alone` gets the alias."""
+        """The item of FROM for the table, before its alias. If a part is read alone, `alone` gets the alias."""
         parts = self.parts() + ([f"ONLY {self.name}"] if self.kind == "children" else [])
         if parts and self.r.random() < 0.6:
             alone.add(alias)
@@ -215,7 +217,7 @@ def with_tables(r: random.Random, tables: list[Table]) -> str:
 
 
 def leaf(r: random.Random, number: int, tables: list[Table], alone: set[str]) -> tuple[str, list[tuple[str, Table]]]:
-    """A table, or the rows of it that have a partner in another one, or that have none."""
+    """A table, or its rows that have a match in another table, or its rows that have none."""
     alias, table = f"t{number}", r.choice(tables)
     text = f"{table.read(alias, alone)} {alias}"
     if r.random() < 0.15:
@@ -233,7 +235,7 @@ def is_null(r: random.Random, entry: tuple[str, Table]) -> str:
 def outer_joins(
     r: random.Random, numbers: range, tables: list[Table], alone: set[str]
 ) -> tuple[str, list[tuple[str, Table]]]:
-    """Joins of any shape, most of them outer ones, and the tables that they join."""
+    """Joins of any shape, most of them outer joins, and the tables that they join."""
     if len(numbers) == 1:
         return leaf(r, numbers[0], tables, alone)
     middle = r.randint(1, len(numbers) - 1)
@@ -256,8 +258,9 @@ def special_joins(text: str) -> int:
 
 
 def outer_query(r: random.Random, tables: list[Table]) -> tuple[str, set[str]]:
-    """Outer joins above each other under conditions on sides that may be missing, and the aliases of the parts that it
-    reads alone."""
+    """Nested outer joins, under conditions on sides that may be missing, and the aliases of the parts that are read
+    alone.
+    """
     alone: set[str] = set()
     text, visible = outer_joins(r, range(r.randint(3, 6)), tables, alone)
     room = MOST_SPECIAL_JOINS - special_joins(text)
@@ -298,9 +301,9 @@ def query(r: random.Random, tables: list[Table]) -> tuple[str, set[str]]:
 
 
 def is_known(plan: Plan, known: set[str]) -> bool:
-    """Whether a plan reads known tables alone, and joins them and does nothing else.
+    """Whether a plan only reads known tables and joins them.
 
-    Known are names of plain and of partitioned tables, and aliases by which a part is read alone.
+    `known` has the names of plain and of partitioned tables, and the aliases by which a part is read alone.
     """
     if plan["Node Type"] in SCANS:
         name = plan["Relation Name"]
@@ -310,16 +313,18 @@ def is_known(plan: Plan, known: set[str]) -> bool:
 
 
 def is_read_again(join: Plan, below: Plan) -> bool:
-    """Whether the rows below are counted as often as the join reads them again. A nested loop reads its inner side for
-    each outer row. A merge join may go back in its inner scan, also through a Result, which tests a condition without
-    columns once."""
+    """Whether the rows below are counted each time the join reads them again. A nested loop reads its inner side for
+    each outer row. A merge join may go back in its inner scan, also through a Result node, which tests a condition
+    without columns once.
+    """
     again = {"Nested Loop": True, "Merge Join": below["Node Type"] in (*SCANS, *APPENDS, "Result")}
     return below["Parent Relationship"] == "Inner" and again.get(join["Node Type"], False)
 
 
 def nodes(plan: Plan, known: set[str], repeated: bool = False) -> Iterator[Plan]:
-    """The scans and joins whose bound is for all rows that they have: those that aren't repeated for each row of
-    others. Parts that are read together have one bound, as a whole."""
+    """The scans and joins whose bound applies to all their rows, that is those not repeated for each row of another
+    relation. Parts that are read together have one bound, as a whole.
+    """
     kind = plan["Node Type"]
     if not repeated and plan["Actual Loops"] == 1 and kind in (*JOINS, *SCANS, *APPENDS) and is_known(plan, known):
         yield plan
@@ -329,7 +334,7 @@ def nodes(plan: Plan, known: set[str], repeated: bool = False) -> Iterator[Plan]
         yield from nodes(below, known, repeated or is_read_again(plan, below))
 
 
-# A query that isn't run: it takes too long, or compares what has no equality.
+# Errors of a query that isn't run: it takes too long, or compares values that have no equality.
 NOT_RUN = (psycopg.errors.QueryCanceled, psycopg.errors.FeatureNotSupported, psycopg.errors.UndefinedFunction,
            psycopg.errors.DatatypeMismatch)
 # A query, and the known tables and parts that it reads.
@@ -337,7 +342,7 @@ Asked = Tuple[str, Set[str]]
 
 
 class Counting:
-    """The session that asks, and what it counted."""
+    """The session that asks queries, and its counters."""
 
     def __init__(self, connection: Connection, r: random.Random, told: str) -> None:
         self.connection, self.r, self.told = connection, r, told
@@ -366,7 +371,7 @@ class Counting:
             print(text, error)
 
     def ask(self, asked: list[Asked]) -> None:
-        """Sends queries in one text. If one of them isn't run, each is sent by itself."""
+        """Sends queries in one text. If one of them can't be run, each is sent alone."""
         explain = "EXPLAIN (ANALYZE, TIMING OFF, FORMAT JSON)"
         try:
             cursor = self.connection.execute(limited("; ".join(f"{explain} {text}" for text, _ in asked)))
@@ -385,7 +390,7 @@ class Counting:
             self.ask([one])
 
     def one_set(self, queries: int) -> None:
-        """New tables, and queries over them."""
+        """Creates new tables, and asks queries over them."""
         self.connection.execute("SET safebound.estimates = off")
         tables = [Table(self.r, f"nu{i}") for i in range(3)]
         for i, table in enumerate(tables):

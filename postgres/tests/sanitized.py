@@ -1,8 +1,8 @@
-"""The regression and isolation tests with the extension built for AddressSanitizer and for undefined behaviour.
+"""Runs the regression and isolation tests with the extension built for AddressSanitizer and for undefined behaviour.
 
     postgres/tests/sanitized.py
 
-PostgreSQL itself isn't built like that. So faults are seen in the extension's stack and globals, and in memory that the
+PostgreSQL itself isn't built that way. So faults are found in the extension's stack and globals, and in memory that the
 extension or the library takes by malloc.
 """
 
@@ -22,15 +22,14 @@ sys.path[:0] = [str(HERE.parent)]
 from installed import SETTINGS, Alone, lay_server
 
 FLAGS = "-fno-sanitize=alignment -fno-sanitize-recover=undefined"
-# AddressSanitizer starts at the first malloc and looks for this function. If the function is missing, AddressSanitizer
-# asks the C library for the text of that error, and the C library translates the text. If the first malloc was called
-# by the C library's translation code, the lock of that code is then released twice, and the next one to take it waits
-# forever.
+# AddressSanitizer starts at the first malloc and looks for this function. If it is missing, AddressSanitizer asks the C
+# library for the text of that error, which the C library translates. If the translation code made the first malloc, its
+# lock is then released twice, and the next thread to take the lock waits forever.
 DEMANGLES_NOTHING = "char *swift_demangle(void) { return 0; }"
 
 
 def libraries(root: str) -> str:
-    """The libraries that are loaded before PostgreSQL."""
+    """The libraries that have to be loaded before PostgreSQL."""
     words = ["gcc", "-print-file-name=libasan.so"]
     sanitizer = subprocess.run(words, check=True, text=True, stdout=subprocess.PIPE).stdout.strip()
     own = os.path.join(root, "demangles_nothing.so")
@@ -40,8 +39,9 @@ def libraries(root: str) -> str:
 
 
 def starts(preload: dict[str, str]) -> bool:
-    """Whether the program postgres runs under AddressSanitizer (`postgres -V`). It may hang in a library of the
-    machine's, long before the extension."""
+    """Whether the program postgres runs under AddressSanitizer (`postgres -V`). It may hang in one of the machine's
+    libraries, long before the extension is loaded.
+    """
     try:
         done = subprocess.run(["postgres", "-V"], stdout=subprocess.DEVNULL, env={**os.environ, **preload}, timeout=60)
         return done.returncode == 0

@@ -1,4 +1,5 @@
-"""What depends on how a session begins and who writes: each test has connections of its own to a server of its own.
+"""Tests that depend on how a session begins and on who writes. Each test has its own connections, to one server of this
+file.
 
     postgres/tests/test_sessions.py
 """
@@ -19,7 +20,7 @@ HERE = os.path.dirname(os.path.abspath(__file__))
 sys.path[:0] = [os.path.join(HERE, "..")]
 from installed import Alone, Installed, programs
 
-# The library isn't loaded in each session: tests say themselves where it is.
+# Sessions don't load the library by themselves: each test decides where it is loaded.
 SETTINGS = ("session_preload_libraries=", "wal_level=logical", "max_prepared_transactions=2",
             "wal_receiver_status_interval=1")
 JOIN = "SELECT count(*) FROM r JOIN s USING (x)"
@@ -43,12 +44,12 @@ def setUpModule() -> None:
 
 
 class Connected(unittest.TestCase):
-    """r and s have 10 values each, 100 and 10 times: 10,000 rows join."""
+    """r and s have 10 different values. Each occurs 100 times in r and 10 times in s, so 10,000 rows join."""
 
     def setUp(self) -> None:
         self.owner = self.connect()
         self.owner.execute(MADE)
-        # The settings of a role are there before the library is.
+        # The role's settings exist before the library is loaded.
         self.owner.execute("LOAD 'safebound'")
 
     def connect(self, user: str = "postgres", database: str = "postgres", options: str = "") -> psycopg.Connection[Any]:
@@ -122,7 +123,8 @@ class Running(Connected):
         self.refused(self.owner)
 
     def test_children_in_a_subquery(self) -> None:
-        """A subquery's entries have other numbers in the finished plan than in its own part of the planner."""
+        """In the finished plan a subquery's entries have other numbers than in the subquery's own part of the planner.
+        """
         self.owner.execute("CREATE TABLE above (x integer); CREATE TABLE below () INHERITS (above)")
         self.addCleanup(self.owner.execute, "DROP TABLE above CASCADE")
         for more in range(1, 8):
@@ -132,7 +134,7 @@ class Running(Connected):
             self.assertIn(["a", "s"], names)
 
     def test_prepared_transactions(self) -> None:
-        """Rows of a transaction that is prepared come with their delta when it is committed."""
+        """Rows of a prepared transaction come together with their delta, when it is committed."""
         self.owner.execute("BEGIN; INSERT INTO r SELECT 1 FROM generate_series(1, 100); PREPARE TRANSACTION 'one'")
         self.owner.execute("SET safebound.budget = 10000")
         self.assertEqual(self.owner.execute(JOIN).fetchone(), (10000,))
@@ -146,7 +148,7 @@ class Running(Connected):
         self.refused(self.owner, "DECLARE c CURSOR WITH HOLD FOR SELECT 1 FROM r JOIN s USING (x)")
 
     def test_protocol_parameters(self) -> None:
-        """A statement with parameters of the protocol is bounded with their values."""
+        """A statement with protocol parameters is bounded with their values."""
         self.owner.execute("SET safebound.budget = 1000")
         statement = "SELECT count(*) FROM r JOIN s USING (x) WHERE r.x = %s"
         self.assertEqual(self.owner.execute(statement, (1,), prepare=True).fetchone(), (1000,))
@@ -168,7 +170,7 @@ class Running(Connected):
 
 class Restored(Connected):
     def test_a_dump(self) -> None:
-        """Statistics aren't dumped: a restored table isn't known, takes rows, and can be watched anew."""
+        """Statistics aren't dumped. A restored table is unknown, accepts rows, and can be watched again."""
         words = [os.path.join(programs() or "", "pg_dump"), server.url]
         dump = subprocess.run(words, check=True, capture_output=True, text=True).stdout
         self.assertIn("safebound_insert", dump)
@@ -206,7 +208,7 @@ class Elsewhere(Connected):
 
 class Replicated(Connected):
     def wait(self, statement: str) -> None:
-        """Until the statement answers true."""
+        """Waits until the statement returns true."""
         for _ in range(300):
             if self.subscriber.execute(statement).fetchone() == (True,):
                 return
@@ -230,7 +232,7 @@ class Replicated(Connected):
         self.applied()
 
     def test_what_a_replica_applies_to_parts(self) -> None:
-        """A replica applies rows to the partitioned table, which puts them into a part."""
+        """A replica applies rows to the partitioned table, which stores them in a part."""
         self.subscriber.execute("DROP TABLE r; CREATE TABLE r (x integer) PARTITION BY HASH (x)")
         for i in range(2):
             values = f"VALUES WITH (MODULUS 2, REMAINDER {i})"

@@ -1,7 +1,7 @@
 """Row bounds of joins that are never too low, and the best plans by them.
 
-Python's side of SafeBound's library. What is known of a query is how many rows each entry has at most, and how often
-the values of each joined column repeat:
+Python's side of SafeBound's library. The caller says of a query how many rows each entry has at most, and how often the
+values of each joined column repeat:
 
 >>> from safebound import Query, degree_sequence
 >>> query = Query(

@@ -1,4 +1,4 @@
-"""The shared object: where it is found, its calls, and what its statuses raise."""
+"""Finds and loads the shared object, makes its calls, and turns its statuses into exceptions."""
 
 from __future__ import annotations
 
@@ -13,6 +13,7 @@ from pathlib import Path
 from typing import Any, Iterator, Sequence
 
 from . import errors
+from .limits import MOST_ACCURACY, MOST_ENTRIES, MOST_EQUALITIES
 from ._version import VERSION as VERSION
 
 NAME, VARIABLE = "libsafebound.so", "SAFEBOUND_LIBRARY"
@@ -53,19 +54,19 @@ class Status:
 
 WRONG = {
     Status.BAD_KEYS: (errors.BadKeys, "{} keys are more than 2**48"),
-    Status.BAD_ACCURACY: (errors.BadAccuracy, "an accuracy is from 1 to 64, not {}"),
+    Status.BAD_ACCURACY: (errors.BadAccuracy, f"an accuracy is from 1 to {MOST_ACCURACY}, not {{}}"),
     Status.BAD_RUN: (errors.BadRun, "run {} is of nothing, rises, or sums to more than 2**48"),
     Status.BAD_OTHER_RUN: (
         errors.BadOtherRun, "run {} of the second list is of nothing, rises, or sums to more than 2**48"
     ),
     Status.BAD_SUM: (errors.BadSum, "what both lists make has {} rows, more than 2**48"),
-    Status.BAD_ENTRIES: (errors.BadEntries, "a query has 1 to 12 entries, not {}"),
+    Status.BAD_ENTRIES: (errors.BadEntries, f"a query has 1 to {MOST_ENTRIES} entries, not {{}}"),
     Status.BAD_ROWS: (errors.BadRows, "the row bound of entry {} isn't from 0 to 2**48"),
-    Status.BAD_EQUALITIES: (errors.BadEqualities, "a query has at most 256 equalities, not {}"),
+    Status.BAD_EQUALITIES: (errors.BadEqualities, f"a query has at most {MOST_EQUALITIES} equalities, not {{}}"),
     Status.BAD_EQUALITY: (errors.BadEquality, "equality {} isn't of two different entries of the query"),
     Status.BAD_LIST: (errors.BadList, "list {} is of an entry that isn't there, has no runs, or comes twice"),
     Status.MISSING_LIST: (errors.MissingList, "a column of equality {} has no list"),
-    Status.BAD_BOUNDS: (errors.BadBounds, "there are 2**n bounds, n from 1 to 12, not {}"),
+    Status.BAD_BOUNDS: (errors.BadBounds, f"there are 2**n bounds, n from 1 to {MOST_ENTRIES}, not {{}}"),
     Status.BAD_BUDGET: (errors.BadBudget, "a budget is from 0 to 2**59, not {}"),
     Status.BAD_LEVELS: (errors.BadPlan, "an order has a level for each entry, not {}"),
     Status.BAD_LEVEL: (errors.BadPlan, "level {} is of an entry that isn't there"),
@@ -97,7 +98,7 @@ def _candidates(name: str, variable: str) -> Iterator[Path]:
 
 
 def find(name: str, variable: str) -> Path:
-    """The shared object of this name, or the file that the variable names."""
+    """The path of the shared object with this name, or of the file that the variable names."""
     looked = list(_candidates(name, variable))
     for candidate in looked:
         if candidate.is_file():
@@ -106,15 +107,18 @@ def find(name: str, variable: str) -> Path:
 
 
 def path() -> Path:
-    """The shared object that is used.
+    """The path of the shared object that is loaded.
 
-    It is looked for in this order: the file that the variable SAFEBOUND_LIBRARY names, and then no other; beside this
-    package; in the folder lib that the package lies below, where `make install` lays it; in lib/ of Python's prefix, of
-    /usr/local and of /usr; and where `make library` leaves it, in a clone of the repository. In each lib the subfolder
-    for this architecture is searched too, such as x86_64-linux-gnu.
+    If the variable SAFEBOUND_LIBRARY names a file, no other one is tried. Otherwise these folders are searched in
+    order:
+    - the folder of this package;
+    - the folder lib above this package, where `make install` puts the library;
+    - lib/ of Python's prefix, of /usr/local and of /usr;
+    - in a clone of the repository, where `make library` leaves the library.
+    In each lib the subfolder for this architecture is searched too, such as x86_64-linux-gnu.
 
     Raises:
-        LibraryNotFound: none is there.
+        LibraryNotFound: none of these places has the library.
     """
     return find(NAME, VARIABLE)
 
@@ -143,7 +147,7 @@ def _library() -> ctypes.CDLL:
         "version": [ctypes.c_char_p, size, detail],
     }
     for name, form in forms.items():
-        # A library of the last release lacks the calls that were added since.
+        # The library of the last release doesn't have calls that were added later.
         function = getattr(found, "safebound_" + name, None)
         if function is not None:
             function.argtypes, function.restype = form, ctypes.c_uint32
@@ -162,20 +166,20 @@ def _function(name: str) -> Any:
 
 
 def version() -> str:
-    """The version of the library that is used, as text, such as 0.3.0."""
+    """The version of the loaded library as text, such as 0.3.0."""
     status, detail, text = call("version", [], ctypes.c_char, 64)
     raise_for(status, detail)
     return str(text.value.decode())
 
 
 def array_of(element: Any, parts: Sequence[Any]) -> Any:
-    """An array of elements, each given by its numbers."""
+    """An array of elements. Each part has the numbers of one element."""
     return (element * len(parts))(*parts)
 
 
 def call(name: str, given: list[Any], element: Any, room: int) -> tuple[int, int, Any]:
-    """Calls a function with room for so many elements, and again with more if it needs more. Returns its status, its
-    detail and the array.
+    """Calls a function with this much room, and again with more if it needs more. Returns its status, its detail and
+    the array.
     """
     function = _function(name)
     while True:
@@ -187,14 +191,14 @@ def call(name: str, given: list[Any], element: Any, room: int) -> tuple[int, int
 
 
 def ask(name: str, given: list[Any]) -> tuple[int, int]:
-    """Calls a function that answers a number. Returns its status and the number."""
+    """Calls a function that computes a number. Returns its status and the number."""
     detail = _Number()
     status = _function(name)(*given, ctypes.byref(detail))
     return status, detail.value
 
 
 def raise_for(status: int, detail: int) -> None:
-    """Raises the exception that a status stands for; nothing for OK."""
+    """Raises the exception for a status. For OK, does nothing."""
     if status == Status.OK:
         return
     if status == Status.NO_MEMORY:
@@ -210,10 +214,10 @@ def raise_for(status: int, detail: int) -> None:
 
 
 def whole(value: object) -> int | None:
-    """The number, or None where 64 bits don't hold it. Whole numbers of other libraries are taken, and floats aren't.
+    """The number, or None if 64 bits can't hold it. Whole numbers of other libraries are accepted, floats aren't.
 
     Raises:
-        WrongType: it is no whole number.
+        WrongType: it isn't a whole number.
     """
     try:
         number = operator.index(value)  # type: ignore[arg-type]

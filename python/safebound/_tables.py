@@ -1,12 +1,12 @@
-"""Small tables of text, as `str()` of bounds and plans and `explain()` show them."""
+"""Text tables, used by `str()` of bounds and plans and by `explain()`."""
 
 from __future__ import annotations
 
 from typing import Sequence
 
 
-def table(header: Sequence[str], rows: Sequence[Sequence[object]]) -> str:
-    """Lines of columns: numbers to the right, texts to the left."""
+def text_table(header: Sequence[str], rows: Sequence[Sequence[object]]) -> str:
+    """A text table, one line for each row. Numbers are aligned to the right, texts to the left."""
     texts = [list(header), *([str(cell) for cell in row] for row in rows)]
     is_number = [bool(rows) and all(isinstance(row[at], int) for row in rows) for at in range(len(header))]
     wide = [max(len(line[at]) for line in texts) for at in range(len(header))]

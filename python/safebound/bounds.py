@@ -6,24 +6,25 @@ from collections.abc import Collection, Mapping
 from typing import Dict, FrozenSet, Iterator, Optional, Sequence
 
 from ._library import NO_BOUND
-from ._tables import table
+from ._tables import text_table
 from .errors import WrongType
 
 __all__ = ["Bounds"]
 
-# So many sets are shown at most: all of those of four entries.
+# At most this many sets are shown: all sets of four entries.
 _MOST_SHOWN = 16
 
 
 def rows_text(bound: Optional[int]) -> object:
-    """A bound as it is shown."""
+    """A bound as tables show it."""
     return "no bound" if bound is None else bound
 
 
 class Bounds(Mapping[FrozenSet[str], Optional[int]]):
-    """The bounds of all sets of a query's entries, in rows: `bounds[{"film", "person"}]`. None where no bound is known.
+    """The bounds of all sets of a query's entries, in rows: `bounds[{"film", "person"}]`. It is None if no bound is
+    known.
 
-    A set is given as any collection of names. A text is refused: it would be read by its characters.
+    A set is given as any collection of names. A text is refused, since its characters would be taken for names.
 
     >>> bounds = Bounds(["r", "s"], [1, 6, 5, 12])
     >>> bounds[["s", "r"]]
@@ -78,10 +79,12 @@ class Bounds(Mapping[FrozenSet[str], Optional[int]]):
             for number in self._shown()
         ]
         left = len(self) - len(rows) - 1
-        return table(["entries", "rows at most"], rows) + (f"\nand {left} other sets" if left else "")
+        return text_table(["entries", "rows at most"], rows) + (f"\nand {left} other sets" if left else "")
 
     def _shown(self) -> Sequence[int]:
-        """The sets that are shown: all but the empty one. If they are many, only each entry alone and all together."""
+        """The sets that are shown: all but the empty one. If there are too many, only single entries and the set of
+        all.
+        """
         if len(self) <= _MOST_SHOWN:
             return sorted(range(1, len(self)), key=lambda number: (bin(number).count("1"), number))
         return [*self._bit.values(), len(self) - 1]

@@ -1,4 +1,4 @@
-"""Makes 64-bit keys of a column as a Python program has it: a list, an array, or a column of Arrow, pandas or polars.
+"""Makes 64-bit keys from a column: a Python list, an array, or a column of Arrow, pandas or polars.
 
 Rows without a value (NULL) are left out.
 """
@@ -15,15 +15,16 @@ from .errors import WrongType
 
 __all__ = ["keys_of"]
 
-# The method that lists a column's values as Python objects: in Arrow, in numpy and its like, in polars.
+# Methods that return a column's values as a list of Python objects: in Arrow, in numpy and similar libraries, in
+# polars.
 _LISTED_BY = ("to_pylist", "tolist", "to_list")
 
 
 def keys_of(values: object) -> Any:
-    """An array of 64-bit keys, one for each row that has a value. Rows have the same key where their values are equal.
+    """An array of 64-bit keys, one for each row that has a value. Two rows have the same key if their values are equal.
 
-    The array may share the memory of `values`. Raises WrongType where `values` is no column, or one of them isn't one
-    value of a column.
+    The array may share the memory of `values`. Raises WrongType if `values` isn't a column, or if one of its values
+    can't be a value of a column.
     """
     _refuse_what_is_no_column(values)
     found = _of_pandas(values)
@@ -34,7 +35,7 @@ def keys_of(values: object) -> Any:
 
 
 def _refuse_what_is_no_column(values: object) -> None:
-    """Raises WrongType where there isn't one value for each row: such values, counted, would make bounds too low."""
+    """Raises WrongType unless there is one value for each row. Counting other values would make bounds too low."""
     kind = type(values).__name__
     if isinstance(values, (str, bytes, bytearray)) or _is_view_of_text(values):
         raise WrongType(f"{kind} is a text and no column: a column has one value for each row")
@@ -52,7 +53,7 @@ def _is_view_of_text(values: object) -> bool:
 
 
 def _dimensions(values: object) -> Optional[int]:
-    """How many dimensions the values have; None where they don't tell."""
+    """The number of dimensions of the values, or None if they don't say."""
     told = getattr(values, "ndim", None)
     if isinstance(told, int):
         return told
@@ -64,7 +65,9 @@ def _dimensions(values: object) -> Optional[int]:
 
 
 def _of_pandas(values: object) -> Any:
-    """For a pandas column: numbers for the values that aren't missing, equal ones for equal values. Else None."""
+    """For a pandas column: a number for each value that isn't missing, the same number for equal values. Otherwise
+    None.
+    """
     pandas = sys.modules.get("pandas")
     if pandas is None or not isinstance(values, (pandas.Series, pandas.Index, pandas.api.extensions.ExtensionArray)):
         return None
@@ -76,9 +79,9 @@ def _of_pandas(values: object) -> Any:
 
 
 def _of_numpy(values: object) -> Any:
-    """For a numpy array of numbers or times: its values in 64 bits, without masked ones, NaN and NaT. Else None.
+    """For a numpy array of numbers or times: its values in 64 bits, without masked ones, NaN and NaT. Otherwise None.
 
-    Complex numbers and floats of more than 64 bits are no such numbers.
+    Complex numbers, and floats of more than 64 bits, give None too.
     """
     numpy = sys.modules.get("numpy")
     if numpy is None or not isinstance(values, numpy.ndarray):
@@ -90,7 +93,7 @@ def _of_numpy(values: object) -> Any:
         return known[~numpy.isnat(known)].astype(values.dtype.newbyteorder("=")).view(numpy.int64)
     if kind == "f" and values.dtype.itemsize <= 8:
         floats = known[known == known].astype(numpy.float64)
-        # Both zeros are one value.
+        # The zeros 0.0 and -0.0 are one value.
         return (floats + 0.0).view(numpy.int64)
     if kind in "biu":
         return numpy.ascontiguousarray(known, dtype=numpy.uint64 if kind == "u" else numpy.int64)
@@ -98,7 +101,7 @@ def _of_numpy(values: object) -> Any:
 
 
 def _listed(values: object) -> Iterable[object]:
-    """The values to go through one by one, as Python objects where the column has a method for that."""
+    """The values one by one, as Python objects if the column has a method for that."""
     by = next((name for name in _LISTED_BY if callable(getattr(values, name, None))), None)
     listed: Any = values if by is None else getattr(values, by)()
     try:
@@ -109,9 +112,9 @@ def _listed(values: object) -> Iterable[object]:
 
 
 def _numbered(values: Iterable[object]) -> array[int]:
-    """A number for each value, the same one for equal values.
+    """A number for each value, the same number for equal values.
 
-    None, `pandas.NA` and what isn't equal to itself, as NaN, count as no value and get no number.
+    None, `pandas.NA`, and values that don't equal themselves, such as NaN, count as missing and get no number.
     """
     absent = getattr(sys.modules.get("pandas"), "NA", None)
     numbers: dict[object, int] = {}
@@ -146,7 +149,7 @@ def _view(values: object) -> Optional[memoryview]:
 
 
 def _in_memory(values: object) -> Any:
-    """The values themselves as keys, if they lie in memory as 64-bit integers without a mask. Else None."""
+    """The values themselves as keys, if memory has them as 64-bit integers without a mask. Otherwise None."""
     view = _view(values)
     if view is None or getattr(values, "mask", None) is not None:
         return None

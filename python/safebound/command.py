@@ -18,7 +18,7 @@ LEAST_OUT, LEAST_NOTES, GROWS = 65536, 4096, 8
 
 Text = Union[str, bytes, bytearray, memoryview]
 
-# Mapping is invariant in the type of its keys. With this type variable it may have texts or bytes as keys.
+# Mapping is invariant in the type of its keys. With this type variable, keys may be texts or bytes.
 _Name = TypeVar("_Name", str, bytes)
 
 
@@ -31,7 +31,7 @@ class _File(ctypes.Structure):
 
 
 class Output(NamedTuple):
-    """What a run answers: the program's exit status, and what it wrote on standard output and on standard error."""
+    """The result of a run: the program's exit status, its standard output and its standard error."""
 
     status: int
     out: bytes
@@ -57,7 +57,7 @@ def _library() -> ctypes.CDLL:
 def _text(value: Any, what: str) -> _Text:
     """The bytes of a text, as the library takes them.
 
-    The structure keeps the bytes alive. Other types are refused, since `bytes` would take a list of numbers too.
+    The structure keeps the bytes alive. Other types are refused, since `bytes` would accept even a list of numbers.
     """
     if not isinstance(value, (str, bytes, bytearray, memoryview)):
         raise errors.WrongType(f"{what} is {value!r:.60}, and not a text or bytes")
@@ -80,8 +80,8 @@ def _files(files: Any) -> List[_File]:
 def run(words: Iterable[Text], files: Mapping[_Name, Text]) -> Output:
     """Runs the program over files in memory.
 
-    The words are those of its command line, without its own name. A file's name is the one that a word gives, or a
-    table's name in lower case and `.csv`. What is printed, the statuses and the limits are those of the program: see
+    The words are those of its command line, without its own name. Name a file as the words name it; for a table, the
+    name is the table's in lower case, and `.csv`. Output, statuses and limits are those of the program: see
     docs/USING.md and docs/ERRORS.md.
 
     >>> files = {
@@ -102,8 +102,9 @@ def run(words: Iterable[Text], files: Mapping[_Name, Text]) -> Output:
     Output(status=8, out=b'', notes=b'error budget 3\\n')
 
     Raises:
-        WrongType: a word, a name or a file that is neither a text nor bytes, or one text in place of a list of words.
-        LibraryNotFound: libsafebound_command.so isn't there, or is of another version.
+        WrongType: a word, a name or a file is neither a text nor bytes, or a single text was given in place of a list
+            of words.
+        LibraryNotFound: libsafebound_command.so doesn't exist, or has another version.
     """
     given, named = _words(words), _files(files)
     call = _library().safebound_command
@@ -116,7 +117,7 @@ def run(words: Iterable[Text], files: Mapping[_Name, Text]) -> Output:
             word_array, len(given), file_array, len(named), out, room, notes, notes_room,
             ctypes.byref(length), ctypes.byref(notes_length)
         )
-        # At any status a line may have been cut, if there was too little room for it.
+        # With any status a line may have been cut if the room was too small for it.
         is_cut = notes_length.value == notes_room
         if not is_cut and not (status == WRITE_FAULT and length.value == room):
             return Output(status, ctypes.string_at(out, length.value), ctypes.string_at(notes, notes_length.value))
@@ -124,7 +125,7 @@ def run(words: Iterable[Text], files: Mapping[_Name, Text]) -> Output:
 
 
 class Plan(NamedTuple):
-    """A plan as the program prints it: the bound of each scan in FROM's order, in rows, and the best order."""
+    """A plan as the program prints it: the bound in rows of each scan, in the order of FROM, and the best order."""
 
     scans: Tuple[Tuple[str, int], ...]
     order: Order
@@ -133,8 +134,8 @@ class Plan(NamedTuple):
 def plan_stats(schema: Text, query: Text, stats: Text, budget: Optional[SupportsIndex] = None) -> Plan:
     """Plans a query from the text of a statistics file, without tables.
 
-    The file is what `stats` writes, here or as a program. No bound of the plan is too low for the tables that the file
-    was made from, while their rows stay as they are.
+    The file is the output of `stats`, from this library or from the program. No bound of the plan is too low for the
+    tables from which the file was made, while their rows are unchanged.
 
     >>> schema = "CREATE TABLE R (X INTEGER NOT NULL)"
     >>> files = {"schema": schema, "query": "SELECT X FROM R", "r.csv": "X\\n1\\n2\\n"}
@@ -147,10 +148,10 @@ def plan_stats(schema: Text, query: Text, stats: Text, budget: Optional[Supports
 
     Raises:
         BudgetExceeded, PastBits: as for an order.
-        WrongType: a text that is none, or a budget that isn't a whole number.
-        Refused: a text isn't right, or the file lacks something that the query needs.
-        OutOfMemory: memory was wanting.
-        LibraryNotFound: libsafebound_command.so isn't there, or is of another version.
+        WrongType: an argument is neither a text nor bytes, or the budget isn't a whole number.
+        Refused: a text is refused, or the file lacks something that the query needs.
+        OutOfMemory: there was too little memory.
+        LibraryNotFound: libsafebound_command.so doesn't exist, or has another version.
     """
     words = ["plan", "schema", "query", "--stats", "stats"]
     words += ["--budget", str(_budget(budget))] if budget is not None else []
@@ -163,10 +164,10 @@ def plan_stats(schema: Text, query: Text, stats: Text, budget: Optional[Supports
 
 
 def append_stats(schema: Text, stats: Text, table: str, rows: Text) -> bytes:
-    """The text of a statistics file with new rows of one of its tables, without the rows that were there before.
+    """Adds new rows of one table to the text of a statistics file. The old rows of the table aren't needed.
 
     If the file stood for its tables, the new one stands for them with the new rows: no bound of a plan from it is too
-    low for the grown table. PRIMARY KEY and UNIQUE are checked among the new rows alone.
+    low for the grown table. PRIMARY KEY and UNIQUE are checked only among the new rows.
 
     >>> schema = "CREATE TABLE R (X INTEGER NOT NULL)"
     >>> files = {"schema": schema, "query": "SELECT X FROM R", "r.csv": "X\\n1\\n2\\n"}
@@ -176,14 +177,15 @@ def append_stats(schema: Text, stats: Text, table: str, rows: Text) -> bytes:
     (('R', 5),)
 
     Args:
-        table: the table's name; upper and lower case are one.
+        table: the table's name, in upper or lower case.
         rows: the new rows alone, as CSV with a header.
 
     Raises:
-        WrongType: a text that is none.
-        Refused: a text or a row isn't right, the file has no statistics of the table, or it would have too many rows.
-        OutOfMemory: memory was wanting.
-        LibraryNotFound: libsafebound_command.so isn't there, or is of another version.
+        WrongType: an argument is neither a text nor bytes.
+        Refused: a text or a row is refused, the file has no statistics of the table, or the table would have too many
+            rows.
+        OutOfMemory: there was too little memory.
+        LibraryNotFound: libsafebound_command.so doesn't exist, or has another version.
     """
     if not isinstance(table, str):
         raise errors.WrongType(f"table is {table!r}, and not a name")

@@ -1,4 +1,4 @@
-"""Decimals and the whole numbers that stand for them, such as cents: the program's numbers are integers.
+"""Decimals, and the whole numbers that replace them, such as cents. The program's numbers are integers.
 
 >>> first_decimal(["12", "12.50"]), scale_of(["12", "12.50"]), scaled("12.5", 2)
 ('12.50', 2, '1250')
@@ -18,19 +18,21 @@ _THOUSANDS = re.compile(r"[+-]?[0-9]{1,3},[0-9]{3}", re.ASCII)
 
 
 def digits_of(value: str) -> int | None:
-    """How many digits behind its point or comma a decimal has, without zeros at its end; None of another value."""
+    """How many digits a decimal has behind its point or comma, without zeros at the end. None if the value isn't a
+    decimal.
+    """
     found = _DECIMAL.fullmatch(value)
     return len((found[3] or "").rstrip("0")) if found and (found[2] or found[3]) else None
 
 
 def has_thousands(value: str) -> bool:
-    """Whether three digits follow the only comma: mostly it separates thousands then."""
+    """Whether exactly three digits follow the only comma. Such a comma mostly separates thousands."""
     return bool(_THOUSANDS.fullmatch(value))
 
 
 def first_decimal(values: Iterable[str]) -> str | None:
-    """The first decimal among values that are all decimals or whole numbers; None of other values. Empty fields don't
-    count.
+    """The first decimal among values that are all decimals or whole numbers. None if another value is among them. Empty
+    fields don't count.
     """
     found = [value for value in values if value]
     decimals = [value for value in found if not _WHOLE.fullmatch(value)]
@@ -40,7 +42,9 @@ def first_decimal(values: Iterable[str]) -> str | None:
 
 
 def scale_of(values: Iterable[str]) -> int:
-    """The digits behind the point that all values of a column of decimals need: two, or as many as one has."""
+    """The number of digits behind the point that a column of decimals needs: at least two, and as many as any value
+    has.
+    """
     return max([CENTS, *(digits_of(value) or 0 for value in values)])
 
 

@@ -1,13 +1,13 @@
-"""What calls raise in place of an answer: a class for each status of the library, one for the program's refusals."""
+"""Exceptions: a class for each status of the library, and one for the program's refusals."""
 
 from __future__ import annotations
 
 
 class SafeBoundError(Exception):
-    """What all errors of this package have in common.
+    """The base class of all errors of this package.
 
-    Two errors are equal if they have one class and equal `args`. `args` are what the class was called with, so that an
-    error can be pickled and sent to another process.
+    Two errors are equal if they have the same class and equal `args`. `args` has the arguments of the constructor, so
+    that an error can be pickled and sent to another process.
     """
 
     def __eq__(self, other: object) -> bool:
@@ -20,11 +20,11 @@ class SafeBoundError(Exception):
 
 
 class LibraryNotFound(SafeBoundError, ImportError):
-    """There is no libsafebound.so, or one of another version."""
+    """There is no libsafebound.so, or it has another version."""
 
 
 class OutOfMemory(SafeBoundError, MemoryError):
-    """Memory was wanting. Nothing has changed."""
+    """There was too little memory. Nothing has changed."""
 
 
 class PastBits(SafeBoundError):
@@ -62,14 +62,14 @@ class WorkExceeded(SafeBoundError):
 
 
 class WrongType(SafeBoundError, TypeError):
-    """What was given is of a kind that the call doesn't take. Nothing is guessed from it."""
+    """An argument has a type that the call doesn't accept. The call guesses nothing from it."""
 
 
 class WrongValue(SafeBoundError, ValueError):
-    """A value that isn't right.
+    """A value that isn't valid.
 
     Attributes:
-        place: which one; the class says of what.
+        place: which value; the subclass says of what.
     """
 
     def __init__(self, message: str, place: object) -> None:
@@ -100,19 +100,22 @@ class BadRun(WrongValue):
 
 
 class BadOtherRun(BadRun):
-    """As `BadRun`, in the second of two lists."""
+    """Like `BadRun`, for the second of two lists."""
 
 
 class BadSum(WrongValue):
-    """What two lists make has more than 2**48 rows. `place` is how many."""
+    """The result of two lists has more than 2**48 rows. `place` is that number."""
 
 
 class BadEntries(WrongValue):
-    """A query has no entry, more than twelve, or one entry twice. `place` is how many, or the entry."""
+    """A query has no entry, more than sixteen, or one entry twice. `place` is how many, or the entry.
+
+    A plan whose bytes are asked for has at most twelve entries.
+    """
 
 
 class BadRows(WrongValue):
-    """An entry's row bound isn't there, or isn't from 0 to 2**48. `place` is the entry."""
+    """An entry has no row bound, or one that isn't from 0 to 2**48. `place` is the entry."""
 
 
 class BadEqualities(WrongValue):
@@ -120,11 +123,12 @@ class BadEqualities(WrongValue):
 
 
 class BadEquality(WrongValue):
-    """An equality names an entry that isn't there, or one entry on both sides. `place` is the equality's number."""
+    """An equality names an entry that doesn't exist, or has one entry on both sides. `place` is the equality's number.
+    """
 
 
 class BadList(WrongValue):
-    """A list is of an entry that isn't there, or has no runs. `place` is the entry and the column."""
+    """A list is of an entry that doesn't exist, or has no runs. `place` is the entry and the column."""
 
 
 class MissingList(WrongValue):
@@ -132,11 +136,12 @@ class MissingList(WrongValue):
 
 
 class BadBounds(WrongValue):
-    """There aren't 2**n bounds for an n from 1 to 12. `place` is their number."""
+    """There aren't 2**n bounds for an n from 1 to 16. `place` is their number."""
 
 
 class BadPlan(WrongValue):
-    """The order or the tree isn't one of this query. `place` is the number of its parts, or of the wrong one."""
+    """The order or the tree isn't one of this query. `place` is its number of parts, or the number of the wrong part.
+    """
 
 
 class BadBudget(WrongValue):
@@ -148,15 +153,15 @@ class BadLimit(WrongValue):
 
 
 class BadJoinKind(WrongValue):
-    """There is no such kind of join. `place` is what was given for one."""
+    """There is no such kind of join. `place` is the kind that was given."""
 
 
 class Refused(SafeBoundError):
-    """The program refuses a text or a file. docs/ERRORS.md says why by the status and the line.
+    """The program refuses a text or a file. docs/ERRORS.md explains the status and the line.
 
     Attributes:
         status: the program's exit status.
-        line: its line of standard error, without `error ` and the line's end.
+        line: its line of standard error, without `error ` at the beginning and without the line end.
     """
 
     def __init__(self, status: int, line: str) -> None:

@@ -10,7 +10,7 @@ from .errors import BadJoinKind, BadRows
 
 __all__ = ["joined_rows"]
 
-# As safebound.h numbers them.
+# The numbers are those of safebound.h.
 _KINDS = {"left": 1, "right": 2, "full": 3, "semi": 4, "anti": 5}
 
 
@@ -20,16 +20,16 @@ def joined_rows(
     """How many rows an outer join, a semi-join or an anti-join has at most.
 
     Args:
-        kind: `"left"`, `"right"` or `"full"` of an outer join; `"semi"` for the rows of the left side that are joined,
-            as EXISTS keeps them, and `"anti"` for those that are not, as NOT EXISTS keeps them.
-        inner: a bound of the inner join of both sides by the same condition, or None where none is known.
-        left: a bound of the left side, likewise. It is of all rows of the side: an outer join and an anti-join keep
-            rows that their own condition (ON) leaves out, also where it names that side alone.
-        right: a bound of the right side, likewise.
+        kind: `"left"`, `"right"` or `"full"` for an outer join; `"semi"` for the rows of the left side that have a
+            match, as EXISTS keeps them; `"anti"` for those that have none, as NOT EXISTS keeps them.
+        inner: a bound of the inner join of both sides by the same condition, or None if no bound is known.
+        left: a bound of the left side, or None. It counts all rows of the side: an outer join and an anti-join keep
+            rows that fail their own condition (ON), even where it names that side alone.
+        right: a bound of the right side, or None.
 
     Returns:
-        `inner` and what the join adds to it; of a semi-join the lesser of `inner` and `left`, and of an anti-join
-        `left`. None where no bound is known.
+        For an outer join, `inner` and the rows that the join adds to it; for a semi-join the lesser of `inner` and
+        `left`; for an anti-join `left`. None if no bound is known.
 
     Raises:
         BadJoinKind: there is no such kind.

@@ -1,4 +1,4 @@
-"""Lists of a column: how often its values repeat, as runs."""
+"""Lists of a column: runs that say how often its values repeat."""
 
 from __future__ import annotations
 
@@ -14,7 +14,7 @@ __all__ = ["Run", "Runs", "append", "compress", "cut", "degree_sequence", "great
 
 
 class Run(NamedTuple):
-    """`keys` values of a column, each of which stands in `degree` rows."""
+    """`keys` different values of a column, each of which occurs in `degree` rows."""
 
     degree: int
     keys: int
@@ -24,23 +24,23 @@ Runs = Iterable[Tuple[SupportsIndex, SupportsIndex]]
 
 
 def degree_sequence(values: Iterable[Hashable]) -> list[Run]:
-    """The degree sequence of a column: how often each of its values stands there.
+    """The degree sequence of a column: how many rows have each of its values.
 
     Args:
         values: the column's values, one for each row, in any order: a column of pandas, Arrow or numpy, an `array`, or
-            anything that gives one hashable value after the other. Rows without a value (NULL) are left out: None, NaN,
-            NaT, `pandas.NA` and what is masked. Values are one where Python finds them equal; what your engine finds
-            equal has to be equal here too. Where it takes one NaN as equal to another, or letters of both cases, give
-            one value for these. One-dimensional 64-bit whole numbers are read where they lie.
+            any iterable of hashable values. Rows without a value (NULL) are left out: None, NaN, NaT, `pandas.NA` and
+            masked items. Two values are one where Python finds them equal. Values that your engine finds equal have to
+            be equal in Python too. If your engine takes one NaN as equal to another, or ignores case, give one value
+            for these. One-dimensional 64-bit whole numbers are read without a copy.
 
     Returns:
         Runs in descending order of their degrees, which sum to the number of rows with a value.
 
     Raises:
-        WrongType: a text, bytes, a mapping or a set; what has more than one dimension, as a table; a value that isn't
-            hashable. Read as a column these would give a list of something else.
+        WrongType: a text, bytes, a mapping or a set; an object with more than one dimension, such as a table; a value
+            that isn't hashable. As columns these would give the list of something else.
         BadKeys: more than 2**48 values.
-        OutOfMemory: memory was wanting.
+        OutOfMemory: there was too little memory.
 
     >>> degree_sequence([8, 8, 8, 8, 8, 2, 2, 2, None, 5])
     [Run(degree=5, keys=1), Run(degree=3, keys=1), Run(degree=1, keys=1)]
@@ -50,19 +50,21 @@ def degree_sequence(values: Iterable[Hashable]) -> list[Run]:
 
 
 def compress(runs: Runs, accuracy: SupportsIndex) -> list[Run]:
-    """Few runs that dominate a list, so that bounds over them stay true and are made fast.
+    """A few runs that dominate a list. Bounds over them are valid, and are computed faster.
 
     Args:
         runs: pairs of a degree and a number of keys. Both are at least 1, no degree is above the one before it, and all
             degrees sum to at most 2**48.
-        accuracy: K, from 1 to 64. Each degree of the answer is at most (K + 1) / K times the list's at that rank.
+        accuracy: K, from 1 to 64. Each degree of the result is at most (K + 1) / K times the list's degree at the same
+            rank.
 
     Returns:
-        At most K times as many runs as the first degree has binary digits, and one more. Their sum is that of the list.
+        At most K times as many runs as the first degree has binary digits, and one more. They sum to as many rows as
+        the list.
 
     Raises:
-        BadAccuracy, BadRun: a value isn't right.
-        OutOfMemory: memory was wanting.
+        BadAccuracy, BadRun: a value isn't valid.
+        OutOfMemory: there was too little memory.
 
     >>> compress([(5, 1), (4, 1), (3, 1), (1, 1)], 1)
     [Run(degree=5, keys=2), Run(degree=3, keys=1)]
@@ -76,20 +78,20 @@ def compress(runs: Runs, accuracy: SupportsIndex) -> list[Run]:
 def append(runs: Runs, others: Runs) -> list[Run]:
     """The rank-wise sum of two lists: a list of a column's old rows and of rows that came later.
 
-    It is also a list for the rows that satisfy at least one of two conditions (OR), from a list of those that satisfy
-    each.
+    From a list of the rows that satisfy one condition, and a list of those that satisfy another, it also makes a list
+    for the rows that satisfy at least one of both (OR).
 
     Args:
         runs: pairs of a degree and a number of keys, as for `compress`.
-        others: likewise.
+        others: the same for the second list.
 
     Returns:
         Runs that dominate the values of both together, whichever values they share. Their sum is the sum of both sums.
 
     Raises:
-        BadRun, BadOtherRun: a run of the first or of the second list isn't right.
+        BadRun, BadOtherRun: a run of the first or of the second list isn't valid.
         BadSum: both together sum to more than 2**48.
-        OutOfMemory: memory was wanting.
+        OutOfMemory: there was too little memory.
 
     >>> append([(3, 1), (1, 2)], [(2, 2)])
     [Run(degree=5, keys=1), Run(degree=3, keys=1), Run(degree=1, keys=1)]
@@ -105,14 +107,14 @@ def lesser(runs: Runs, others: Runs) -> list[Run]:
 
     Args:
         runs: pairs of a degree and a number of keys, as for `compress`.
-        others: likewise.
+        others: the same for the second list.
 
     Returns:
-        Runs that dominate what both lists dominate.
+        Runs that dominate all values that both lists dominate.
 
     Raises:
-        BadRun, BadOtherRun: a run of the first or of the second list isn't right.
-        OutOfMemory: memory was wanting.
+        BadRun, BadOtherRun: a run of the first or of the second list isn't valid.
+        OutOfMemory: there was too little memory.
 
     >>> lesser([(3, 2)], [(4, 1), (1, 2)])
     [Run(degree=3, keys=1), Run(degree=2, keys=1), Run(degree=1, keys=1)]
@@ -121,21 +123,21 @@ def lesser(runs: Runs, others: Runs) -> list[Run]:
 
 
 def greater(runs: Runs, others: Runs) -> list[Run]:
-    """A list for the rows of any one of two values, whichever it is, from a list of the rows of each.
+    """A list for the rows of either of two values, from a list of the rows of each value.
 
-    It is the greater degree at each rank. For the rows of both values together take `append`.
+    It has the greater degree at each rank. For the rows of both values together take `append`.
 
     Args:
         runs: pairs of a degree and a number of keys, as for `compress`.
-        others: likewise.
+        others: the same for the second list.
 
     Returns:
-        Runs that dominate what either list dominates.
+        Runs that dominate all values that either list dominates.
 
     Raises:
-        BadRun, BadOtherRun: a run of the first or of the second list isn't right.
+        BadRun, BadOtherRun: a run of the first or of the second list isn't valid.
         BadSum: the greater degrees sum to more than 2**48.
-        OutOfMemory: memory was wanting.
+        OutOfMemory: there was too little memory.
 
     >>> greater([(3, 1), (1, 1)], [(2, 2), (1, 1)])
     [Run(degree=3, keys=1), Run(degree=2, keys=1), Run(degree=1, keys=1)]
@@ -144,19 +146,20 @@ def greater(runs: Runs, others: Runs) -> list[Run]:
 
 
 def cut(runs: Runs, rows: SupportsIndex) -> list[Run]:
-    """A list, cut at a number that its rows don't exceed.
+    """The list for at most so many rows: a list that is cut at this number.
 
     Args:
         runs: pairs of a degree and a number of keys, as for `compress`.
         rows: how many rows there are at most.
 
     Returns:
-        The first degrees of the list, as long as they sum to at most that number, and one for the rest of it.
+        The first degrees of the list while their sum is within the number, and then one degree for the rest of the
+        number.
 
     Raises:
         BadRows: the number isn't from 0 to 2**64 - 1.
-        BadRun: a run isn't right.
-        OutOfMemory: memory was wanting.
+        BadRun: a run isn't valid.
+        OutOfMemory: there was too little memory.
 
     >>> cut([(5, 1), (4, 1)], 7)
     [Run(degree=5, keys=1), Run(degree=2, keys=1)]
@@ -168,23 +171,23 @@ def cut(runs: Runs, rows: SupportsIndex) -> list[Run]:
 
 
 def encoded(runs: Runs, error: type[BadRun] = BadRun, column: object = None) -> Any:
-    """The runs as the library takes them. A number that 64 bits don't hold is no number of a run."""
+    """The runs as the library takes them. Numbers that 64 bits can't hold are refused."""
     if not isinstance(runs, Iterable):
-        raise WrongType(f"{_of(error, column)}{type(runs).__name__} is no list of runs")
+        raise WrongType(f"{_message_head(error, column)}{type(runs).__name__} is no list of runs")
     pairs = []
     for place, run in enumerate(runs):
-        degree, keys = _pair(run, place, _of(error, column))
+        degree, keys = _pair(run, place, _message_head(error, column))
         pair = (_library.whole(degree), _library.whole(keys))
         if None in pair:
             what, number = ("degree", degree) if pair[0] is None else ("number of keys", keys)
-            said = f"{_of(error, column)}the {what} of run {place} is {number}, which isn't from 1 to 2**48"
+            said = f"{_message_head(error, column)}the {what} of run {place} is {number}, which isn't from 1 to 2**48"
             raise error(said, place, column)
         pairs.append(pair)
     return _library.array_of(_library.Run, pairs)
 
 
 def wrong_run(runs: Sequence[Any], place: int, error: type[BadRun] = BadRun, column: object = None) -> BadRun:
-    """What is wrong with a run that the library refuses. It is the first wrong one of its list."""
+    """The error for a run that the library refuses. It is the first wrong run of its list."""
     degree, keys = runs[place].degree, runs[place].keys
     before = runs[place - 1].degree if place else degree
     if degree == 0 or keys == 0:
@@ -193,11 +196,11 @@ def wrong_run(runs: Sequence[Any], place: int, error: type[BadRun] = BadRun, col
         why = f"the list rises at run {place}: degree {degree} after {before}"
     else:
         why = f"at run {place} the list sums to more than 2**48 rows"
-    return error(_of(error, column) + why, place, column)
+    return error(_message_head(error, column) + why, place, column)
 
 
-def _of(error: type[BadRun], column: object) -> str:
-    """The head of a message on a list: which one it is, where there are several."""
+def _message_head(error: type[BadRun], column: object) -> str:
+    """The beginning of a message on a list. If there are several lists, it says which one."""
     if isinstance(column, tuple):
         return f"{column[0]}.{column[1]}: "
     return "second list: " if error is BadOtherRun else ""
@@ -212,7 +215,7 @@ def _pair(run: Any, place: int, head: str) -> tuple[Any, Any]:
 
 
 def _of_both(name: str, runs: Runs, others: Runs, times: int) -> list[Run]:
-    """What a call makes of two lists: at most `times` as many runs as both lists have."""
+    """The list that a call makes of two lists. It has at most `times` as many runs as both lists together."""
     first, second = encoded(runs), encoded(others, BadOtherRun)
     return _runs_of(name, [first, len(first), second, len(second)], times * (len(first) + len(second)), first, second)
 

@@ -1,4 +1,4 @@
-"""The texts of plans and audits as the program prints them (docs/USING.md), read into scans, levels and nodes.
+"""Reads the texts of plans and audits, as the program prints them (docs/USING.md), into scans, levels and nodes.
 
 >>> plan = read_plan("scan R 3\\nscan S 2\\nlevel 1 S 2\\nlevel 2 R 3\\n")
 >>> plan.scans, plan.levels
@@ -26,9 +26,9 @@ class Node:
 
 @dataclass
 class PlanText:
-    """The scans' bounds by entry, in FROM order; then either the levels along the order, as pairs of an entry and its
-    bound, or the inner nodes of a join tree. Nodes have numbers: first the entries in FROM order, from 0 on, and then
-    the inner nodes.
+    """A plan: the bounds of the scans by entry, in the order of FROM. It has either the levels along the order, as
+    pairs of an entry and its bound, or the inner nodes of a join tree. Nodes are numbered from 0: first the entries in
+    the order of FROM, then the inner nodes.
     """
 
     scans: dict[str, int]
@@ -45,7 +45,7 @@ class PlanText:
 
     @property
     def bounds(self) -> list[int]:
-        """The bounds that a budget is compared with: of the levels, of the inner nodes, or of a tree's one entry."""
+        """The bounds that a budget limits: of the levels, of the inner nodes, or of the only entry of a tree."""
         return [bound for _, bound in self.levels] or [node.bound for node in self.nodes] or list(self.scans.values())
 
     def leaves(self, number: int) -> list[str]:
@@ -57,18 +57,18 @@ class PlanText:
 
 
 class NoPlan(ValueError):
-    """A text is no plan, or no audit of this plan."""
+    """The text is no plan, or no audit of this plan."""
 
 
 def read_plan(text: str) -> PlanText:
-    """The plan of what `plan`, `run` or `audit` writes on standard error. A name may have blanks.
+    """The plan in the standard error of `plan`, `run` or `audit`. A name may have blanks.
 
     Raises:
         NoPlan: it is another text.
     """
     lines = text.split("\n")[:-1]
     if lines and re.fullmatch("memory [0-9]+", lines[-1]):
-        # With --memory the last line has the bytes of the plan's buffers.
+        # With --memory the last line tells the bytes of the plan's buffers.
         lines.pop()
     scans = _matches(r"scan (.*) ([0-9]+)", lines)
     levels = _matches(r"level [0-9]+ (.*) ([0-9]+)", lines)
@@ -87,8 +87,8 @@ def _matches(form: str, lines: list[str]) -> list[re.Match[str]]:
 
 
 def _is_tree(nodes: list[re.Match[str]], entries: int) -> bool:
-    """Whether inner nodes make one tree of so many entries: each behind the two that it joins, and each node but the
-    last joined once.
+    """Whether inner nodes make one tree of so many entries. Each node comes after the two that it joins, and each node
+    but the last is joined once.
     """
     joined = sorted(int(m[side]) for m in nodes for side in (2, 3))
     numbers = [int(m[1]) for m in nodes]
@@ -97,10 +97,10 @@ def _is_tree(nodes: list[re.Match[str]], entries: int) -> bool:
 
 
 def read_audit(text: str, plan: PlanText) -> list[int]:
-    """The true rows of each level, or of each inner node, of what `audit` writes on standard output.
+    """The true rows of each level, or of each inner node, in the standard output of `audit`.
 
     Raises:
-        NoPlan: it is another text, or that of another plan.
+        NoPlan: it is another text, or the audit of another plan.
     """
     lines = text.split("\n")[:-1]
     wanted = [f"level {k} {alias} {bound} " for k, (alias, bound) in enumerate(plan.levels, 1)]

@@ -4,7 +4,7 @@ from __future__ import annotations
 
 from typing import TYPE_CHECKING, NamedTuple, Optional, Tuple, Union
 
-from ._tables import table
+from ._tables import text_table
 from .errors import BadPlan
 
 if TYPE_CHECKING:
@@ -57,7 +57,7 @@ class Order(_OfQuery, _OrderParts):
 
     def __str__(self) -> str:
         rows = [(at, *level) for at, level in enumerate(zip(self.entries, self.levels), 1)]
-        return table(["level", "joined", "rows at most"], rows)
+        return text_table(["level", "joined", "rows at most"], rows)
 
 
 class Join(NamedTuple):
@@ -113,7 +113,7 @@ class Tree(_OfQuery, _TreeParts):
         if not self.joins:
             return f"{self.entries[0]} alone"
         rows = [(at, self.node(join.left), self.node(join.right), join.bound) for at, join in enumerate(self.joins)]
-        return table(["join", "left", "right", "rows at most"], rows)
+        return text_table(["join", "left", "right", "rows at most"], rows)
 
 
 QueryPlan = Union[Order, Tree]

@@ -1,4 +1,4 @@
-"""Queries: bounds of sets of entries, and the best plans by them."""
+"""Queries: bounds of sets of entries, and the best plans for these bounds."""
 
 from __future__ import annotations
 
@@ -13,11 +13,12 @@ from typing import (
 
 from . import _library
 from ._library import Status
-from ._tables import table
+from ._tables import text_table
 from .bounds import Bounds
 from .errors import (
     BadBudget, BadEntries, BadEquality, BadLimit, BadList, BadPlan, BadRows, MissingList, PastBits, WrongType
 )
+from .limits import ENGINE_ENTRIES, MOST_ENTRIES
 from .lists import Run, Runs, encoded, wrong_run
 from .plans import Join, Order, QueryPlan, Tree
 
@@ -25,7 +26,7 @@ __all__ = ["NO_VALUES", "Column", "Query"]
 
 Column = Tuple[str, Hashable]
 
-# Mapping is invariant in the type of its keys. With these type variables keys of a subtype are taken too.
+# Mapping is invariant in the type of its keys. With these type variables, keys of a subtype are accepted too.
 _Name = TypeVar("_Name", bound=str)
 _Column = TypeVar("_Column", bound=Column)
 
@@ -48,12 +49,12 @@ class _NoValues(Tuple[Run, ...]):
         return "NO_VALUES"
 
 
-# An empty list looks like one that was forgotten.
+# An empty list may have been forgotten, so a column without values needs this mark.
 NO_VALUES = _NoValues()
 
 
 def _column(value: Any, where: str) -> Column:
-    """A column as it was given. A text is refused: its characters would be read as the pair."""
+    """Checks a column, and returns it as a pair. A text is refused: two characters would be read as the pair."""
     if isinstance(value, (str, bytes)) or not isinstance(value, SomeSequence) or len(value) != 2:
         raise WrongType(f"{where} is {value!r}, and not a pair of an entry and a name of its column")
     return (value[0], value[1])
@@ -68,25 +69,24 @@ def _equality_text(equality: Tuple[Column, Column]) -> str:
 
 
 class Query:
-    """A query of up to twelve entries, by what is known of their rows.
+    """A query of up to sixteen entries, described by row bounds and by lists of its columns.
 
     Args:
         entries: the names of the entries, each once. A table that is joined with itself is two entries.
         equalities: pairs of columns that are equal, of two different entries; a column is a pair of an entry and any
             name within it.
-        row_bounds: for each entry how many rows it has at most, 0 to 2**48.
-        lists: for each column that an equality names the runs that dominate its values, as `degree_sequence`,
-            `compress` and `append` give them. Where they sum to less than the entry's row bound, the other rows are
-            taken for rows without a value, which join with nothing; where they sum to more, they are cut there. Of a
-            column in which no row has a value the list is `NO_VALUES`; an empty one is taken for forgotten, unless the
-            row bound is 0.
+        row_bounds: for each entry the most rows that it may have, 0 to 2**48.
+        lists: for each column that an equality names, runs that dominate its values, as `degree_sequence`, `compress`
+            and `append` give them. If they sum to less than the entry's row bound, the other rows are taken for rows
+            without a value, which join with nothing. If they sum to more, they are cut at the row bound. If no row of a
+            column has a value, give `NO_VALUES`; an empty list is treated as forgotten, unless the row bound is 0.
 
-    A query doesn't change once it is made. Two queries are equal if all of these are.
+    A query doesn't change once it is made. Two queries are equal if all their arguments are.
 
     Raises:
-        WrongType: a text where names or columns belong, a number that isn't whole, and the like.
-        BadEntries, BadRows, BadEquality, BadList, BadRun: names or numbers that can't be right. What else is wrong, the
-            first call of `bounds`, `best_order` or `best_tree` reports.
+        WrongType: a text was given where names or columns belong, or a number that isn't whole, and the like.
+        BadEntries, BadRows, BadEquality, BadList, BadRun: a name or a number can't be valid. The first call of
+            `bounds`, `best_order` or `best_tree` reports any other fault.
 
     >>> query = Query(["r", "s"], [(("r", "x"), ("s", "x"))], {"r": 6, "s": 5},
     ...               {("r", "x"): [(3, 2)], ("s", "x"): [(2, 2), (1, 1)]})
@@ -111,11 +111,11 @@ class Query:
             raise WrongType(f"entries are a list of names, and not the text {entries!r}")
         self.entries: Tuple[str, ...] = tuple(entries)
         self.equalities = tuple(self._equality(place, given) for place, given in enumerate(equalities))
-        self._entry = {entry: number for number, entry in enumerate(self.entries)}
-        if len(self._entry) < len(self.entries):
-            twice = next(entry for number, entry in enumerate(self.entries) if self._entry[entry] != number)
+        self._number_by_entry = {entry: number for number, entry in enumerate(self.entries)}
+        if len(self._number_by_entry) < len(self.entries):
+            twice = next(entry for number, entry in enumerate(self.entries) if self._number_by_entry[entry] != number)
             raise BadEntries(f"entry {twice!r} comes twice", twice)
-        self._column: Dict[Column, int] = {}
+        self._number_by_column: Dict[Column, int] = {}
         self._rows = self._rows_of(row_bounds)
         self._equalities = self._equalities_of()
         self._lists, self._runs, self._places = self._lists_of(lists)
@@ -128,7 +128,7 @@ class Query:
         return (_column(given[0], f"a side of equality {place}"), _column(given[1], f"a side of equality {place}"))
 
     def _number_of(self, column: Column) -> int:
-        return self._column.setdefault(column, len(self._column))
+        return self._number_by_column.setdefault(column, len(self._number_by_column))
 
     def _rows_of(self, row_bounds: Mapping[Any, SupportsIndex]) -> Any:
         rows = []
@@ -148,11 +148,12 @@ class Query:
     def _equalities_of(self) -> Any:
         found = []
         for place, (left, right) in enumerate(self.equalities):
-            alien = next((column for column in (left, right) if column[0] not in self._entry), None)
+            alien = next((column for column in (left, right) if column[0] not in self._number_by_entry), None)
             if alien is not None:
                 said = f"equality {place}, {_equality_text((left, right))}, names {alien[0]!r}, which is no entry"
                 raise BadEquality(said, place)
-            found.append((self._entry[left[0]], self._number_of(left), self._entry[right[0]], self._number_of(right)))
+            numbers = self._number_by_entry[left[0]], self._number_by_entry[right[0]]
+            found.append((numbers[0], self._number_of(left), numbers[1], self._number_of(right)))
         return _library.array_of(_library.Equality, found)
 
     def _lists_of(self, lists: Mapping[Any, Runs]) -> Tuple[Any, Any, List[Tuple[Column, int]]]:
@@ -161,16 +162,17 @@ class Query:
         found: List[Tuple[int, int, int, int]] = []
         runs: List[Tuple[int, int]] = []
         places: List[Tuple[Column, int]] = []
-        self._of: Dict[Column, Tuple[Run, ...]] = {}
+        self._list_by_column: Dict[Column, Tuple[Run, ...]] = {}
         for given_column, given in lists.items():
             column = _column(given_column, f"a key of lists, {given_column!r},")
-            if column[0] not in self._entry:
+            if column[0] not in self._number_by_entry:
                 raise BadList(f"there is a list of {_text(column)}, and no entry {column[0]!r}", column)
             own = encoded(given, column=column)
-            self._of[column] = NO_VALUES if given is NO_VALUES else tuple(Run(run.degree, run.keys) for run in own)
-            without = given is NO_VALUES or (len(own) == 0 and self._rows[self._entry[column[0]]] == 0)
+            kept = NO_VALUES if given is NO_VALUES else tuple(Run(run.degree, run.keys) for run in own)
+            self._list_by_column[column] = kept
+            without = given is NO_VALUES or (len(own) == 0 and self._rows[self._number_by_entry[column[0]]] == 0)
             first = _library.NO_VALUES if without else len(runs)
-            found.append((self._entry[column[0]], self._number_of(column), first, len(own)))
+            found.append((self._number_by_entry[column[0]], self._number_of(column), first, len(own)))
             runs += [(run.degree, run.keys) for run in own]
             places += [(column, place) for place in range(len(own))]
         return _library.array_of(_library.List, found), _library.array_of(_library.Run, runs), places
@@ -178,12 +180,12 @@ class Query:
     @property
     def lists(self) -> Mapping[Column, Tuple[Run, ...]]:
         """The list of each column that was given."""
-        return MappingProxyType(self._of)
+        return MappingProxyType(self._list_by_column)
 
     # ---- as a value
 
     def _parts(self) -> Tuple[Any, ...]:
-        return (self.entries, self.equalities, dict(self.row_bounds), self._of)
+        return (self.entries, self.equalities, dict(self.row_bounds), self._list_by_column)
 
     def __eq__(self, other: object) -> bool:
         return isinstance(other, Query) and (self is other or self._parts() == other._parts())
@@ -196,7 +198,8 @@ class Query:
 
     def __repr__(self) -> str:
         shown = {
-            column: runs if runs is NO_VALUES else [tuple(run) for run in runs] for column, runs in self._of.items()
+            column: runs if runs is NO_VALUES else [tuple(run) for run in runs]
+            for column, runs in self._list_by_column.items()
         }
         lists = ", ".join(f"{column}: {runs}" for column, runs in shown.items())
         entries, equalities, rows = list(self.entries), list(self.equalities), dict(self.row_bounds)
@@ -206,22 +209,24 @@ class Query:
         return "\n\n".join(self._known())
 
     def _known(self) -> List[str]:
-        """A table for each of what is known: rows of the entries, equalities, and lists of their columns."""
+        """One text table each for the row bounds, the equalities, and the lists of the columns that equalities use."""
         named = [column for equality in self.equalities for column in equality]
-        used = [column for column in self._of if column in named]
+        used = [column for column in self._list_by_column if column in named]
         lists = [
             (_text(c), sum(d * k for d, k in runs), sum(k for _, k in runs), max((d for d, _ in runs), default=0))
-            for c, runs in ((c, self._of[c]) for c in used)
+            for c, runs in ((c, self._list_by_column[c]) for c in used)
         ]
-        tables = [table(["entry", "rows at most"], list(self.row_bounds.items()))]
+        tables = [text_table(["entry", "rows at most"], list(self.row_bounds.items()))]
         equal = [[_equality_text(equality)] for equality in self.equalities]
-        tables += [table(["equality"], equal)] if equal else []
-        return tables + ([table(["list of", "rows", "values", "rows of the most frequent"], lists)] if lists else [])
+        tables += [text_table(["equality"], equal)] if equal else []
+        tables += [text_table(["list of", "rows", "values", "rows of the most frequent"], lists)] if lists else []
+        return tables
 
     def explain(self, plan: Optional[QueryPlan] = None) -> str:
-        """What is known of the query, and what follows: the bounds of its sets, or of each step of a plan.
+        """Text tables of the query's row bounds, equalities and lists, and of the bounds: those of its sets, or of each
+        step of a plan.
 
-        Of the lists those are shown that its equalities use.
+        Only lists that an equality uses are shown.
 
         Args:
             plan: an order or a tree of this query.
@@ -258,7 +263,7 @@ class Query:
             (at + 1, entry, self._between(order.entries[:at], [entry]), level)
             for at, (entry, level) in enumerate(zip(*order))
         ]
-        return table(["level", "joined", "by", "rows at most"], rows)
+        return text_table(["level", "joined", "by", "rows at most"], rows)
 
     def _joins_table(self, tree: Tree) -> str:
         below = [[entry] for entry in tree.entries]
@@ -267,7 +272,7 @@ class Query:
             left, right = below[join.left], below[join.right]
             rows.append((at, tree.node(join.left), tree.node(join.right), self._between(left, right), join.bound))
             below.append(left + right)
-        return table(["join", "left", "right", "by", "rows at most"], rows) if rows else f"{tree} {tree.cost}"
+        return text_table(["join", "left", "right", "by", "rows at most"], rows) if rows else f"{tree} {tree.cost}"
 
     def _between(self, some: Iterable[str], others: Iterable[str]) -> str:
         """The equalities between two sets of entries."""
@@ -281,12 +286,12 @@ class Query:
     # ---- what the library answers
 
     def _given(self) -> List[Any]:
-        """The query as the library takes it."""
+        """The query as arguments of the library's calls."""
         arrays: List[Any] = [self._rows, self._equalities, self._lists, self._runs]
         return [part for array in arrays for part in (array, len(array))]
 
     def _asked(self, name: str, given: List[Any]) -> Any:
-        status, detail, into = _library.call(name, given, ctypes.c_uint64, 1 << min(len(self.entries), 12))
+        status, detail, into = _library.call(name, given, ctypes.c_uint64, 1 << min(len(self.entries), MOST_ENTRIES))
         if status != Status.OK:
             self._raise_for(status, detail)
         return into
@@ -296,20 +301,20 @@ class Query:
         return self._asked("bounds", self._given())
 
     def _raise_for(self, status: int, detail: int) -> NoReturn:
-        """Raises what a status of `bounds` says, with the names of this query."""
+        """Raises the error for a status of `bounds`, with the names of this query."""
         if status == Status.BAD_ROWS:
             raise self._bad_rows(self.entries[detail], self._rows[detail])
         if status == Status.BAD_RUN:
             column, place = self._places[detail]
-            raise wrong_run(self._of[column], place, column=column)
+            raise wrong_run(self._list_by_column[column], place, column=column)
         if status == Status.BAD_LIST:
-            column = list(self._of)[detail]
+            column = list(self._list_by_column)[detail]
             raise BadList(f"the list of {_text(column)} has no runs: where no row has a value it is NO_VALUES", column)
         if status == Status.BAD_EQUALITY:
             text = _equality_text(self.equalities[detail])
             raise BadEquality(f"equality {detail}, {text}, has one entry on both sides", detail)
         if status == Status.MISSING_LIST:
-            without = next(column for column in self.equalities[detail] if column not in self._of)
+            without = next(column for column in self.equalities[detail] if column not in self._list_by_column)
             said = f"{_text(without)} of equality {detail}, {_equality_text(self.equalities[detail])}, has no list"
             raise MissingList(said, detail)
         _library.raise_for(status, detail)
@@ -319,19 +324,20 @@ class Query:
         """The bounds of all sets of entries.
 
         Args:
-            limit: the most work that may be done. The work is computed before any of it is done. A set has as many
-                turns as equalities, but at least one and at most 16. Each turn costs 1, and 1 for each run of both
-                lists of each equality of the set.
+            limit: the most work that may be done. The amount of work is computed first. A set has as many turns as
+                equalities, but at least one and at most 16. Each turn costs 1, and 1 for each run of both lists of each
+                equality of the set.
 
         Returns:
-            A mapping from each of the 2**n sets of names to a number of rows: at most so many choices of one row of
-            each of these entries satisfy all equalities between them. None where the number is past 64 bits.
+            A mapping from each of the 2**n sets of names to a number of rows. It is at least the number of choices, one
+            row from each of these entries, that satisfy all equalities between the entries. None if the number exceeds
+            64 bits.
 
         Raises:
-            BadEntries, BadRows, BadEqualities, BadEquality, BadList, BadRun, MissingList: a value isn't right.
+            BadEntries, BadRows, BadEqualities, BadEquality, BadList, BadRun, MissingList: a value isn't valid.
             WorkExceeded: the work exceeds the limit; `least` would do.
             BadLimit: the limit isn't from 0 to 2**64 - 1.
-            OutOfMemory: memory was wanting.
+            OutOfMemory: there was too little memory.
         """
         if limit is None:
             return Bounds(self.entries, list(self._bounds))
@@ -344,13 +350,13 @@ class Query:
         """The bound of one set of entries, the same as in `bounds()`. It takes the time of this set alone.
 
         Args:
-            entries: a collection of names, such as `query.entries` for all.
+            entries: a collection of names, such as `query.entries` for all entries.
 
         Returns:
-            A number of rows, or None where no bound is known.
+            A number of rows, or None if no bound is known.
 
         Raises:
-            KeyError: a name is of no entry.
+            KeyError: a name isn't the name of an entry.
             As `bounds`.
 
         >>> query = Query(["r", "s"], [(("r", "x"), ("s", "x"))], {"r": 6, "s": 5},
@@ -362,7 +368,7 @@ class Query:
             raise WrongType(
                 f"a set of entries is a collection of their names, such as {{{entries!r}}}, and not {entries!r}"
             )
-        number = sum(1 << self._entry[entry] for entry in set(entries))
+        number = sum(1 << self._number_by_entry[entry] for entry in set(entries))
         status, detail = _library.ask("set_bound", [*self._given(), number & _library.MOST])
         if status != Status.OK:
             self._raise_for(status, detail)
@@ -371,11 +377,11 @@ class Query:
     def best_order(self, budget: SupportsIndex) -> Order:
         """The best left-deep order.
 
-        No order has a lower greatest level. Of the orders with that greatest level it has the least sum of levels, and
-        of those it is the first by the places of its entries in `entries`.
+        It has the least cost, which is the largest bound of its levels. Of several such orders it has the least sum of
+        bounds. Of several such again, it is the first by the places of its entries in `entries`.
 
         Args:
-            budget: the greatest bound that a level may have, 0 to 2**59.
+            budget: the largest bound that a level may have, 0 to 2**59.
 
         Raises:
             BudgetExceeded: the best order exceeds the budget; `least` would do.
@@ -390,11 +396,11 @@ class Query:
     def best_tree(self, budget: SupportsIndex) -> Tree:
         """The best join tree of any shape.
 
-        No tree has a lower greatest bound of a join. Of the trees with that greatest bound it has the least sum of
+        It has the least cost, which is the largest bound of its joins. Of several such trees it has the least sum of
         bounds.
 
         Args:
-            budget: the greatest bound that a join may have, 0 to 2**59.
+            budget: the largest bound that a join may have, 0 to 2**59.
 
         Raises:
             As `best_order`.
@@ -407,30 +413,32 @@ class Query:
     def memory(self, plan: QueryPlan) -> int:
         """How many bytes the buffers of SafeBound's own engine take for a plan of this query.
 
-        Each buffer counts with its capacity times the size of an element, and so does each list of buffers. The number
-        is the same on every machine.
+        The number is the sum, over all buffers and lists of buffers, of capacity times the size of an element. It is
+        the same on every machine.
 
         Args:
             plan: what `best_order` or `best_tree` gave.
 
         Raises:
-            BadPlan: the plan isn't one of this query: another one made it, or its entries, nodes or bounds aren't this
-                one's.
+            BadPlan: the plan isn't one of this query. Another query made it, or its entries, nodes or bounds differ.
+            BadEntries: the query has more than twelve entries. The engine takes at most twelve.
             PastBits: the number doesn't fit in 64 bits.
 
         >>> query = Query(["r", "s"], [(("r", "x"), ("s", "x"))], {"r": 6, "s": 5},
         ...               {("r", "x"): [(3, 2)], ("s", "x"): [(2, 2), (1, 1)]})
         >>> query.memory(query.best_order(budget=12))
-        556
+        531
         """
         self._checked(plan)
         if isinstance(plan, Order):
-            levels = [(self._entry[entry], int(bound)) for entry, bound in zip(plan.entries, plan.levels)]
+            levels = [(self._number_by_entry[entry], int(bound)) for entry, bound in zip(plan.entries, plan.levels)]
             parts = _library.array_of(_library.Level, levels)
         else:
             parts = _library.array_of(_library.Join, [tuple(map(int, join)) for join in plan.joins])
         name = "memory" if isinstance(plan, Order) else "tree_memory"
         status, detail = _library.ask(name, [self._rows, len(self._rows), parts, len(parts)])
+        if status == Status.BAD_ENTRIES:
+            raise BadEntries(f"SafeBound's own engine takes 1 to {ENGINE_ENTRIES} entries, not {detail}", detail)
         if status == Status.PAST_BITS:
             raise PastBits("the plan takes more bytes than 64 bits tell")
         _library.raise_for(status, detail)
@@ -439,7 +447,7 @@ class Query:
     # ---- whether a plan is one of this query
 
     def _checked(self, plan: QueryPlan) -> None:
-        """Raises BadPlan unless it is a plan of this query, with its entries and its bounds."""
+        """Raises BadPlan unless the plan is one of this query, with its entries and its bounds."""
         if not isinstance(plan, (Order, Tree)):
             raise WrongType(f"{type(plan).__name__} is no plan: best_order and best_tree give one")
         if plan.query is not None and plan.query != self:

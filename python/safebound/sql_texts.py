@@ -1,4 +1,4 @@
-"""Names, texts and numbers as schema and query texts write them (docs/DEFINITIONS.md, "Tokens"), and their limits.
+"""Names, texts and numbers in schema and query texts (docs/DEFINITIONS.md, "Tokens"), and the limits of these texts.
 
 >>> written_name("price"), written_name("order"), written_name("Unit price")
 ('PRICE', '"order"', '"Unit price"')
@@ -24,31 +24,31 @@ NULL ON OR ORDER OUTER PRIMARY REFERENCES RIGHT SELECT SET SMALLINT TABLE UNION 
 VARYING WHERE
 """.split())
 LEAST_NUMBER, MOST_NUMBER = -2**63, 2**63 - 1
-# Of a schema or query text in bytes, of a table's file in bytes and in rows, and of a VARCHAR in characters.
+# Limits of a schema or query text in bytes, of a table's file in bytes and in rows, and of a VARCHAR in characters.
 MOST_TEXT_BYTES, MOST_TABLE_BYTES, MOST_ROWS, MOST_CHARACTERS = 1_048_576, 67_108_864, 4_000_000, 1_000_000
 
 _WORD = re.compile(r"[A-Za-z][A-Za-z0-9_]*")
 
 
 def folded(name: str) -> str:
-    """A name as headers and words are compared: ASCII letters of either case are the same."""
+    """A name in the form in which headers and words are compared: ASCII letters in upper case."""
     return "".join(c.upper() if c.isascii() else c for c in name)
 
 
 def typed_name(name: str) -> str:
-    """A name as a query may write it: a word that isn't reserved as it is, any other in double quotes."""
+    """A name for a query text. A word that isn't reserved is unchanged; any other name is put in double quotes."""
     is_plain = _WORD.fullmatch(name) and name.upper() not in RESERVED
     return name if is_plain else '"' + name.replace('"', '""') + '"'
 
 
 def written_name(name: str) -> str:
-    """A name as a proposed schema has it: as `typed_name`, but words in upper case, in which they are compared."""
+    """A name for a proposed schema: as `typed_name` gives it, but words are in upper case."""
     typed = typed_name(name)
     return typed if typed != name else name.upper()
 
 
 def name_of(source: str) -> str:
-    """The name that a word or a name in double quotes stands for: a word folded, a quoted one as written."""
+    """The name that a word or a name in double quotes spells: a word in upper case, a quoted name as written."""
     return source[1:-1].replace('""', '"') if source.startswith('"') else source.upper()
 
 
@@ -57,7 +57,7 @@ def written_text(text: str) -> str:
 
 
 def text_of(source: str) -> str:
-    """The text that stands in single quotes."""
+    """The text between single quotes, with each doubled quote written once."""
     return source[1:-1].replace("''", "'")
 
 

@@ -34,22 +34,23 @@ PARTS = {
     "memory-limit": "buffers",
 }
 
-# Exceptions that come up if a file has changed since the program read it, or is nested too deeply or is too long here.
+# Exceptions that come up if a file has changed since the program read it, or if it is nested too deeply or too long for
+# this code.
 UNEXPLAINED = (OSError, LookupError, ValueError, StopIteration, RecursionError, MemoryError, csv.Error)
 PROPOSING = ("run", "plan", "audit", "stats", "picture")
-# Lines that begin so are there to be pasted, and aren't wrapped.
+# Lines that begin with one of these are commands for the user to paste. They aren't wrapped.
 TO_PASTE = ("    safebound ", "    mv ", "    echo ")
 
 
 class Run:
-    """A run that ended: its words, the program (if there is one), the folder that `--data` left, and whether its schema
-    was proposed.
+    """A run that has ended: its words, the program (if there is one), the folder where the user was before `--data`,
+    and whether its schema was proposed.
     """
 
     def __init__(
-        self, words: list[str], program: str | None = None, before: str | None = None, is_proposed: bool = False
+        self, words: list[str], program: str | None = None, user_folder: str | None = None, is_proposed: bool = False
     ) -> None:
-        self.words, self.program, self.before, self.is_proposed = words, program, before, is_proposed
+        self.words, self.program, self.user_folder, self.is_proposed = words, program, user_folder, is_proposed
         self.command = words[0] if words else ""
         found = places(words[1:])
         self.schema_file, self.query_file = (
@@ -67,11 +68,11 @@ class Run:
         return read_schema(read(self.schema_file))
 
     def path_of(self, file: str) -> str:
-        """A file's name as a word of a command line in the folder where the user is."""
-        return shlex.quote(os.path.relpath(file, self.before) if self.before else file)
+        """A file's name for a command line that the user types in the current folder."""
+        return shlex.quote(os.path.relpath(file, self.user_folder) if self.user_folder else file)
 
     def line_without_schema(self, query: str | None = None) -> str:
-        """A line to paste: the command with a query and no schema, and with the folder of the tables as `--data`."""
+        """A command to paste: this command with a query, without a schema, and with the tables' folder as `--data`."""
         command = self.command if self.command in PROPOSING else "run"
         return (
             f"\n    safebound {command} {plain(shlex.quote(query or self.query_file))} --data"
@@ -80,7 +81,7 @@ class Run:
 
     @property
     def named(self) -> tuple[str, str, str | None, str | None]:
-        """The files that the words name."""
+        """The files that the command line names."""
         return self.schema_file, self.query_file, self.stats_file, self.rows_file
 
     @property
@@ -95,17 +96,17 @@ def read(file: str) -> bytes:
 
 
 def explained(fault: Fault, run: Run) -> str:
-    """The explanation of a fault, ended by a line end."""
+    """The explanation of a fault. It ends in a line end."""
     part = importlib.import_module(f".{PARTS[fault.kind]}", __name__)
     try:
         return laid_out(part.explain(fault, run))
     except UNEXPLAINED:
-        # The line and the exit status stay as they are.
+        # Without an explanation, the fault's line and the exit status stay as they are.
         return ""
 
 
 def laid_out(blocks: list[str]) -> str:
-    """Each line of each block, wrapped below its own indentation; places of texts have their colours."""
+    """Wraps each line of each block, and keeps its indentation. Excerpts of texts are coloured."""
     return "".join(terminal.coloured("\n".join(map(wrapped, block.split("\n")))) + "\n" for block in blocks if block)
 
 
@@ -122,7 +123,7 @@ def wrapped(line: str) -> str:
 
 
 def not_connected(run: Run) -> str:
-    """Below a plan: a sentence if equalities don't connect all entries, since a bound is then a product."""
+    """For a plan whose equalities don't connect all entries: a sentence that says so. A bound is then a product."""
     from .budgets import not_connected as said
     try:
         return "" if run.command not in ("run", "plan", "audit") else laid_out([said(run)])

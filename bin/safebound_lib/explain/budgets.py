@@ -48,12 +48,12 @@ def explain(fault: Fault, run: Run) -> list[str]:
 
 
 def most_of(run: Run) -> int:
-    """The greatest budget that the run may have."""
+    """The greatest budget that the run accepts."""
     return MOST_BUDGET_OF_A_TREE if has(run, BUSHY) else MOST_BUDGET
 
 
 def not_connected(run: Run) -> str:
-    """A sentence if equalities don't connect all entries: mostly a condition was forgotten."""
+    """A sentence if equalities don't connect all entries. Mostly the user forgot a condition."""
     query = run.query
     found = components(query, run.schema)
     if len(found) < 2:
@@ -67,7 +67,7 @@ def not_connected(run: Run) -> str:
 
 
 def several_equalities(run: Run) -> list[str]:
-    """A sentence for each pair of entries that several equalities join, as those of a key of two columns do."""
+    """A sentence for each pair of entries that several equalities join, as for a key of two columns."""
     query, schema, text = run.query, run.schema, read(run.query_file)
     found: dict[tuple[int, int], list[str]] = {}
     for condition in query.conjuncts():
@@ -85,7 +85,7 @@ def several_equalities(run: Run) -> list[str]:
 
 
 def with_words(run: Run, words: list[str]) -> int | PlanText | None:
-    """What `plan` says with further words: its levels, or the least budget, or nothing."""
+    """The result of `plan` with further words: the plan, or the least budget if it is refused, or None."""
     if run.program is None or run.command == "demo":
         return None
     keep = planned_words(run.words)
@@ -100,7 +100,7 @@ def with_words(run: Run, words: list[str]) -> int | PlanText | None:
 
 
 def planned_words(words: list[str]) -> list[str]:
-    """The words as a plan of the same texts, without the options that are tried."""
+    """The words of a `plan` of the same texts, without the options that the caller tries."""
     found, left = ["plan"], list(words[1:])
     while left:
         word = left.pop(0)
@@ -116,7 +116,7 @@ def planned_words(words: list[str]) -> list[str]:
 
 
 def at_fault(run: Run, least: int, budget: int) -> str:
-    """Which levels or nodes are above the budget; the plan under the least budget shows it."""
+    """Names the levels or nodes above the budget. It plans the query under the least budget to see them."""
     if least > most_of(run):
         return ""
     plan = with_words(run, given(run, least))
@@ -135,7 +135,8 @@ def at_fault(run: Run, least: int, budget: int) -> str:
 
 
 def given(run: Run, budget: int, accuracy: str | None = None, flag: Option | None = None) -> list[str]:
-    """The run's options, with these. A flag that is tried replaces those with which it can't be combined."""
+    """The run's options, and the given ones. A flag that is tried replaces the flags with which it can't be combined.
+    """
     flags = [one for one in (REDUCE, BUSHY, KEYS, COUNT) if has(run, one)]
     if flag is not None:
         flags = [one for one in flags if BUSHY in (one, flag)] + [flag]
@@ -156,7 +157,7 @@ def refers(run: Run) -> bool:
 
 
 def other_sources(run: Run) -> list[tuple[str, tuple[str | None, Option | None]]]:
-    """Options that may lower the bounds, each with its name. With `--count` no other one does."""
+    """Options that may lower the bounds, each with its name. With `--count` no other option lowers them."""
     if has(run, COUNT):
         return []
     is_close = int(option_of(run.words, ACCURACY.word) or 1) >= int(CLOSER)
@@ -173,7 +174,7 @@ def other_sources(run: Run) -> list[tuple[str, tuple[str | None, Option | None]]
 
 
 def tried(run: Run, budget: int, apart: str) -> list[str]:
-    """The least budget or the bounds with other options, and what else the user can do."""
+    """The least budget or the bounds with other options, and other things that the user can do."""
     ways = other_sources(run)
     if not has(run, BUSHY) and len(run.query.entries) > 3 and budget <= MOST_BUDGET_OF_A_TREE:
         ways.append((f"With {BUSHY.word}", (None, BUSHY)))

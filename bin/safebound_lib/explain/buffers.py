@@ -1,4 +1,4 @@
-"""`error memory-limit BYTES`: what the buffers of the plan take."""
+"""`error memory-limit BYTES`: how many bytes the buffers of the plan take."""
 from __future__ import annotations
 
 from typing import TYPE_CHECKING

@@ -20,10 +20,10 @@ COMPARISONS = ("=", "<>", "<", "<=", ">", ">=")
 
 
 def of_decimals(cause: str, query: Query, schema: Schema, at: int, run: Run) -> list[str]:
-    """What to tell of a fault at place `at` of the query text, in two sentences.
+    """Two sentences on a fault at place `at` of the query text.
 
     The first says that the column has decimals, and gives the command that writes it in cents. The second gives the
-    comparison as the query has it then. The list is empty where no column of decimals is compared at this place.
+    comparison with the column in cents. The list is empty where no column of decimals is compared at this place.
     """
     if cause == "kind":
         return of_kind(query, schema, at, run)
@@ -31,7 +31,7 @@ def of_decimals(cause: str, query: Query, schema: Schema, at: int, run: Run) -> 
 
 
 def of_kind(query: Query, schema: Schema, at: int, run: Run) -> list[str]:
-    """For a column of decimals beside a whole number: the program refuses to compare a text with a number."""
+    """For a column of decimals compared with a whole number: the program refuses to compare a text with a number."""
     test = next(t for t in query.tests if any(o.token.start == at for o in t.operands[1:]))
     sides = [test.operands[0], next(o for o in test.operands[1:] if o.token.start == at)]
     literal = next((side for side in sides if isinstance(side, Literal) and side.is_number), None)
@@ -43,7 +43,7 @@ def of_kind(query: Query, schema: Schema, at: int, run: Run) -> list[str]:
 
 
 def of_point(query: Query, schema: Schema, at: int, run: Run) -> list[str]:
-    """For a column compared with a decimal: the query's syntax is wrong at the decimal's point or comma."""
+    """For a column compared with a decimal: the query's syntax is wrong at the decimal point or comma."""
     number = next((i for i, token in enumerate(query.tokens) if token.start == at), 0)
     around = query.tokens[max(number - 4, 0):number + 2]
     before, behind = around[:-2], around[-2:]
@@ -60,8 +60,8 @@ def of_point(query: Query, schema: Schema, at: int, run: Run) -> list[str]:
 def said(query: Query, schema: Schema, beside: Reference, number: str, sign: str, run: Run) -> list[str]:
     """The two sentences on the column `beside`, which the query compares with `number` by `sign`.
 
-    Where `sign` is empty, the second sentence gives the number alone. The list is empty where the schema declares the
-    column as a number, or its table's file can't be read or has no decimals there.
+    If `sign` is empty, the second sentence gives the number alone. The list is empty if the schema declares the column
+    as a number, if the table's file can't be read, or if the file has no decimals in the column.
     """
     from ..sheets import NoTable, sheet_of
     _, table, column = resolved(query, beside, schema)

@@ -1,4 +1,4 @@
-"""`error limit WHICH FOUND`: the limit, and what stands beyond it."""
+"""`error limit WHICH FOUND`: the limit, and what exceeds it."""
 from __future__ import annotations
 
 from typing import TYPE_CHECKING

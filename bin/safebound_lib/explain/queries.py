@@ -44,7 +44,7 @@ def explain(fault: Fault, run: Run) -> list[str]:
 
 
 def no_query(run: Run, data: bytes) -> list[str]:
-    """An explanation if a table's file is given in place of the query's."""
+    """An explanation for a table's file given in place of the query's."""
     if not run.query_file.lower().endswith(".csv"):
         return []
     if not_text_message(data):
@@ -60,7 +60,9 @@ def no_query(run: Run, data: bytes) -> list[str]:
 
 
 def of_a_proposal(fault: Fault, query: Query, schema: Schema, run: Run) -> list[str]:
-    """What is wrong because the schema was proposed: a table without its file, a column that one value made a text."""
+    """Faults that come from a proposed schema: a table's file is missing, or a single value made the type of a column
+    text.
+    """
     if not run.is_proposed:
         return []
     at = fault.at
@@ -74,7 +76,8 @@ def of_a_proposal(fault: Fault, query: Query, schema: Schema, run: Run) -> list[
 
 
 def odd_value(query: Query, schema: Schema, at: int) -> list[str]:
-    """If a number is compared with a column in which nearly all values are numbers: sentences on a value that isn't."""
+    """For a number compared with a column in which nearly all values are numbers: sentences on a value that isn't one.
+    """
     from ..sheets import of_values, sheet_of
     test = next(t for t in query.tests if any(o.token.start == at for o in t.operands[1:]))
     other = next(o for o in test.operands[1:] if o.token.start == at)
@@ -99,7 +102,7 @@ def names_of(schema: Schema) -> list[str]:
 
 
 def length(query: Query, at: int) -> int:
-    """How many bytes are marked: the token there, or the whole reference that begins with it."""
+    """How many bytes to mark: those of the token at `at`, or of the whole reference that begins there."""
     reference = next((r for r in query.references if r.token.start == at), None)
     token = next((t for t in query.tokens if t.start == at and t.kind != "bad"), None)
     return max(reference.end - at if reference else token.end - at if token else 1, 1)
@@ -120,7 +123,7 @@ def syntax(query: Query, schema: Schema, at: int) -> list[str]:
 
 
 def outputs(query: Query, schema: Schema) -> tuple[tuple[set[str], bool], ...]:
-    """The output columns of a query: the names by which ORDER BY may call each, and whether it is a number."""
+    """The output columns of a query. Each has the names by which ORDER BY may call it, and whether it is a number."""
     end = next((i for i, token in enumerate(query.tokens) if token.is_one("FROM")), 0)
     found, item = [], []
     for token in query.tokens[1:end + 1]:
@@ -133,7 +136,9 @@ def outputs(query: Query, schema: Schema) -> tuple[tuple[set[str], bool], ...]:
 
 
 def output(query: Query, schema: Schema, item: list[Token]) -> list[tuple[set[str], bool]]:
-    """The columns of one item: those of all entries or of one for a *, else one."""
+    """The columns of one item of SELECT: for `*` those of all entries, for `ENTRY.*` those of the entry, else one
+    column.
+    """
     names = {token.name for token in item if token.is_name}
     entries = [
         entry for entry in query.entries if schema.table(entry.table.name)
@@ -147,7 +152,7 @@ def output(query: Query, schema: Schema, item: list[Token]) -> list[tuple[set[st
 
 
 def name(query: Query, schema: Schema, at: int) -> list[str]:
-    """The name at this place: a table or an alias of FROM, which the program tests first, or else a reference."""
+    """Explains the name at this place. The program tests the tables and aliases of FROM first, then the references."""
     for number, entry in enumerate(query.entries):
         earlier = [e.name for e in query.entries[:number]]
         if entry.table.start == at and schema.table(entry.table.name) is None:
@@ -184,7 +189,7 @@ def unknown_table(token: Token, schema: Schema) -> str:
 
 
 def case(token: Token, names: Iterable[str]) -> str:
-    """A sentence if a name in double quotes differs from an existing one only in its case."""
+    """A sentence if a name in double quotes differs from an existing name only in upper and lower case."""
     if token.kind == "quoted" and token.name.upper() in names:
         return f" A name in double quotes keeps its case: write {token.name.upper()} without quotes."
     return ""
@@ -201,7 +206,7 @@ def columns(table: Table | None) -> list[str]:
 
 
 def unknown_entry(query: Query, reference: Reference, schema: Schema) -> list[str]:
-    """`entry.column`: the entry or the column doesn't exist."""
+    """Explains a reference `entry.column` whose entry or column doesn't exist."""
     wanted, scope = reference.token.name, [query.entries[i] for i in reference.scope]
     entry = next((e for e in scope if e.name == wanted), None)
     if entry is None:
@@ -232,7 +237,7 @@ def no_entry(query: Query, reference: Reference, scope: list[Entry]) -> str:
 
 
 def unknown_column(query: Query, reference: Reference, schema: Schema) -> list[str]:
-    """A column without an entry: several entries have it, or none has."""
+    """Explains a column without an entry that several entries have, or that no entry has."""
     token, found = reference.token, visible(query, reference, schema)
     if found:
         having = [
@@ -266,8 +271,8 @@ def unknown_column(query: Query, reference: Reference, schema: Schema) -> list[s
 
 
 def name_of_words(query: Query, at: int, names: list[str]) -> str:
-    """A name of several words that stands without quotes around the token of this number, in double quotes; or
-    nothing.
+    """Looks for a column's name of several words, written without quotes around the token of this number. Returns it in
+    double quotes, or nothing.
     """
     firsts = query.tokens[max(at - 3, 0):at + 1]
     found = (two_words(query, token, names) for token in firsts if token.kind == "word")
@@ -275,7 +280,7 @@ def name_of_words(query: Query, at: int, names: list[str]) -> str:
 
 
 def named_twice(token: Token, table: Table | None) -> str:
-    """A sentence on a column that is left out since its file's header names it more than once."""
+    """A sentence on a column that was left out, since the header of its file names it more than once."""
     if table is None or not os.path.isfile(table.file):
         return ""
     _, header = next(records(read(table.file)), NO_RECORD)
@@ -287,7 +292,7 @@ def named_twice(token: Token, table: Table | None) -> str:
 
 
 def two_words(query: Query, token: Token, names: list[str]) -> str:
-    """A column's name of several words of which this token is the first, in double quotes, or nothing."""
+    """The column's name of several words that begins with this token, in double quotes, or nothing."""
     at = query.tokens.index(token)
     for name in names:
         behind = [t.source.upper() for t in query.tokens[at:at + len(name.split())]]
@@ -297,12 +302,12 @@ def two_words(query: Query, token: Token, names: list[str]) -> str:
 
 
 def is_compared(query: Query, reference: Reference) -> bool:
-    """Whether it stands on the right of a comparison, where a text may have been meant."""
+    """Whether the reference stands on the right of a comparison. A text may have been meant there."""
     return any(reference in test.operands[1:] for test in query.tests)
 
 
 def quoted(token: Token, tables: dict[str, Table | None]) -> list[str]:
-    """A name in double quotes that no entry has: mostly a text was meant."""
+    """Explains a name in double quotes that no entry has. Mostly a text was meant."""
     names = {column for table in tables.values() for column in columns(table)}
     if token.name.upper() in names:
         return ["No entry has a column of that name." + case(token, names)]
@@ -340,7 +345,7 @@ def side(query: Query, operand: Literal | Reference, schema: Schema) -> str:
 
 
 def mended(query: Query, left: Literal | Reference, other: Literal | Reference, schema: Schema) -> list[str]:
-    """How to write the literal so that it is of the other operand's kind."""
+    """How to write the literal so that it has the other operand's kind, number or text."""
     if isinstance(left, Reference) and isinstance(other, Reference):
         return [of_the_kind(query, left, other, schema)]
     literal, beside = (other, left) if isinstance(other, Literal) else (left, other)

@@ -1,4 +1,4 @@
-"""What to write in place of what isn't part of the language of queries."""
+"""What to write in place of SQL that the language of queries doesn't have."""
 from __future__ import annotations
 
 import re
@@ -141,7 +141,7 @@ def subquery(place: Place) -> str | None:
 
 
 def call(place: Place) -> str | None:
-    """A name and a parenthesis."""
+    """A name followed by a parenthesis."""
     before = place.token(-1)
     if place.token().is_one("(") and before.is_name:
         advice = COUNT if before.word == "COUNT" else AGGREGATE if before.word in AGGREGATES else FUNCTION
@@ -164,7 +164,7 @@ def decimal(place: Place) -> str | None:
 
 
 def alias_word(place: Place) -> str | None:
-    """A word that was read as an alias or a name, and was meant as something else."""
+    """A word that was read as an alias or a name, but was meant as something else."""
     before, earlier = place.token(-1), place.token(-2)
     if before.word in AS_ALIAS and not place.token().is_one(".", ","):
         read_as = f"an alias of {plain(earlier.source)}" if earlier.is_name else "a name"
@@ -185,7 +185,7 @@ def two_nots(place: Place) -> str | None:
 
 
 def wrong_quotes(place: Place) -> str | None:
-    """A text where a name has to stand, and a name where a text has to."""
+    """A text in the place of a name, or a name in the place of a text."""
     token, tested = place.token(), place.tested
     wants_name = [what for what in tested if what in ("a table", "a column", "an alias", "a name for it")]
     if token.kind == "text" and wants_name and token.source.lower().endswith(".csv'"):
@@ -226,7 +226,7 @@ def order(place: Place) -> str | None:
 
 
 def sort_key(item: list[Token], outs: tuple[tuple[set[str], bool], ...]) -> tuple[str, str]:
-    """The name in ORDER BY, and the option of `sort` for it; "" if no output column has this name."""
+    """The name in ORDER BY, and the option of `sort` for it. The option is "" if no output column has this name."""
     down = any(token.word == "DESC" for token in item)
     named = [token for token in item if token.is_name or token.kind == "number"]
     if not named:
@@ -242,7 +242,7 @@ def sort_key(item: list[Token], outs: tuple[tuple[set[str], bool], ...]) -> tupl
 
 
 def by_word(place: Place) -> str | None:
-    """A word of SQL that isn't part of the language. ORDER and GROUP without BY are meant as names."""
+    """A word of SQL that isn't part of the language. ORDER and GROUP without BY are taken for names."""
     if place.word() in ("ORDER", "GROUP") and place.word(1) != "BY":
         return None
     return WORDS.get(place.word())
@@ -279,7 +279,7 @@ def half_a_comparison(place: Place) -> str | None:
 
 
 def qualified(place: Place) -> str | None:
-    """A name of a schema or a database before a table's."""
+    """A table's name with the name of a schema or a database before it."""
     if place.token().is_one(".") and place.word(1) == "CSV":
         return of_file(f"{place.token(-1).source}.{place.token(1).source}")
     if place.token().is_one(".") and "an alias" in place.tested and place.token(-2).is_one("FROM", "JOIN", ","):
@@ -288,7 +288,7 @@ def qualified(place: Place) -> str | None:
 
 
 def of_file(name: str) -> str:
-    """What to write in the place of a table file's name."""
+    """What to write in place of the name of a table's file."""
     return f"{plain(name)} is a file's name, and a query names the table: FROM {plain(name[:-4].upper())}."
 
 
@@ -326,7 +326,7 @@ def star(place: Place) -> str | None:
 
 
 def reserved(place: Place) -> str | None:
-    """A reserved word where a name has to stand."""
+    """A reserved word in the place of a name."""
     wants_name = any(what.startswith("a ") and what != "a number" for what in place.tested)
     if (
         place.word() in RESERVED and wants_name
@@ -343,7 +343,7 @@ def comma_too_many(place: Place) -> str | None:
 
 
 def misspelled(place: Place) -> str | None:
-    """A word of the language that was read as a name: `FORM BOOK`, `BOOK WHRE X = 1`."""
+    """A misspelled word of the language that was read as a name: `FORM BOOK`, `BOOK WHRE X = 1`."""
     wanted = ["SELECT", "FROM", "WHERE", "JOIN", "INNER", "AND", "OR", "BETWEEN", "IN", "NOT", "AS", "ON"]
     for token, how in ((place.token(), ""), (place.token(-1), " was read as a name.")):
         near = nearest(token.word, wanted, 0.74) if token.word and token.is_name else None
@@ -353,7 +353,7 @@ def misspelled(place: Place) -> str | None:
 
 
 def comma_missing(place: Place) -> str | None:
-    """Two names or more, one behind the other, where a list has commas."""
+    """Two or more names in a row, without commas, in a list."""
     token, before = place.token(), place.token(-1)
     if token.is_name and (before.is_name or before.is_one("*")) and "," in place.tested:
         return f"Is a comma missing before {plain(token.source)}?"

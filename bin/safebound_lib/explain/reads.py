@@ -31,7 +31,7 @@ def explain(fault: Fault, run: Run) -> list[str]:
 
 
 def lines_of_text(text: str, run: Run) -> str:
-    """The lines that write a query's text into a file and run it."""
+    """The commands that write a query's text into a file and run it."""
     written = os.path.join(os.path.dirname(run.path_of("query.sql")), "query.sql")
     if os.path.exists("query.sql"):
         return "."
@@ -46,7 +46,7 @@ def is_one_query(words: str) -> bool:
 
 
 def without_schema(file: str, run: Run) -> list[str]:
-    """Where a schema isn't there but its tables and its query are: the line that needs none."""
+    """For a schema that doesn't exist beside tables and a query that do: the command that needs no schema."""
     is_able = (
         file == run.schema_file and not run.is_proposed and is_query(run.query_file)
         and any(name.endswith(".csv") for name in names_in("."))
@@ -58,7 +58,7 @@ def without_schema(file: str, run: Run) -> list[str]:
 
 
 def missing_table(name: str, run: Run) -> list[str]:
-    """Where a schema was proposed: why it has no table of this name."""
+    """Why a proposed schema has no table of this name."""
     file, folder = name.lower() + ".csv", run.path_of(".")
     if os.path.isfile(file):
         return no_table(file, run)
@@ -70,7 +70,7 @@ def missing_table(name: str, run: Run) -> list[str]:
 
 
 def no_table(file: str, run: Run) -> list[str]:
-    """Why a file that is there gives no table."""
+    """Why a file that exists gives no table."""
     from ..sheets import NoTable, sheet_of
     try:
         sheet_of(file, run.path_of(file))
@@ -92,7 +92,7 @@ def why(file: str) -> str:
 
 
 def where(file: str, run: Run) -> list[str]:
-    """Where the file was looked for, and which file there or elsewhere has that name or a similar one."""
+    """Where the file was looked for, and which file, in that folder or another, has its name or a similar one."""
     if os.path.exists(file):
         return []
     is_table = file not in run.named
@@ -107,7 +107,7 @@ def where(file: str, run: Run) -> list[str]:
     elsewhere = folder_with(file, run, is_table) or near_file(file, folder, run)
     if elsewhere:
         return found + [elsewhere]
-    if run.before:
+    if run.user_folder:
         found.append("With --data every file is looked up in that folder, the schema and the query too.")
     elif is_table:
         found.append("Where the tables lie elsewhere, give their folder: --data DIR.")
@@ -123,8 +123,8 @@ def working() -> str | None:
 
 def folder_with(file: str, run: Run, is_table: bool) -> str:
     """A sentence on a folder near by that has the file."""
-    if run.before and os.path.exists(os.path.join(run.before, file)):
-        whole = os.path.join(run.before, file)
+    if run.user_folder and os.path.exists(os.path.join(run.user_folder, file)):
+        whole = os.path.join(run.user_folder, file)
         inside = os.path.relpath(whole)
         return (
             "With --data every file is looked up in that folder, the schema and the query too. To take the one where"
@@ -157,7 +157,7 @@ def names_in(folder: str) -> list[str]:
 
 
 def near_file(file: str, folder: str, run: Run) -> str:
-    """A sentence on a file there with a name near this one."""
+    """A sentence on a file in this folder with a similar name."""
     if not os.path.isdir(folder):
         return f"There is no folder {plain(folder)}."
     name, names = os.path.basename(file), names_in(folder)
@@ -198,7 +198,7 @@ def rename(other: str, file: str, run: Run) -> str:
 
 
 def alike(file: str, folder: str) -> str:
-    """The files there with the same ending."""
+    """The files of the folder with the same ending."""
     ending = os.path.splitext(file)[1].casefold()
     found = [plain(name) for name in names_in(folder) if os.path.splitext(name)[1].casefold() == ending]
     return f"Files of that kind there: {listed(found)}." if found else ""

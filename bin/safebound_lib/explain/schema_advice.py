@@ -1,4 +1,4 @@
-"""What to write in place of what isn't part of the language of schemas."""
+"""What to write in place of SQL that the language of schemas doesn't have."""
 from __future__ import annotations
 
 from typing import TYPE_CHECKING
@@ -72,7 +72,7 @@ def statement(place: Place) -> str | None:
 
 
 def no_type(place: Place) -> str | None:
-    """No type where one has to stand."""
+    """A type is missing."""
     if "VARCHAR" not in place.tested and "VARYING" not in place.tested:
         return None
     word = place.word(-1) if place.word(-1) in ("CHAR", "CHARACTER") else place.word()
@@ -128,7 +128,7 @@ def qualified(place: Place) -> str | None:
 
 
 def wrong_quotes(place: Place) -> str | None:
-    """A text where a name has to stand."""
+    """A text in the place of a name."""
     wanted = next(
         (what for what in place.tested if what in ("a table's name", "a column's name", "a rule's name")), None
     )

@@ -34,16 +34,16 @@ def explain(fault: Fault, run: Run) -> list[str]:
 
 
 def in_order(run: Run) -> str:
-    """If query and schema stand in each other's place: the line with both in the right order."""
+    """If query and schema were given in the wrong order: the command with the right order."""
     if not (is_query(run.schema_file) and is_schema(run.query_file)):
         return ""
-    folder = f" --data {plain(run.path_of('.'))}" if run.before else ""
+    folder = f" --data {plain(run.path_of('.'))}" if run.user_folder else ""
     files = " ".join(plain(shlex.quote(file)) for file in (run.query_file, run.schema_file))
     return f"So it is:\n    safebound {run.command} {files}{folder}"
 
 
 def no_schema(run: Run) -> list[str]:
-    """An explanation if a table's file is given in place of the schema's."""
+    """An explanation for a table's file given in place of the schema's."""
     command = BY_WORD.get(run.command)
     if command and with_tables([run.schema_file, run.query_file]):
         return [tables_named(command, run)]
@@ -120,7 +120,7 @@ def of_keys(table: Table, at: int) -> str | None:
 
 
 def of_list(table: Table, tokens: list[Token], at: int) -> str | None:
-    """A sentence on a name in a list of columns: the table doesn't have it, or it stands there twice."""
+    """A sentence on a name in a list of columns that the table doesn't have, or that the list has twice."""
     token = next((t for t in tokens if t.start == at), None)
     if token is None:
         return None

@@ -1,5 +1,5 @@
-"""`error stats CAUSE AT`: a statistics file that isn't one, or that lacks what the query needs or the table that gets
-new rows.
+"""`error stats CAUSE AT`: the file isn't a statistics file, it lacks columns that the query needs, or (in `append`) it
+lacks the table.
 """
 from __future__ import annotations
 
@@ -14,23 +14,23 @@ if TYPE_CHECKING:
     from . import Run
 
 
-def made_anew(run: Run) -> str:
-    """The line that makes the file, to paste where the user is."""
+def remaking_command(run: Run) -> str:
+    """The command that makes the file again, for the user's current folder."""
     texts = [run.query_file or "QUERY"] if run.is_proposed else [run.schema_file, run.query_file or "QUERY"]
-    data = f" --data {run.path_of('.')}" if run.before else ""
+    data = f" --data {run.path_of('.')}" if run.user_folder else ""
     return plain(f"safebound stats {' '.join(map(shlex.quote, texts))}{data} > {run.path_of(run.stats_file or '')}")
 
 
 def explain(fault: Fault, run: Run) -> list[str]:
     file, at = plain(run.stats_file or ""), fault.at
-    anew = f"Make it anew:\n    {made_anew(run)}"
+    anew = f"Make it anew:\n    {remaking_command(run)}"
     if fault.cause == "missing" and run.command == "append":
         return without_section(file, run)
     if fault.cause == "missing":
         return [
             (
-                f"{lacking(run, at)} needs statistics that {file} doesn't have: it was made for a query that doesn't"
-                " name its table, or compares or joins other columns."
+                f"{entry_called(run, at)} needs statistics that {file} doesn't have: it was made for a query that"
+                " doesn't name its table, or compares or joins other columns."
             ),
             anew,
         ]
@@ -47,7 +47,7 @@ def explain(fault: Fault, run: Run) -> list[str]:
 
 
 def without_section(file: str, run: Run) -> list[str]:
-    """Which of the two is missing, the table in the schema or its statistics in the file."""
+    """Says what is missing: the table in the schema, or its statistics in the file."""
     names = [table.name for table in run.schema.tables]
     if not any(name.upper() == run.table.upper() for name in names):
         return [f"The schema has no table {plain(run.table)}. Its tables are {listed(names)}.{hint(run.table, names)}"]
@@ -59,13 +59,13 @@ def without_section(file: str, run: Run) -> list[str]:
         ),
         (
             "Put the new rows into the table's own file, and make the statistics anew with a query that names"
-            f" {table}:\n    {made_anew(run)}"
+            f" {table}:\n    {remaking_command(run)}"
         ),
     ]
 
 
-def lacking(run: Run, entry: int) -> str:
-    """The FROM entry with this number, by its name where the query can be read."""
+def entry_called(run: Run, entry: int) -> str:
+    """How a message names the FROM entry of this number: by its name where the query can be read."""
     try:
         return f"The FROM entry {plain(run.query.entries[entry].name)}"
     except (OSError, IndexError, RecursionError):

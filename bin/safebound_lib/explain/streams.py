@@ -1,4 +1,4 @@
-"""`error write ..` and `error memory`: the streams, and what the system wouldn't give."""
+"""`error write ..` and `error memory`: failures of the streams, and memory or room that the system refused."""
 from __future__ import annotations
 
 import os

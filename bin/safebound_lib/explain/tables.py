@@ -38,7 +38,8 @@ def explain(fault: Fault, run: Run) -> list[str]:
 
 
 def header_differs(data: bytes) -> str:
-    """A sentence if all rows, two or more, have one number of fields and the header another; else the empty text."""
+    """A sentence if two or more rows all have as many fields as each other and the header has another number; else "".
+    """
     found = records(data)
     wide, widths, ends, rows = len(next(found, (0, []))[1]), set(), set(), 0
     for rows, (_, fields) in enumerate(found, 1):
@@ -57,8 +58,8 @@ def header_differs(data: bytes) -> str:
 
 
 def closed_late(data: bytes, number: int) -> str:
-    """A sentence if a field of this record has a line end and a comma in it, so that its quote seems to be closed too
-    late; else the empty text.
+    """A sentence if a field of this record has both a line end and a comma, since its quote then seems to be closed too
+    late; else "".
     """
     ((line, fields),) = chosen(data, number)
     place = next((i for i, value in enumerate(fields) if "\n" in value and "," in value), None)
@@ -72,7 +73,7 @@ def closed_late(data: bytes, number: int) -> str:
 
 
 def quoted(value: str) -> str:
-    """A value as it stands in the file, between backticks. A long one is cut."""
+    """A value between backticks, as the file has it. A long value is cut."""
     return f"`{plain(value[:MOST_OF_VALUE])}{'...' if len(value) > MOST_OF_VALUE else ''}`"
 
 
@@ -107,7 +108,7 @@ def header(table: Table, fault: Fault, data: bytes, run: Run) -> list[str]:
 
 
 def why_no_header(found: list[str], wanted: list[str], column: str, count: int, convert: str) -> str:
-    """A guess at why the header lacks the column or has it twice, and what to do; the empty text without a guess."""
+    """A guess at why the header lacks the column or has it twice, and what to do; "" without a guess."""
     separator = next((s for s in SEPARATORS if len(found) == 1 and s in found[0]), None)
     if separator:
         return (
@@ -184,7 +185,7 @@ def field(table: Table, fault: Fault, data: bytes, run: Run) -> list[str]:
 
 
 def over_lines(value: str, line: int) -> str:
-    """A sentence if a value goes over lines, since its quote is then mostly closed too late; else the empty text."""
+    """A sentence if a value spans several lines, since its quote is then mostly closed too late; else ""."""
     ends = value.count("\n")
     return (
         f'The value begins with a " on line {line}, and has {ends} line ends. Where a " is missing that closes it on'
@@ -193,8 +194,8 @@ def over_lines(value: str, line: int) -> str:
 
 
 def number_expected(value: str, of_words: str = "For texts declare the column as VARCHAR(n).") -> str:
-    """What a field of a number column has to be, and what this value seems to be instead. `of_words` is the advice for
-    a value that seems to be no number, date or null.
+    """What a field of a number column has to be, and what this value seems to be. `of_words` is the advice for a value
+    that seems to be neither number nor date nor null.
     """
     expected = "A number is digits, with - or + before them where there is a sign."
     if re.fullmatch(r"[+-]?[0-9]+", value, re.ASCII):
@@ -254,14 +255,14 @@ def key(table: Table, fault: Fault, data: bytes, run: Run) -> list[str]:
 
 
 def key_in_schema(column: Token, run: Run) -> str:
-    """In which line of the schema the key of this column stands, and whether it was guessed from rows."""
+    """The schema line that declares the key of this column, and whether the key was guessed from rows."""
     data = read(run.schema_file)
     guessed = ", where it was guessed from the rows of that time" if data.startswith(b"-- Proposed from") else ""
     return f", {plain(run.schema_file)}, line {data[:column.start].count(10) + 1}{guessed}"
 
 
 def is_same(table: Table, token: Token, one: str, other: str) -> bool:
-    """Whether two fields spell one value: 7 and 007 are one number."""
+    """Whether two fields spell the same value: as numbers, 7 and 007 are equal."""
     return one == other or is_of_numbers(table, token) and number_of(one) == number_of(other)
 
 

@@ -1,5 +1,5 @@
-"""What explanations of schema and query texts share: the place, what was read, what may stand there, and bytes that are
-no text.
+"""Shared parts of explanations of schema and query texts: the place, what was read, what may stand there, and bytes
+that are no UTF-8.
 """
 from __future__ import annotations
 
@@ -60,13 +60,15 @@ NO_ARITHMETIC_THERE = (
 
 @dataclass
 class Place:
-    """Where the tokens of a text go wrong: the token there, those around it, and what may stand there."""
+    """Where the grammar fails on the tokens of a text: the token at that place, its neighbours, and what may stand
+    there.
+    """
     tokens: list[Token]
     at: int
     tested: tuple[str, ...]
-    # Whether the grammar goes wrong at this very token.
+    # Whether the grammar fails at this token.
     is_grammar: bool = True
-    # For ORDER BY: the names of each output column of the query, and whether it is a number.
+    # For ORDER BY: for each output column of the query its names, and whether it is a number.
     outs: tuple[tuple[set[str], bool], ...] = ()
 
     def token(self, ahead: int = 0) -> Token:
@@ -85,14 +87,14 @@ def is_in_select(place: Place) -> bool:
 
 
 def place_of(read: Query | Schema, at: int) -> Place:
-    """The place with the token that begins at a byte."""
+    """The place of the first token that begins at this byte or later."""
     found = next((i for i, token in enumerate(read.tokens) if token.start >= at), len(read.tokens))
     return Place(read.tokens, found, read.tested, read.wrong == found)
 
 
 def marked(file: str, data: bytes, read: Query | Schema, at: int, length: int) -> str:
-    """The place in a text, with a mark below it. A name with accents is marked whole. The end of the text is marked
-    right behind its last token.
+    """The line of a text with a mark below the place. A name with accents is marked whole. At the end of the text, the
+    mark is right behind the last token.
     """
     name = accented(data, read.tokens, at)
     if name:
@@ -105,7 +107,9 @@ def marked(file: str, data: bytes, read: Query | Schema, at: int, length: int) -
 
 @dataclass
 class Accented:
-    """A name with other letters than A to Z, and how many bytes before the first of these it begins."""
+    """A name with letters other than A to Z. `offset` says how many bytes before the first of these letters the name
+    begins.
+    """
     name: str
     offset: int
 
@@ -119,7 +123,7 @@ def is_letter(c: str) -> bool:
 
 
 def accented(data: bytes, tokens: list[Token], at: int) -> Accented | None:
-    """If a letter other than A to Z is at this byte: the whole name around it, else nothing."""
+    """If a letter other than A to Z begins at this byte: the whole name around it. Otherwise None."""
     number = next((i for i, token in enumerate(tokens) if token.kind == "bad" and token.start == at), None)
     if number is None or not (tokens[number].source[:1].isalpha() or unicodedata.combining(tokens[number].source[:1])):
         return None
@@ -132,7 +136,9 @@ def accented(data: bytes, tokens: list[Token], at: int) -> Accented | None:
 
 
 def quotes_for(found: Accented, names: list[str]) -> str:
-    """What to do about a name with an accent: one that is there without it, or double quotes."""
+    """What to do about a name with an accent: write the existing name without the accent, or put the name in double
+    quotes.
+    """
     bare = "".join(c for c in unicodedata.normalize("NFD", found.name) if not unicodedata.combining(c))
     return (
         'A name with other letters than A to Z stands in double quotes, which keep its upper and lower case:'
@@ -141,7 +147,7 @@ def quotes_for(found: Accented, names: list[str]) -> str:
 
 
 def no_text(file: str, data: bytes, at: int, run: Run) -> list[str] | None:
-    """Where the bytes are no UTF-8: an explanation, else nothing."""
+    """An explanation if the bytes are no UTF-8, else None."""
     try:
         data.decode("utf-8")
     except UnicodeDecodeError as bad:
@@ -165,12 +171,12 @@ def how_to_convert(data: bytes, file: str, run: Run) -> str:
 
 
 def convert_line(file: str, run: Run) -> str:
-    """The command line that converts a file, on a line of its own."""
+    """The command that converts a file, on a line of its own."""
     return f"\n    safebound convert {plain(run.path_of(file))}"
 
 
 def bad_character(place: Place) -> str:
-    """What to do about a place where no token begins."""
+    """What to do about characters that begin no token."""
     token = place.token()
     first = token.source[:1]
     if token.source[:2] in JOINERS:
@@ -199,7 +205,7 @@ def bad_character(place: Place) -> str:
 
 
 def quote_within(place: Place) -> str:
-    """A sentence if a quote within a text ends it, as in 'O'Brien': a word begins right where the text ends."""
+    """A sentence if a quote within a text ends it, as in 'O'Brien'. A word then begins right behind the text."""
     tokens = place.tokens
     at = next(
         (i for i, t in enumerate(tokens[:-1]) if t.kind == "text" and tokens[i + 1].kind == "word"
@@ -221,7 +227,7 @@ JOINERS = {"||": "OR", "&&": "AND"}
 
 
 def joiner(sign: str, is_behind_a_condition: bool) -> str:
-    """What to write in place of a sign by which other languages join conditions, or texts."""
+    """What to write in place of a sign that joins conditions or texts in other languages."""
     if sign == "||" and not is_behind_a_condition:
         return (
             "Texts can't be put together: || isn't part of the language. Take both columns, and put them together"
@@ -240,12 +246,12 @@ SPOKEN = {",": "a comma", ".": "a point", ";": "a semicolon"}
 
 
 def spoken(source: str) -> str:
-    """A token in a sentence."""
+    """How a sentence names a token."""
     return SPOKEN.get(source, plain(source)[:40])
 
 
 def stands(place: Place) -> str:
-    """What was read at the place, and after which token."""
+    """What was read at the place, and behind which token."""
     token, before = place.token(), place.token(-1)
     behind = f" behind {spoken(before.source)}" if before.source else ""
     if token.kind == "end":
@@ -262,7 +268,7 @@ def may_stand(place: Place) -> str:
     return f"Here may stand {listed(tested, 'or', 16)}." if tested else ""
 
 
-# Pieces of advice: what each says of a place that it fits.
+# Functions that each give advice for a place, or None if they don't fit it.
 Rules = Tuple[Callable[["Place"], Optional[str]], ...]
 
 
@@ -272,6 +278,6 @@ def first_said(rules: Rules, place: Place) -> str:
 
 
 def advised(place: Place, certain: Rules, guesses: Rules) -> list[str]:
-    """What was read, and what to do: where that is a guess, also what may stand there."""
+    """What was read, and what to do. If the advice is a guess, the list also says what may stand there."""
     said = first_said(certain, place)
     return [stands(place), said] if said else [stands(place), first_said(guesses, place), may_stand(place)]

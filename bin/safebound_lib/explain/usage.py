@@ -1,4 +1,4 @@
-"""`error usage`: which word of the command line is wrong, and what it may be."""
+"""`error usage`: which word of the command line is wrong, and which words are allowed there."""
 from __future__ import annotations
 
 import os
@@ -44,20 +44,20 @@ def may_lack(command: Command) -> str:
 
 
 def line_meant(command: Command, run: Run) -> str:
-    """The line that was meant where a schema was left out: with the one query here, or with one in a folder below."""
+    """The probable command where a schema was left out: with the only query in this folder, or in a folder below it."""
     files = places(run.words[1:])
     if command.places != TEXTS or len(files) > 1 or first_strange(command, run):
         return ""
     if not files:
-        found = [name for name in os.listdir(".") if is_query(name)] if run.before else []
+        found = [name for name in os.listdir(".") if is_query(name)] if run.user_folder else []
         if len(found) == 1:
             return f"Without a schema, one is proposed from the tables:{run.line_without_schema(found[0])}"
-        return no_query_yet(run) if run.before and not found else ""
+        return no_query_yet(run) if run.user_folder and not found else ""
     below = (
         sorted(
             entry.name for entry in os.scandir(".") if entry.is_dir() and is_query(os.path.join(entry.name, files[0]))
         )
-        if not os.path.exists(files[0]) and not run.before
+        if not os.path.exists(files[0]) and not run.user_folder
         else []
     )
     if len(below) == 1:
@@ -69,7 +69,7 @@ def line_meant(command: Command, run: Run) -> str:
 
 
 def no_query_yet(run: Run) -> str:
-    """Where a folder has tables and no query: how to write one."""
+    """How to write a query, in a folder with tables and without a query."""
     tables = sorted(name for name in os.listdir(".") if name.endswith(".csv"))
     if not tables:
         return ""
@@ -105,7 +105,7 @@ def wrong_command(run: Run) -> list[str]:
 
 
 def first_wrong(command: Command, words: list[str]) -> str | None:
-    """The first word that can't stand where it stands, as a sentence."""
+    """A sentence on the first word that isn't allowed in its place."""
     options = {o.word: o for o in program_options(command)}
     found, seen, left, budget = [], set(), list(words), None
     while left:
@@ -135,7 +135,7 @@ def first_wrong(command: Command, words: list[str]) -> str | None:
 
 
 def unknown(command: Command, word: str, behind: str) -> str:
-    """A sentence on an unknown option; `behind` is the word after it."""
+    """A sentence on an unknown option; `behind` is the word after the option."""
     if word in OUTPUTS:
         return (
             f"{command.word} has no option {plain(word)}: what it prints goes into a file behind a >, as in safebound"
@@ -153,7 +153,7 @@ def unknown(command: Command, word: str, behind: str) -> str:
 
 
 def wrong_beside(seen: set[str]) -> str | None:
-    """A sentence on options that can't be combined, if the line has them."""
+    """A sentence on options of the line that can't be combined."""
     others = [option.word for option in (ACCURACY, REDUCE, COUNT, KEYS) if option.word in seen]
     if STATS.word in seen and others:
         return (
@@ -214,7 +214,7 @@ def wrong_file(option: Option, value: str | None) -> str | None:
 
 
 def spelled_out(value: str) -> str:
-    """A number as it was meant, in digits."""
+    """The number that was meant, in digits."""
     if re.fullmatch(r"[0-9]{1,3}([,_.' ][0-9]{3})+", value):
         return f" Write {re.sub('[^0-9]', '', value)}."
     match = re.fullmatch(r"([0-9])[eE]\+?([0-9])", value)
@@ -231,15 +231,15 @@ def is_query(file: str) -> bool:
 
 
 def with_tables(files: list[str]) -> bool:
-    """Whether the files are a query, followed by tables."""
+    """Whether the files are a query and then tables."""
     return len(files) > 1 and is_query(files[0]) and all(file.lower().endswith(".csv") for file in files[1:])
 
 
 def tables_named(command: Command, run: Run) -> str:
-    """What to do if tables are given after a query."""
+    """What to do if table files are given after a query."""
     query, *tables = places(run.words[1:])
     are = "is a table" if len(tables) == 1 else "are tables"
-    line = run.line_without_schema(query) if run.before else line_of_query(command, query)
+    line = run.line_without_schema(query) if run.user_folder else line_of_query(command, query)
     return (
         f"{plain(listed(tables))} {are}, and no line names tables: the query does. They are found in their folder, and"
         f" a schema is proposed from them:{line}"
@@ -247,7 +247,7 @@ def tables_named(command: Command, run: Run) -> str:
 
 
 def line_of_query(command: Command, query: str) -> str:
-    """The line to paste that runs a query without a schema, in the query's folder where tables lie there."""
+    """The command that runs a query without a schema, in the query's folder if that has tables."""
     folder = os.path.dirname(query)
     is_there = bool(folder) and any(name.endswith(".csv") for name in os.listdir(folder))
     words = [os.path.basename(query), "--data", folder] if is_there else [query, "--data", "."]

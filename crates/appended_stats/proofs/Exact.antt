@@ -1,4 +1,4 @@
--- The file that is made from the cells of new rows is the file that is made from these rows' values.
+-- The file that is made from the cells of new rows is equal to the file that is made from these rows' values.
 use Rattle.std.proofs.Common.{◌≡◌, ℕ, ◌+◌, ◌<◌, ◌==◌, Bool, true, false, cond, List, [], ◌∷◌, length, map, get_or, refl, ap, sym, ◌∙◌, arith, inl, inr}
 use Rattle.std.specs.List.{All, AllByRecursion, zip}
 use Rattle.std.proofs.lemmas.Bool.{cases_Bool, eqb-true}
@@ -26,7 +26,7 @@ use Rattle.appended_stats.specs.Grown.{grown_pair}
 use Rattle.appended_stats.proofs.SameRows.{grown_is}
 
 module _ (texts : List (List ℕ)) (differ : HaveDifferentCharacters texts) (cells : Cells) (are : AreCells texts cells) where
-  -- the new cells are made a database of one table, so that the lemmas about cells in a database apply
+  -- a database with the new cells as its only table, so that lemmas about cells in a database apply
   abbrev db : Database
   db = record { pool = texts; cells = cells ∷ []; slots = 0 ∷ [] }
 

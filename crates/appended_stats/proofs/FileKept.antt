@@ -1,4 +1,4 @@
--- If a file of statistics keeps the rules of statistics files, it still keeps them after rows were appended.
+-- If a statistics file keeps the rules, it still keeps them after rows were appended.
 use Rattle.std.proofs.Common.{◌≡◌, ◌⊎◌, ℕ, zero, suc, ◌+◌, ◌<◌, ◌≤◌, ◌==◌, Bool, true, false, cond, eqb, List, [], ◌∷◌, length, map, get_or, Some, slice_get, inl, inr, refl, ap, sym, ◌∙◌, subst, arith}
 use Rattle.std.specs.List.{All, AllByRecursion, AllPairs, zip}
 use Rattle.std.specs.Str.{IsUtf8}
@@ -29,7 +29,7 @@ use Rattle.stats_file_of_query.proofs.PairRules.{pairs_mapped}
 use Rattle.stats_file_of_query.proofs.Rules.{agree, pair_kept}
 use Rattle.appended_stats.specs.Appended.{file_after}
 use Rattle.appended_stats.specs.Cells.{grown_by_cells, section_after_by_cells, pair_by_cells, section_by_cells}
-use Rattle.appended_stats.specs.Conditions.{HasRoom, MayAppend}
+use Rattle.appended_stats.specs.Conditions.{FitsRowLimit, MayAppend}
 use Rattle.appended_stats.specs.Grown.{grown_pair}
 use Rattle.appended_stats.proofs.Exact.{HasColumnsWhere, sections_same}
 use Rattle.appended_stats.proofs.PairKept.{counts_grown, grown_kept, whole_grown}
@@ -115,7 +115,7 @@ module _ (texts : List (List ℕ)) (differ : HaveDifferentCharacters texts) (utf
       pairs_mapped Agree Agree (after n) pairs no_pair agreed
       (λ i j before low one. agree_after n (get_or pairs i no_pair) (get_or pairs j no_pair) (are i no_pair (omega (arith, before, low))) (are j no_pair low) one)
 
--- ---- the file
+-- ---- the file with all its sections
 
 module _ (schema : Schema) (file : StatsFile) (table : ℕ) (texts : List (List ℕ)) (cells : Cells) (may : MayAppend schema file table texts cells) where
   pub its_cells : (section : TableStats) (is : IsSection schema section) → section.table ≡ table → AreCellsOf is.table texts cells
@@ -137,7 +137,7 @@ module _ (schema : Schema) (file : StatsFile) (table : ℕ) (texts : List (List 
   abbrev one : TableStats → TableStats
   one section = section_after_by_cells texts cells file.accuracy table section
 
-  one_section : (section : TableStats) → IsSection schema section → HasRoom table cells.rows section → IsSection schema (one section)
+  one_section : (section : TableStats) → IsSection schema section → FitsRowLimit table cells.rows section → IsSection schema (one section)
   one_section section is room = elim (cases_Bool (section.table == table)) [
     | inl e ↦ (let its : section.table ≡ table = eqb-true section.table table e in let kept = section_kept section is its (room its) in rw e kept)
     | inr e ↦ rw e is

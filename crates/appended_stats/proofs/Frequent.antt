@@ -1,4 +1,4 @@
--- In the loop over the frequent values, each step adds to a value's list the list of the new rows that have this value.
+-- Each step of the loop over the frequent values adds, to a value's list, the list of the new rows that have this value.
 use Rattle.std.proofs.Common.{◌≡◌, ℕ, List, Some, slice_get, refl, ap, ◌∙◌}
 use Rattle.csv_tables.specs.Values.{Value}
 use Rattle.degree_sequences.specs.ByRank.{rank_sum}

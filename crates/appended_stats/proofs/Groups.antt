@@ -1,5 +1,5 @@
--- The code puts joined keys into groups by their filter values and makes one degree list for all groups. The lemmas here are about both loops: the
--- one that fills the groups, and the one that takes the groups' rank-wise maximum.
+-- The code puts joined keys into groups by their filter values, and makes one degree list for all groups. The first loop fills the groups. The second
+-- loop takes the rank-wise maximum of the groups' lists.
 use Rattle.std.proofs.Common.{◌≡◌, ◌≢◌, ℕ, suc, ◌+◌, ◌<◌, ◌≤◌, ◌^◌, Bool, true, false, cond, eqb, not, ltb, max, List, [], ◌∷◌, ◌++◌, length, map, get_or, set, slice_get, take, sum, None, Option, Some, nat_eq, refl, ap, sym, ◌∙◌, subst, arith, inl, inr}
 use Rattle.std.specs.List.{All, AllByRecursion, IsDistinct, position, position_or_len, zip, AllPairs}
 use Rattle.std.proofs.lemmas.Bool.{cases_Bool, cases_eq, cases_lt, eq-eqb, eqb-true, false≢true, lt-ltb, ne_eqb}
@@ -32,7 +32,7 @@ nowhere cell cells missing k low = elim (cases_lt (position_or_len (nat_eq cell)
 ]
 
 module _ (others column joined : List ℕ) (apart : IsDistinct nat_eq others) (same : length joined ≡ length column) where
-  -- after the first `i` rows, group k has the joined keys of those of them whose cell is element k of `others`
+  -- after the first `i` rows, group k has the joined keys of those rows whose cell is element k of `others`
   abbrev pub AreGrouped : ℕ → List (List ℕ) → Type 0
   AreGrouped i groups = (length groups ≡ length others)
       × ((k : ℕ) → k < length others → get_or groups k [] ≡ keys_with (get_or others k 0) (zip (take i column) (take i joined)))
@@ -97,7 +97,7 @@ one_empty_more before new i keys are empty pushed = (
   subst (All (λ (s : List ℕ). s ≡ [])) (sym pushed) (All-append (λ (s : List ℕ). s ≡ []) before (keys ∷ []) are.1 (All-from_recursion (λ (s : List ℕ). s ≡ []) (keys ∷ []) (empty, tt))),
 )
 
--- a group is taken out of the list, so `none` lies in its place for a while. It gets one more key and is put back
+-- a group is taken out of the list, with `none` in its place. The group gets one more key and is put back
 pub key_added : (groups between new : List (List ℕ)) (place key : ℕ) (none keys pushed : List ℕ) → slice_get groups place ≡ Some keys → between ≡ set groups place none
     → pushed ≡ keys ++ key ∷ [] → new ≡ set between place pushed → new ≡ set groups place (get_or groups place [] ++ key ∷ [])
 key_added groups between new place key none keys pushed at taken is back =
@@ -159,7 +159,7 @@ module _ (groups : List (List ℕ)) (few : All (λ (keys : List ℕ). length key
       made ∙ ap (compressed accuracy) (cut ∙ ap (λ s. cut_at s most) are ∙ ap (cut_at (maxima_to i)) is)
       ∙ ap (λ (s : List (List ℕ)). list_of_groups accuracy s) all
 
--- ---- the groups of the cells in `others`
+-- ---- the groups of the cells in `others` have the keys of these cells' rows
 
 pub groups_are : (accuracy : ℕ) (rows : List (ℕ × ℕ)) (others : List ℕ) (groups : List (List ℕ)) → groups ≡ map (λ cell. keys_with cell rows) others
     → list_of_groups accuracy groups ≡ list_for_any_of accuracy rows others

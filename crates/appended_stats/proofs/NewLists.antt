@@ -1,5 +1,5 @@
--- The degree lists that are made from appended rows keep the rule `IsList` of statistics files, and so do the rank-wise sums of two lists. Some
--- lemmas say what the elements of these lists sum to.
+-- Degree lists made from appended rows keep the rule `IsList` of statistics files. The rank-wise sum of two lists that keep it keeps it too. Some
+-- lemmas compute the sums of these lists.
 use Rattle.std.proofs.Common.{◌≡◌, ℕ, zero, suc, ◌+◌, ◌*◌, ◌/◌, ◌<◌, ◌≤◌, Bool, eqb, min, not, List, [], ◌∷◌, ◌++◌, length, map, get_or, sum, refl, ap, sym, ◌∙◌, subst, arith}
 use Rattle.std.specs.List.{All, AllByRecursion, count_by, filter, flat_map, list_any, range_with_len, zip}
 use Rattle.std.proofs.Math.Path.{fun_ext}
@@ -33,7 +33,7 @@ use Rattle.stats_file_of_query.proofs.Agreeing.{map-flat}
 use Rattle.stats_file_of_query.proofs.Lists.{is_compressed, where_listed}
 use Rattle.appended_stats.specs.Grown.{list_for_any_of, lists_of_nodes, lists_of_size, rank_sums}
 
--- ---- two lists added rank by rank
+-- ---- the rank-wise sum of two lists keeps the rule
 
 positive_sum : (s t : List ℕ) → AllByRecursion (λ x. 0 < x) s → AllByRecursion (λ x. 0 < x) t → AllByRecursion (λ x. 0 < x) (rank_sum s t)
 positive_sum [] t some also = also
@@ -62,7 +62,7 @@ sums_of_sums (list ∷ lists) (other ∷ others) =
 pub sums_many : (lists others : List (List ℕ)) → length lists ≡ 63 → length others ≡ 63 → length (rank_sums lists others) ≡ 63
 sums_many lists others many also = omega (arith, length-map (zip lists others) (λ (both : List ℕ × List ℕ). rank_sum both.0 both.1), length-zip lists others, many, also)
 
--- ---- `list_for_any_of`: one list for several values
+-- ---- `list_for_any_of` keeps the rule
 
 module _ (k : ℕ) (rows : List (ℕ × ℕ)) where
   abbrev column : List ℕ
@@ -97,7 +97,7 @@ module _ (k : ℕ) (rows : List (ℕ × ℕ)) where
       is_compressed k (cut_at s n) (length rows) (IsDescending-cut_at s n (falls values)) (All-from_recursion (λ x. 0 < x) (cut_at s n) (positive-cut_at s n (falls values)))
       (omega (arith, sum-list_for_any_of values, any_few values))
 
-  -- ---- the lists of nodes
+  -- ---- the lists of nodes keep the rule
 
   module _ (leaf : ℕ → ℕ) where
     pub nodes_many : length (lists_of_nodes leaf k rows) ≡ 63

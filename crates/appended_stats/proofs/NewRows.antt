@@ -1,4 +1,4 @@
--- Each list that is made from new rows dominates the keys of those new rows that it is a list of.
+-- Each list that is made from new rows dominates the keys of the new rows that it counts.
 use Rattle.std.proofs.Common.{◌≡◌, ◌↔◌, ℕ, zero, suc, ◌+◌, ◌*◌, ◌/◌, ◌<◌, ◌≤◌, Bool, true, false, cond, eqb, ltb, not, List, [], ◌∷◌, ◌++◌, length, map, get_or, sum, pos, refl, ap, sym, ◌∙◌, subst, arith, inl, inr}
 use Rattle.std.specs.List.{All, AllByRecursion, Contains, IsDistinct, count_by, filter, list_any, range_with_len, zip}
 use Rattle.std.proofs.Math.Path.{fun_ext}
@@ -46,7 +46,7 @@ use Rattle.appended_stats.specs.Appended.{tables_of_rows, values_in}
 use Rattle.appended_stats.specs.Grown.{is_frequent, list_for_any_of, list_with, other_values}
 use Rattle.appended_stats.proofs.NewLists.{falls}
 
--- ---- lists that are added rank by rank dominate both lists of keys together
+-- ---- the rank-wise sum of two lists dominates the keys of both lists together
 
 pub rank_sum_dominates : (s t keys others : List ℕ) → DominatesKeys s keys → DominatesKeys t others → DominatesKeys (rank_sum s t) (keys ++ others)
 rank_sum_dominates s t keys others one two picked apart =
@@ -117,7 +117,7 @@ none_pass test (row ∷ rows) fails =
     let e : test row ≡ false = fails row (zero, omega arith, refl) in
     rw e (none_pass test rows (λ other has. fails other (suc has.0, omega (arith, has.1), has.2)))
 
--- ---- the new rows of a table
+-- ---- the filter values and joined keys of the new rows
 
 module _ (new : List Row) (k filter_column joined : ℕ) where
   abbrev filters : List Value
@@ -166,7 +166,7 @@ module _ (new : List Row) (k filter_column joined : ℕ) where
       (omega (arith, length-map filters (first_row filters), length-map keys (first_row keys), height (tables_of_rows new) 0 filter_column, height (tables_of_rows new) 0 joined))).1
       ∙ numbers_are (tables_of_rows new) 0 joined
 
-  -- the number of a value is the row number of the first row that has this value
+  -- a value is coded by the number of the first row that has it
   number_tells : (value : Value) (row : ℕ) → row < many → eqb (number row) (first_row filters value) ≡ is_equal (its row) value
   number_tells value row low = elim (cases_Bool (is_equal (its row) value)) [
     | inl e ↦ eq-eqb (number row) (first_row filters value) (same_first filters (its row) value e) ∙ sym e

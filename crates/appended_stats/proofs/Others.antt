@@ -1,5 +1,4 @@
--- One loop gathers the different cells that pass a test. The lemmas are about one step of this loop: for a cell that is added, and for a cell that
--- isn't.
+-- One step of the loop that gathers the different cells which pass a test. The step either adds a cell or doesn't.
 use Rattle.std.proofs.Common.{◌≡◌, ℕ, ◌+◌, ◌<◌, ◌≤◌, Bool, true, false, List, [], ◌∷◌, ◌++◌, length, get_or, nat_eq, take, refl, ap, sym, ◌∙◌}
 use Rattle.std.specs.List.{filter}
 use Rattle.std.proofs.lemmas.List.{append-nil, take_all, take_more}

@@ -1,4 +1,4 @@
--- A grown pair, which is a pair after the append, keeps the rules of files, and agrees with the other pairs of its section as before.
+-- The pair after the append (the grown pair) keeps the rules of statistics files, and still agrees with the other pairs of its section.
 use Rattle.std.proofs.Common.{◌≡◌, ◌≢◌, ℕ, zero, suc, ◌+◌, ◌*◌, ◌/◌, ◌<◌, ◌≤◌, Bool, eqb, not, List, [], ◌∷◌, drop, length, map, get_or, sum, refl, ap, sym, ◌∙◌, subst, arith}
 use Rattle.std.specs.Prelude.{slice_index_or}
 use Rattle.std.specs.List.{All, AllByRecursion, AllPairs, count_by, filter, flat_map, list_any, range_with_len, zip}
@@ -91,7 +91,7 @@ module _ (of_row : ℕ → Value) (k : ℕ) (rows : List (ℕ × ℕ)) where
     tree = tree_kept is.filter.kind n pair.cuts pair.nodes (λ m. leaf_of_value pair (of_row m)) some is.tree;
   }
 
--- ---- what two pairs agree on
+-- ---- two pairs that agree still agree after the append
 
 abbrev values_of : List (Datum × List ℕ) → List Datum
 values_of frequent = map (λ (f : Datum × List ℕ). f.0) frequent
@@ -105,7 +105,7 @@ first_same x y xs ys same = ap (λ (s : List _). get_or s 0 x) same
 others_same : {X : Type 0} (x y : X) (xs ys : List X) → (let s : List X = x ∷ xs in s) ≡ y ∷ ys → xs ≡ ys
 others_same x y xs ys same = ap (λ (s : List _). drop 1 s) same
 
--- the number that is added depends on the value alone, so equal sums stay equal
+-- the number that is added depends only on the value, so equal sums stay equal
 totals_from : (more : Datum → ℕ) (a b : List (Datum × List ℕ)) → values_of a ≡ values_of b → totals_of a ≡ totals_of b
     → map (λ (f : Datum × List ℕ). sum f.1 + more f.0) a ≡ map (λ (f : Datum × List ℕ). sum f.1 + more f.0) b
 totals_from more [] [] values totals = refl
@@ -122,7 +122,7 @@ any_by_value value [] = refl
 any_by_value value (f ∷ frequent) = rw (any_by_value value frequent) refl
 
 module _ (of_row : ℕ → Value) (k : ℕ) (rows others : List (ℕ × ℕ)) (same : filter_values rows ≡ filter_values others) (a b : PairStats) (agreed : HaveSameFilterCounts a b) where
-  -- only the filter column is used, so the counts of two pairs with the same filter column are equal
+  -- only the filter column is used, so pairs with the same filter column have equal counts
   abbrev count_of : List ℕ → Datum → ℕ
   count_of column value = count_by (λ n. is_value (of_row n) value) column
 

@@ -30,7 +30,7 @@ use Rattle.appended_stats.specs.Conditions.{MayGrow}
 use Rattle.appended_stats.specs.Grown.{grown_pair, list_for_any_of, lists_of_nodes, other_values, rank_sums, with_new_rows}
 use Rattle.appended_stats.proofs.NewLists.{any_listed, nodes_listed, nodes_many}
 
--- the code puts the rows' leaves beside their keys once. So the list of a node is made without the rows' values
+-- the code puts the rows' leaves beside their keys once, and then makes the list of a node without the rows' values
 by_leaf : (p : ℕ → Bool) (f : ℕ → ℕ) (column joined : List ℕ) → keys_where p (zip (map f column) joined) ≡ keys_where (λ v. p (f v)) (zip column joined)
 by_leaf p f [] joined = refl
 by_leaf p f (v ∷ column) [] = refl

@@ -1,4 +1,4 @@
--- If new rows are added to a pair, the new pair is the same whether the rows are given by their cells or by their values.
+-- A grown pair is the same whether the new rows are given by their cells or by their values.
 use Rattle.std.proofs.Common.{◌≡◌, ℕ, ◌+◌, ◌*◌, ◌/◌, ◌<◌, Bool, true, eqb, not, List, [], ◌∷◌, length, map, get_or, pos, refl, ap, sym, ◌∙◌, subst, arith}
 use Rattle.std.specs.List.{All, AllByRecursion, Contains, filter, flat_map, range_with_len, zip}
 use Rattle.std.proofs.Math.Path.{fun_ext}
@@ -106,7 +106,7 @@ module _ (texts : List (List ℕ)) (differ : HaveDifferentCharacters texts) (kin
       (ap (λ (v : Value). is_equal v (of_cell cell)) (sym its) ∙ first_has filters (of_cell cell) below) in
       its ∙ ap of_cell same
 
-  -- ---- the lists of rows that pass a test of their values
+  -- ---- equal lists of the rows that pass a test of their values
 
   passing_same : (p q : ℕ → Bool) → ((cell : ℕ) → Contains column cell → q (row_of cell) ≡ p cell) → degree_list (keys_where q rows) ≡ degree_list (keys_where p cells)
   passing_same p q alike =
@@ -130,7 +130,7 @@ module _ (texts : List (List ℕ)) (differ : HaveDifferentCharacters texts) (kin
       (fun_ext (λ (size : ℕ). ap (λ (node : ℕ → List ℕ). map node (range_with_len 0 (32 / size)))
       (fun_ext (λ (i : ℕ). where_same (λ value. in_node size (size * i) (leaf value))))))
 
-  -- ---- the values that aren't frequent
+  -- ---- equal lists of the values that aren't frequent
 
   module _ (frequent : List (Datum × List ℕ)) where
     abbrev is_other : Value → Bool
@@ -164,7 +164,7 @@ module _ (texts : List (List ℕ)) (differ : HaveDifferentCharacters texts) (kin
         ∙ list_same (different cells_of_others) (All-different (Contains column) cells_of_others inside)
         ∙ ap (λ (s : List ℕ). list_for_any_of accuracy cells (different (filter (λ cell. is_other (of_cell cell)) s))) (sym first_of_cells)
 
-  -- ---- the pair
+  -- ---- equal grown pairs
 
   grown_same : (pair : PairStats) → grown_pair of_row accuracy rows pair ≡ grown_pair of_cell accuracy cells pair
   grown_same pair =

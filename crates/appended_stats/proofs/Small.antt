@@ -1,4 +1,4 @@
--- Lists whose elements are below 2^128: saturation doesn't change them.
+-- If the elements of a list are below 2^128, saturation doesn't change them.
 use Rattle.std.proofs.Common.{◌≡◌, ℕ, suc, ◌+◌, ◌-◌, ◌<◌, ◌≤◌, ◌^◌, max, List, [], ◌∷◌, ◌++◌, map, length, take, sum, refl, ap, sym, ◌∙◌, arith}
 use Rattle.std.specs.List.{All, AllByRecursion}
 use Rattle.std.proofs.lemmas.List.Sums.{sum_by-cons}

@@ -1,5 +1,5 @@
--- If statistics stand for some rows, then after the append they stand for these rows with the new rows after them. Statistics stand for rows if each
--- list dominates the keys of the rows that it is a list of.
+-- If statistics stand for some rows, the statistics after the append stand for these rows followed by the new rows. Statistics stand for rows if each
+-- list dominates the keys of the rows that it counts.
 use Rattle.std.proofs.Common.{◌≡◌, ◌↔◌, ℕ, zero, suc, ◌+◌, ◌-◌, ◌*◌, ◌/◌, ◌<◌, ◌≤◌, ◌==◌, Bool, true, false, cond, eqb, List, [], ◌∷◌, ◌++◌, length, length-append, map, get_or, sum, None, Option, Some, find, option_map, pos, refl, ap, sym, ◌∙◌, subst, arith, inl, inr}
 use Rattle.std.specs.Option.{option_map_or}
 use Rattle.std.specs.List.{All, AllByRecursion, Contains, filter, flat_map, list_any, range_with_len, zip}
@@ -47,7 +47,7 @@ use Rattle.appended_stats.specs.Grown.{grown_pair, is_frequent, list_for_any_of,
 use Rattle.appended_stats.proofs.NewLists.{nodes_many}
 use Rattle.appended_stats.proofs.NewRows.{leaf_alike, rank_sum_dominates, rest_dominates, value_alike, where_dominates, whole_dominates}
 
--- ---- row numbers: those of the old rows, and then those of the new rows
+-- ---- the numbers of the old rows, followed by those of the new rows
 
 range_two : (first n m : ℕ) → range_with_len first (n + m) ≡ range_with_len first n ++ range_with_len (first + n) m
 range_two first zero m =
@@ -103,7 +103,7 @@ module _ (n m : ℕ) where
       ap (map key) all_rows ∙ map-append key old_rows (map (λ i. n + i) new_rows)
       ∙ ap (λ (s : List ℕ). map key old_rows ++ s) (map_both key (λ i. n + i) (λ row. key (n + row)) (λ row. refl) new_rows)
 
--- ---- what is looked up in a grown pair
+-- ---- the list of a value in a grown pair
 
 module _ (test : Datum → Bool) (grow : Datum → List ℕ) where
   abbrev passes : Datum × List ℕ → Bool
@@ -148,7 +148,7 @@ node_at leaf_of k rows size leaf is low =
     ∙ get_or-map-range_with_len (λ i. list_where k (λ n. in_node size (size * i) (leaf_of n)) rows) 0 (32 / size) (leaf / size) (leaf / size) [] within (omega arith)
     ∙ ap (λ m. list_where k (λ n. eqb (leaf_of n / size) m) rows) (mul-div_cancel_left (leaf / size) some)
 
--- ---- a pair
+-- ---- a grown pair stands for the old and the new rows
 
 module _ (tables after : Tables) (entry : ℕ) (new : List Row) (are : after entry ≡ tables entry ++ new) where
   abbrev n : ℕ

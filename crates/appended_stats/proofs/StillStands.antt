@@ -1,4 +1,4 @@
--- If a section or a file stands for some rows, then after the append it stands for these rows with the new rows after them.
+-- If a section or a file stands for some rows, it stands after the append for these rows followed by the new rows.
 use Rattle.std.proofs.Common.{◌≡◌, ℕ, zero, suc, ◌+◌, ◌<◌, ◌≤◌, ◌==◌, Bool, true, false, cond, eqb, List, [], ◌∷◌, ◌++◌, length, map, get_or, None, Option, Some, find, option_map, slice_get, inl, inr, refl, ap, sym, ◌∙◌, subst, arith}
 use Rattle.std.specs.List.{All}
 use Rattle.std.proofs.lemmas.Bool.{cases_Bool, eq-eqb, eqb-true, ne_eqb}
@@ -27,7 +27,7 @@ use Rattle.appended_stats.specs.Grown.{grown_pair}
 use Rattle.appended_stats.proofs.PairKept.{nodes_all}
 use Rattle.appended_stats.proofs.Stands.{count_is, grown_stands, tells_before}
 
--- it doesn't matter to which entry the rows of a pair belong. `tables_of_rows` makes tables in which every entry has these rows
+-- whether a pair stands for rows doesn't depend on the entry that has them. In `tables_of_rows` every entry has these rows
 pair_moved : (pair : PairStats) (tables : Tables) (entry : ℕ) (key : ℕ → ℕ) → PairStandsFor pair (tables_of_rows (tables entry)) 0 key → PairStandsFor pair tables entry key
 pair_moved pair tables entry key stands = record { rows = stands.rows; whole = stands.whole; value = stands.value; node = stands.node }
 
@@ -50,7 +50,7 @@ none_there : {X : Type 0} (xs : List X) → length xs ≡ 0 → xs ≡ []
 none_there [] none = refl
 none_there (x ∷ xs) none = absurd (omega (arith, none))
 
--- ---- a section
+-- ---- a section after the append
 
 module _ (tables after : Tables) (entry : ℕ) (new : List Row) (are : after entry ≡ tables entry ++ new) (k : ℕ) (table : Table) where
   pair_still : (before : ℕ) (pair : PairStats) → before ≡ row_counts tables entry → IsPair table before pair
@@ -78,7 +78,7 @@ module _ (tables after : Tables) (entry : ℕ) (new : List Row) (are : after ent
         (subst (λ t. IsPair t section.rows (get_or section.pairs i d)) same (is.pairs i d low)) (stands.pairs i d low));
   }
 
--- ---- a file
+-- ---- a file after the append
 
 module _ (file : StatsFile) (table : ℕ) (new : List Row) where
   abbrev section_or_appended : TableStats → TableStats

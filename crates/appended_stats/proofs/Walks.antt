@@ -1,4 +1,4 @@
--- The lemmas are about two kinds of loops: loops along the rows of two columns, and loops that change the items of a list in place.
+-- Loops along the rows of two columns, and loops that change the items of a list in place.
 use Rattle.std.proofs.Common.{◌≡◌, ℕ, zero, suc, ◌+◌, ◌<◌, ◌≤◌, Bool, true, false, cond, List, [], ◌∷◌, ◌++◌, drop, length, length-take, map, get_or, set, take, Some, slice_get, refl, ap, sym, ◌∙◌, subst, arith, inl, inr}
 use Rattle.std.specs.List.{All, filter, zip}
 use Rattle.std.proofs.lemmas.Bool.{cases_Bool}
@@ -13,7 +13,7 @@ use Rattle.cond_stats.proofs.Members.{length-keys_where}
 use Rattle.degree_sequences.specs.ByRank.{rank_sum}
 use Rattle.appended_stats.specs.Grown.{rank_sums}
 
--- ---- rows of two columns, one more at a time
+-- ---- two columns with one more row
 
 pub zip_push : {X Y : Type 0} (xs : List X) (ys : List Y) (x : X) (y : Y) → length xs ≡ length ys → zip (xs ++ x ∷ []) (ys ++ y ∷ []) ≡ zip xs ys ++ (x, y) ∷ []
 zip_push [] [] x y same = refl
@@ -72,7 +72,7 @@ keys_few p column joined keys n few are =
       few,
     )
 
--- ---- two lists of lists, added place by place
+-- ---- two lists of lists, whose items are added index by index
 
 pub one_sum_more : (lists others before new : List (List ℕ)) (i : ℕ) (list other added : List ℕ) → i < length lists → length others ≡ length lists
     → before ≡ rank_sums (take i lists) (take i others) → list ≡ get_or lists i list → other ≡ get_or others i other → added ≡ rank_sum list other → new ≡ before ++ added ∷ []
@@ -87,14 +87,14 @@ one_sum_more lists others before new i list other added low same are its also is
     pushed ∙ ap (λ (s : List (List ℕ)). s ++ added ∷ []) are ∙ ap (λ (s : List ℕ). rank_sums (take i lists) (take i others) ++ s ∷ []) is
     ∙ sym (map_push h (zip (take i lists) (take i others)) (list, other)) ∙ ap (map h) (sym both)
 
--- ---- lists that are changed in place
+-- ---- lists whose items are changed in place
 
 pub at_place : {X : Type 0} (f : X → X) (xs : List X) (i : ℕ) (x d : X) → i < length xs → slice_get (map f (take i xs) ++ drop i xs) i ≡ Some x → x ≡ get_or xs i d
 at_place f [] i x d low at = absurd (omega (arith, low))
 at_place f (y ∷ xs) zero x d low at = sym (get_or_from_slice_get (y ∷ xs) 0 x d at)
 at_place f (y ∷ xs) (suc i) x d low at = at_place f xs i x d (omega (arith, low)) at
 
--- the item is taken out of the list, so `none` lies in its place for a while. Then what `f` makes of the item is put back
+-- the item is taken out of the list, with `none` in its place. Then the result of `f` for the item is put back
 pub one_changed : {X : Type 0} (f : X → X) (xs ys between new : List X) (i : ℕ) (x none made : X) → i < length xs → ys ≡ map f (take i xs) ++ drop i xs
     → slice_get ys i ≡ Some x → between ≡ set ys i none → made ≡ f x → new ≡ set between i made → new ≡ map f (take (i + 1) xs) ++ drop (i + 1) xs
 one_changed f xs ys between new i x none made low are at taken is back =

@@ -1,4 +1,4 @@
--- A file of statistics after rows were appended to one of its tables.
+-- A statistics file after rows were appended to one of its tables.
 use Rattle.std.specs.Prelude.{ℕ, ◌+◌, ◌==◌, if◌then◌else◌, List, length, map}
 use Rattle.csv_tables.specs.Rows.{Row}
 use Rattle.csv_tables.specs.Values.{Value}
@@ -10,7 +10,7 @@ use Rattle.table_stats.specs.Columns.{column_values, paired, value_of_row}
 use Rattle.stats_file_of_query.specs.Pairs.{pair_in_table}
 use Rattle.appended_stats.specs.Grown.{grown_pair}
 
--- the tables in which each entry has these rows
+-- tables in which every entry has these rows
 abbrev pub tables_of_rows : List Row → Tables
 tables_of_rows rows entry = rows
 
@@ -24,7 +24,7 @@ pair_after accuracy before rows pair =
     if before == 0 then pair_in_table (tables_of_rows rows) accuracy 0 pair.filter pair.joined
     else grown_pair (value_of_row (values_in rows pair.filter)) accuracy (paired (values_in rows pair.filter) (values_in rows pair.joined)) pair
 
--- the file's section for the table that gets the rows, as it is after the append
+-- the section of the table that gets the rows, after the append
 abbrev pub section_after : ℕ → List Row → TableStats → TableStats
 section_after accuracy rows section = record {
   table = section.table;
@@ -32,7 +32,7 @@ section_after accuracy rows section = record {
   pairs = map (pair_after accuracy section.rows rows) section.pairs;
 }
 
--- the file after the append: the section of this table has the new rows too, and all other sections stay as they were
+-- the file after the append. The section of this table has grown, and all other sections are unchanged
 abbrev pub file_after : StatsFile → ℕ → List Row → StatsFile
 file_after file table rows = record {
   accuracy = file.accuracy;

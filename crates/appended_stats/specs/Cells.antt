@@ -1,4 +1,4 @@
--- The definitions of Appended for cells in place of values. The code makes these pairs and sections.
+-- The definitions of Appended.antt for cells in place of values. The code makes the pairs and sections defined here.
 use Rattle.std.specs.Prelude.{ℕ, ◌+◌, ◌==◌, if◌then◌else◌, List, map}
 use Rattle.csv_tables.specs.Cells.{value_of_cell}
 use Rattle.csv_tables.specs.declared.types.Cells.{Cells}
@@ -23,6 +23,6 @@ section_by_cells texts cells accuracy section = record {
   pairs = map (pair_by_cells texts cells accuracy section.rows) section.pairs;
 }
 
--- the section after the append: grown if it is a section of the table, otherwise as it was
+-- the section after the append: grown if it is this table's section, otherwise unchanged
 abbrev pub section_after_by_cells : List (List ℕ) → Cells → ℕ → ℕ → TableStats → TableStats
 section_after_by_cells texts cells accuracy table section = if section.table == table then section_by_cells texts cells accuracy section else section

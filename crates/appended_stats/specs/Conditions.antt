@@ -17,21 +17,21 @@ use Rattle.stats_file.specs.Rules.{KeepsRules}
 use Rattle.stats_file_of_query.specs.Needs.{table_of}
 use Rattle.stats_file_of_query.specs.Files.{table_at}
 
--- if the section is one of this table, its rows and the `more` new rows are together at most as many as a table may have
-abbrev pub HasRoom : ℕ → ℕ → TableStats → Type 0
-HasRoom table more section = section.table ≡ table → section.rows + more ≤ most_rows
+-- if the section is this table's section, its rows and the `more` new rows don't exceed the rows that a table may have
+abbrev pub FitsRowLimit : ℕ → ℕ → TableStats → Type 0
+FitsRowLimit table more section = section.table ≡ table → section.rows + more ≤ most_rows
 
--- when the new rows may be appended: the file keeps the rules, and the cells are cells of this table. The texts are UTF-8, no two texts have the same
--- characters, and no section gets too many rows
+-- rows may be appended: the file keeps the rules, and the cells are cells of this table. The texts are UTF-8, no two texts have the same characters,
+-- and no section gets too many rows
 pub record MayAppend (schema : Schema) (file : StatsFile) (table : ℕ) (texts : List (List ℕ)) (cells : Cells) : Type 0 where
   pub rules : KeepsRules schema file
   pub cells_are : AreCellsOf (table_at schema table) texts cells
   pub utf8 : All IsUtf8 texts
   pub differ : HaveDifferentCharacters texts
-  pub room : All (HasRoom table cells.rows) file.tables
+  pub room : All (FitsRowLimit table cells.rows) file.tables
 
--- when a pair may grow: the cells have its two columns and fewer than 2^32 rows. The pair has at most 32 cuts, and the sum of each of its lists is
--- below 2^32. If its table had rows, the pair has 63 nodes
+-- a pair may grow: the cells have its two columns and fewer than 2^32 rows. The pair has at most 32 cuts, and the sum of each of its lists is below
+-- 2^32. If its table had rows, the pair has 63 nodes
 pub record MayGrow (cells : Cells) (before : ℕ) (pair : PairStats) : Type 0 where
   pub filter : pair.filter < length cells.kinds
   pub joined : pair.joined < length cells.kinds
@@ -43,7 +43,7 @@ pub record MayGrow (cells : Cells) (before : ℕ) (pair : PairStats) : Type 0 wh
   pub nodes : All (λ (list : List ℕ). sum list < 2 ^ 32) pair.nodes
   pub nodes_many : 0 < before → length pair.nodes ≡ 63
 
--- when a section may grow: with the new rows it has fewer than 2^32 rows, and each of its pairs may grow
+-- a section may grow: with the new rows it has fewer than 2^32 rows, and each of its pairs may grow
 pub record SectionMayGrow (cells : Cells) (section : TableStats) : Type 0 where
   pub room : section.rows + cells.rows < 2 ^ 32
   pub pairs : All (MayGrow cells section.rows) section.pairs
@@ -51,8 +51,8 @@ pub record SectionMayGrow (cells : Cells) (section : TableStats) : Type 0 where
 abbrev pub MayGrowWhere : ℕ → Cells → TableStats → Type 0
 MayGrowWhere table cells section = section.table ≡ table → SectionMayGrow cells section
 
--- `after` has a query's tables after `table` got new rows: each entry of this table has the new rows after its old rows, and every other entry has
--- the rows that it had
+-- `after` has the query's tables after `table` got new rows. Each entry of this table has the new rows after its old rows, and every other entry has
+-- its old rows
 abbrev pub HasNewRows : Query → ℕ → List Row → Tables → Tables → Type 0
 HasNewRows query table rows tables after =
     (entry : ℕ) → entry < length query.from → after entry ≡ (if table_of query entry == table then tables entry ++ rows else tables entry)

@@ -1,4 +1,4 @@
--- Pairs of worked examples, and what they are after an append.
+-- Pairs of examples, before and after an append.
 use Rattle.std.specs.Prelude.{ℕ, List, [], ◌∷◌}
 use Rattle.csv_tables.specs.Rows.{Row}
 use Rattle.stats_file.specs.declared.types.PairStats.{PairStats}
@@ -6,7 +6,7 @@ use Rattle.stats_file_of_query.specs.Examples.{rows_of}
 use Rattle.stats_file_of_query.specs.Pairs.{pair_in_table}
 use Rattle.appended_stats.specs.Appended.{pair_after}
 
--- new rows of one column
+-- new rows with one column, of these numbers
 abbrev pub new_rows : List ℕ → List Row
 new_rows column = rows_of column 0
 

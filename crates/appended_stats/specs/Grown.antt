@@ -1,5 +1,5 @@
--- A pair after new rows of its table. A pair has the statistics of one filter column and one joined column. Here a row is a filter value and a
--- joined key. Both are numbers, and `value_of` gives the filter value that a number means.
+-- A pair after new rows of its table. A pair has the statistics of one filter column and one joined column. In this file a row is a filter value and
+-- a joined key. Filter values are coded by numbers, and `value_of` decodes them.
 use Rattle.std.specs.Prelude.{ℕ, ◌*◌, ◌/◌, not, Bool, List, map}
 use Rattle.std.specs.List.{filter, flat_map, list_any, range_with_len, zip}
 use Rattle.csv_tables.specs.Values.{Value}
@@ -21,7 +21,7 @@ use Rattle.stats_file_of_query.specs.Standing.{is_value, leaf_of_value}
 abbrev pub list_with : (ℕ → Value) → ℕ → List (ℕ × ℕ) → Datum → List ℕ
 list_with value_of accuracy rows value = list_where accuracy (λ n. is_value (value_of n) value) rows
 
--- whether a value is one of the frequent values of a pair
+-- whether a value is among a pair's frequent values
 abbrev pub is_frequent : List (Datum × List ℕ) → Value → Bool
 is_frequent frequent value = list_any (λ (found : Datum × List ℕ). is_value value found.0) frequent
 
@@ -29,13 +29,13 @@ is_frequent frequent value = list_any (λ (found : Datum × List ℕ). is_value 
 abbrev pub other_values : (ℕ → Value) → List (ℕ × ℕ) → List (Datum × List ℕ) → List ℕ
 other_values value_of rows frequent = different (filter (λ n. not (is_frequent frequent (value_of n))) (filter_values rows))
 
--- one list for all of these values: the rank-wise maximum of their degree lists, cut at the number of rows of the most frequent of them, and
+-- one list for any of these values: the rank-wise maximum of their degree lists, cut at the number of rows of the most frequent value, and
 -- compressed. If `values` are all values of a column that aren't frequent, this list is the rest list of cond_stats
 abbrev pub list_for_any_of : ℕ → List (ℕ × ℕ) → List ℕ → List ℕ
 list_for_any_of accuracy rows values =
     compressed accuracy (cut_at (maxima (map (λ value. degree_list (keys_with value rows)) values)) (greatest (map (degree (filter_values rows)) values)))
 
--- for each node of a size, the list of the new rows whose leaf lies in it; then these lists for all sizes, in the order of a pair's nodes
+-- for each node with `size` leaves, the list of the new rows whose leaf lies in it. Then these lists for all sizes, in the order of a pair's nodes
 abbrev pub lists_of_size : (ℕ → ℕ) → ℕ → List (ℕ × ℕ) → ℕ → List (List ℕ)
 lists_of_size leaf_of accuracy rows size =
     map (λ i. list_where accuracy (λ n. in_node size (size * i) (leaf_of n)) rows) (range_with_len 0 (32 / size))
@@ -51,7 +51,7 @@ with_new_rows value_of accuracy rows found = (found.0, rank_sum found.1 (list_wi
 abbrev pub rank_sums : List (List ℕ) → List (List ℕ) → List (List ℕ)
 rank_sums lists others = map (λ (both : List ℕ × List ℕ). rank_sum both.0 both.1) (zip lists others)
 
--- a pair after new rows: the cuts and the frequent values stay. New values that aren't frequent count in the rest list, and the old cuts say in which
+-- a pair after new rows. The cuts and the frequent values stay. New values that aren't frequent count in the rest list, and the old cuts say in which
 -- leaf a value lies
 abbrev pub grown_pair : (ℕ → Value) → ℕ → List (ℕ × ℕ) → PairStats → PairStats
 grown_pair value_of accuracy rows pair = record {

@@ -1,4 +1,4 @@
-//! Compares values of a file of statistics with the cells of new rows.
+//! Compares values of a statistics file with the cells of new rows.
 ghost use Rattle.std.specs.Prelude.{◌≡◌, ◌<◌, ◌≤◌, All, length};
 ghost use Rattle.csv_tables.specs.Cells.{IsCell, value_of_cell};
 ghost use Rattle.csv_tables.specs.Values.{value_cmp};
@@ -13,7 +13,7 @@ use schema_types::Kind;
 use stats_file::{Datum, PairStats};
 use std::cmp::Ordering;
 
-// How a value compares with the value of a cell: numbers by size, texts by code points, and a number is less than every text.
+// Compares a value with the value of a cell. Numbers are ordered by size, texts by code points, and a number is less than every text.
 fn compare(value: &Datum, pool: &Pool, kind: Kind, cell: u64) -> Ordering
     requires { IsCell pool.now kind cell }
     ensures { result ≡ value_cmp (value_of value.now) (value_of_cell pool.now kind cell) }
@@ -55,7 +55,7 @@ pub(crate) fn is_frequent(frequent: &[(Datum, Pieces)], pool: &Pool, kind: Kind,
         .any(|found| is_value(&found.0, pool, kind, cell))
 }
 
-/// The leaf of the value of a cell, by the cuts of a pair.
+/// The leaf in which a cell's value lies, by the cuts of a pair.
 pub(crate) fn leaf_of_cell(pair: &PairStats, pool: &Pool, kind: Kind, cell: u64) -> u8
     requires cell { IsCell pool.now kind cell }
     requires cuts { length pair.now.cuts ≤ 32 }

@@ -1,4 +1,4 @@
-//! A file after rows were appended to one of its tables.
+//! Makes the statistics file after rows were appended to one of its tables.
 ghost use Rattle.std.specs.Prelude.{◌≡◌, ◌+◌, ◌^◌, All, IfOk, length, map};
 ghost use Rattle.csv_tables.specs.Cells.{rows_of_cells};
 ghost use Rattle.sql_meaning.specs.Databases.{AreCells};
@@ -29,7 +29,7 @@ fn no_pair(alloc: Global) -> PairStats {
     }
 }
 
-// The pairs of a section after the append. Its table had `before` rows.
+// The pairs of a section after the append. The section's table had `before` rows.
 fn pairs_after(
     alloc: Global,
     pairs: Seq<PairStats>,
@@ -72,7 +72,7 @@ fn section_after(
     })
 }
 
-// All sections after the append: the section of the table has grown, and the others are as they were.
+// All sections after the append: the table's section has grown, and the others are unchanged.
 fn sections_after(
     alloc: Global,
     sections: Seq<TableStats>,
@@ -101,9 +101,9 @@ fn sections_after(
     Ok(after)
 }
 
-/// The file of statistics after rows were appended to a table of its schema. In that table's section the number of rows grows. Each of the section's
-/// lists is added, rank by rank, to the compressed list of the new rows that belong to this list. Cuts and frequent values stay. A table that had no
-/// rows gets the statistics of the new rows. All other sections stay. If memory runs out, the old file is lost too.
+/// The statistics file after rows were appended to a table of its schema. In that table's section the number of rows grows. To each list of the
+/// section the compressed list of the new rows that belong to it is added, rank by rank. Cuts and frequent values stay. A table that had no rows gets
+/// the statistics of the new rows. All other sections stay. If memory runs out, the old file is lost too.
 pub fn append_rows(
     alloc: Global,
     _schema: &Schema,
@@ -114,7 +114,7 @@ pub fn append_rows(
 ) -> Result<StatsFile, NoMemory>
     requires { MayAppend _schema.now file table pool.now cells.now }
     ensures file { IfOk result (λ after. after ≡ file_after file table (rows_of_cells pool.now cells.now)) }
-    // the new file keeps the rules, so it may be written
+    // the new file keeps the rules, so `write_stats` may write it
     ensures rules { IfOk result (KeepsRules _schema.now) }
 {
     let StatsFile { accuracy, tables } = file;

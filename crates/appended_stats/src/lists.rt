@@ -1,4 +1,4 @@
-//! Adds new rows to the lists of the frequent values.
+//! Adds the lists of the new rows to the lists of the frequent values.
 ghost use Rattle.std.specs.Prelude.{◌≡◌, ◌<◌, ◌+◌, ◌^◌, All, IfOk, length, map};
 ghost use Rattle.std.specs.List.{sum, zip};
 ghost use Rattle.csv_tables.specs.Cells.{IsCell, value_of_cell};
@@ -91,7 +91,7 @@ pub(crate) fn grown_frequent(
     for i in 0..grown.len() {
         let more = list_with(alloc, pool, kind, cells, joined, &grown.get(i).0, accuracy)?;
         let list = sum_by_rank(&grown.get(i).1, &more)?;
-        // A placeholder lies here until the value goes back with its new list.
+        // A placeholder is here until the value is put back with its new list.
         let (value, _) = grown.replace(i, (Datum::Int(0), Pieces::empty(alloc)));
         let _ = grown.replace(i, (value, list));
     }

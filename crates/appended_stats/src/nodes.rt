@@ -1,4 +1,4 @@
-//! Makes the lists of the nodes for the new rows, by the old cuts, and adds them to the old lists.
+//! Makes the lists of the nodes for the new rows, with the old cuts. Then adds them to the old lists.
 ghost use Rattle.std.specs.Prelude.{◌≡◌, ◌++◌, ◌<◌, ◌≤◌, ◌^◌, All, IfOk, OnOk, ℕ, length, map};
 ghost use Rattle.std.specs.List.{sum, zip};
 ghost use Rattle.csv_tables.specs.Cells.{IsCell, value_of_cell};
@@ -19,7 +19,7 @@ use schema_types::Kind;
 use stats_file::PairStats;
 use std::alloc::Global;
 
-/// The leaf of the value of each cell, by the cuts of a pair.
+/// The leaf in which each cell's value lies, by the cuts of a pair.
 pub(crate) fn leaves(
     alloc: Global,
     pair: &PairStats,
@@ -100,7 +100,7 @@ pub(crate) fn lists_of_nodes(
     Ok(nodes)
 }
 
-/// Adds, rank by rank, each of `lists` and the list at the same place in `others`.
+/// Adds each of `lists`, rank by rank, to the list at the same index in `others`.
 pub(crate) fn sums_by_rank(
     alloc: Global,
     lists: &[Pieces],

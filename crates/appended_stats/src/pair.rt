@@ -1,4 +1,4 @@
-//! A pair after new rows of its table. A pair has the statistics of one filter column and one joined column.
+//! Makes the pair after new rows of its table. A pair has the statistics of one filter column and one joined column.
 ghost use Rattle.std.specs.Prelude.{◌≡◌, ◌^◌, IfOk, length};
 ghost use Rattle.limits.specs.Profile.{most_rows};
 ghost use Rattle.sql_meaning.specs.Databases.{AreCells};

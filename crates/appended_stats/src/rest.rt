@@ -1,4 +1,4 @@
-//! Makes the list that new rows add to the rest list, which is the list for the values that aren't frequent.
+//! Makes the list of the new rows whose values aren't frequent. It is added to the rest list.
 ghost use Rattle.std.specs.Prelude.{◌≡◌, ◌++◌, ◌∷◌, [], ◌<◌, ◌^◌, All, IfOk, OnOk, not, length, map, nat_eq, slice_index_or, slice_set};
 ghost use Rattle.std.specs.List.{IsDistinct, filter, sum, zip};
 ghost use Rattle.csv_tables.specs.Cells.{IsCell, value_of_cell};
@@ -20,7 +20,7 @@ use schema_types::Kind;
 use stats_file::Datum;
 use std::alloc::Global;
 
-// The different cells whose values aren't frequent, in the order of the first rows that have them.
+// The different cells whose values aren't frequent, in the order of the rows that have them first.
 fn other_cells(
     alloc: Global,
     pool: &Pool,

@@ -1,5 +1,5 @@
--- Several texts go through a buffer to a sink, one after another. After that the sink has taken all of the texts except the last bytes, which wait
--- in the buffer.
+-- Texts that go through a buffer to a sink, one after another. If no write fails, the sink takes all but the last bytes, which wait in the buffer. If
+-- a write fails, the sink has taken a prefix.
 use Rattle.std.proofs.Common.{◌≡◌, ℕ, ◌+◌, ◌<◌, List, [], ◌∷◌, ◌++◌, take, length, get_or, Option, ap, sym, ◌∙◌, append_assoc, append-nil}
 use Rattle.std.specs.List.{flat_map}
 use Rattle.std.proofs.lemmas.Grind.{flat_map-append}

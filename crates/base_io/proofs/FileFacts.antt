@@ -26,7 +26,7 @@ front_more Unknown items into n le front gives = tt
 front_more Absent items into n le front gives = absurd gives
 front_more (Present all) items into n le front gives = front_of all items into n le front gives.same
 
--- `now` and `before` are the files of one store at two moments, and they are equal
+-- `front_more` for a store with the same files before (`before`) and after (`now`)
 pub front_more_since : (before now : Option Files) (name items into : List ℕ) (place n : ℕ) → now ≡ before → place ≡ length items
     → ReadsAt (answer_about now name) place (Ok n) into → IsFront (answer_about before name) items → IsFront (answer_about before name) (items ++ take n into)
 front_more_since before now name items into place n same at reads front =

@@ -1,5 +1,5 @@
 -- Several writes, one after another, append to a sink. The lemmas say what they append together: a whole text, or a prefix of it if a write failed.
-use Rattle.std.proofs.Common.{◌≡◌, ℕ, ◌+◌, List, [], ◌++◌, take, drop, length, get_or, subst, ◌∷◌, ◌-◌, ◌<◌, Option, None, Some, refl, ap, sym, ◌∙◌, append_assoc, append-nil, arith}
+use Rattle.std.proofs.Common.{◌≡◌, ℕ, ◌+◌, List, [], ◌++◌, take, drop, length, get_or, ◌∷◌, ◌-◌, ◌<◌, Option, None, Some, refl, ap, sym, ◌∙◌, append_assoc, append-nil, arith}
 use Rattle.std.specs.List.{flat_map}
 use Rattle.std.proofs.lemmas.List.{take-append-drop, take_more}
 use Rattle.std.proofs.Math.Seq.{take-add}
@@ -61,10 +61,3 @@ parts_split f parts i d lt =
     ∙ ap (λ x. flat_map f x ++ flat_map f (drop (i + 1) parts)) more
     ∙ ap (λ x. x ++ flat_map f (drop (i + 1) parts)) (flat_map-append f (take i parts) (get_or parts i d ∷ [])
     ∙ ap (λ x. flat_map f (take i parts) ++ x) (append-nil (f (get_or parts i d)))))
-
-pub prefix_at_part : {X : Type 0} (f : X → List ℕ) (old mid new : Option (List ℕ)) (parts : List X) (i : ℕ) (d : X) → i < length parts
-    → mid ≡ appended old (flat_map f (take i parts)) → GrewByPrefix mid new (f (get_or parts i d)) → GrewByPrefix old new (flat_map f parts)
-prefix_at_part f old mid new parts i d lt e h =
-    let first = prefix_after_first old mid new (flat_map f (take i parts)) (f (get_or parts i d)) e h in
-    let whole = prefix_of_first old new (flat_map f (take i parts) ++ f (get_or parts i d)) (flat_map f (drop (i + 1) parts)) first in
-    subst (GrewByPrefix old new) (parts_split f parts i d lt) whole

@@ -1,4 +1,4 @@
--- If steps that write come one after another, the promises `Wrote` or `WroteBuffered` of the steps give this promise for all of them together.
+-- Steps that write, one after another. If each step guarantees `Wrote`, so do all steps together. The same is proved of `WroteBuffered`.
 use Rattle.std.proofs.Common.{◌≡◌, ℕ, ◌+◌, ◌<◌, ◌≤◌, List, [], ◌++◌, take, drop, length, get_or, Option, Result, Ok, Err, ap, sym, ◌∙◌, append_assoc, append-nil, subst, arith}
 use Rattle.std.specs.Prelude.{OnOk, OnErr}
 use Rattle.std.specs.List.{flat_map}
@@ -9,7 +9,7 @@ use Rattle.base_io.specs.Writes.{WroteBuffered, Wrote}
 use Rattle.base_io.specs.declared.errors.Failed.{Failed}
 use Rattle.base_io.proofs.BufferFacts.{cut_next, cut_off, parts_more, took_next, went_on}
 use Rattle.base_io.proofs.CountFacts.{later_then_rose}
-use Rattle.base_io.proofs.SinkFacts.{appended-nil, parts_split, prefix_after_first, prefix_at_part, prefix_of_first, prefix_of_none, whole_after_first}
+use Rattle.base_io.proofs.SinkFacts.{appended-nil, parts_split, prefix_after_first, prefix_of_first, prefix_of_none, whole_after_first}
 
 abbrev Written : Type 0
 Written = Result (Unit {0}) Failed
@@ -28,7 +28,7 @@ where_err (Err e) P Q f h = f h
 rose_earlier : (f0 f1 f2 : ℕ) (r : Written) → f0 ≤ f1 → OnErr r (Rose f1 f2) → OnErr r (Rose f0 f2)
 rose_earlier f0 f1 f2 r le = where_err r (Rose f1 f2) (Rose f0 f2) (later_then_rose f0 f1 f2 le)
 
--- ---- straight to the sink
+-- ---- `Wrote` for steps that write directly to the sink
 
 pub wrote_failed : {g : Growth} {a : List ℕ} {x y : Failed} {r : Written} → r ≡ Err y → Wrote g a (Err x) → Wrote g a r
 wrote_failed {g} {a} {x} {y} {r} e h = subst (λ (v : Written). Wrote g a v) (sym e) (record { ok = tt; prefix = h.prefix; later = h.later; failed = h.failed })
@@ -45,16 +45,7 @@ wrote_then {t0} {t1} {t2} {f0} {f1} {f2} {a} {b} {u} {r} h k = record {
   failed = rose_earlier f0 f1 f2 r h.later k.failed;
 }
 
-pub wrote_part_cut : {X : Type 0} {t0 t1 t2 : Option (List ℕ)} {f0 f1 f2 : ℕ} {e : Failed} (f : X → List ℕ) (items : List X) (i : ℕ) (d : X) → i < length items
-    → t1 ≡ appended t0 (flat_map f (take i items)) → f0 ≤ f1 → Wrote (between t1 t2 f1 f2) (f (get_or items i d)) (Err e) → Wrote (between t0 t2 f0 f2) (flat_map f items) (Err e)
-wrote_part_cut {X} {t0} {t1} {t2} {f0} {f1} {f2} {e} f items i d lt took le h = record {
-  ok = tt;
-  prefix = prefix_at_part f t0 t1 t2 items i d lt took h.prefix;
-  later = omega (arith, le, h.later);
-  failed = later_then_rose f0 f1 f2 le h.failed;
-}
-
--- ---- through a buffer
+-- ---- `WroteBuffered` for steps that write through a buffer
 
 pub put_none : (t : Option (List ℕ)) (f : ℕ) (w : List ℕ) → WroteBuffered (between t t f f) w w [] (Ok tt)
 put_none t f w = record {
@@ -94,7 +85,7 @@ pub put_failed_next : {t0 t1 t2 : Option (List ℕ)} {f0 f1 f2 : ℕ} {w0 w1 w2 
 put_failed_next {t0} {t1} {t2} {f0} {f1} {f2} {w0} {w1} {w2} {done} {next} {u} {x} left all whole h k =
     put_as all (append_assoc done next left ∙ whole) (put_failed {a = done ++ next} left (put_then h k))
 
--- ---- items that are written one after another
+-- ---- `WroteBuffered` for a list of items, with one step for each item
 
 parts_whole : {X : Type 0} (f : X → List ℕ) (parts : List X) (i : ℕ) (d : X) → i < length parts
     → flat_map f (take i parts) ++ (f (get_or parts i d) ++ flat_map f (drop (i + 1) parts)) ≡ flat_map f parts
@@ -111,7 +102,7 @@ pub put_part_failed : {X : Type 0} {t0 t1 t2 : Option (List ℕ)} {f0 f1 f2 : �
     → WroteBuffered (between t0 t2 f0 f2) w0 w2 (flat_map f items) (Err e)
 put_part_failed f items i d lt h k = put_failed_next (flat_map f (drop (i + 1) items)) (flat_map f items) (parts_whole f items i d lt) h k
 
--- `put_item` and `put_item_failed` are `put_part` and `put_part_failed` with names for the item (`x`) and for its text (`text`)
+-- `put_item` is `put_part`, and `put_item_failed` is `put_part_failed`, with variables for the item (`x`) and for its text (`text`)
 pub put_item : {X : Type 0} {t0 t1 t2 : Option (List ℕ)} {f0 f1 f2 : ℕ} {w0 w1 w2 text : List ℕ} {u v : Unit {0}} (f : X → List ℕ) (items : List X) (i : ℕ) (x : X)
     → i < length items → x ≡ get_or items i x → text ≡ f x → WroteBuffered (between t0 t1 f0 f1) w0 w1 (flat_map f (take i items)) (Ok u) → WroteBuffered (between t1 t2 f1 f2) w1 w2 text (Ok v)
     → WroteBuffered (between t0 t2 f0 f2) w0 w2 (flat_map f (take (i + 1) items)) (Ok tt)
@@ -122,7 +113,7 @@ pub put_item_failed : {X : Type 0} {t0 t1 t2 : Option (List ℕ)} {f0 f1 f2 : �
     → WroteBuffered (between t0 t2 f0 f2) w0 w2 (flat_map f items) (Err e)
 put_item_failed f items i x lt at' is h k = put_part_failed f items i x lt h (put_as (f (get_or items i x)) (is ∙ ap f at') k)
 
--- ---- the waiting bytes go on to the sink
+-- ---- steps that first hand the waiting bytes to the sink, and a last flush
 
 pub put_past : {t0 t1 t2 : Option (List ℕ)} {f0 f1 f2 : ℕ} {w w' text : List ℕ} {u : Unit {0}} {r : Written} → w' ≡ [] → Wrote (between t0 t1 f0 f1) w (Ok u)
     → Wrote (between t1 t2 f1 f2) text r → WroteBuffered (between t0 t2 f0 f2) w w' text r

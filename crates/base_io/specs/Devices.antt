@@ -1,4 +1,4 @@
--- A sink and a store before and after a call.
+-- The state of a sink or a store before and after a call.
 use Rattle.std.specs.Prelude.{ℕ, List, Option}
 use Rattle.base_io.specs.Files.{Files}
 

@@ -4,11 +4,11 @@ use Rattle.std.specs.List.{list_any}
 use Rattle.base_io.specs.declared.errors.StoreError.{StoreError}
 use Rattle.base_io.specs.declared.errors.StoreError.TheVariants as store
 
--- whether the number of a call is in the list of the calls that fail. Calls are numbered from 1
+-- whether the list `fail_at` has this call. Calls are numbered from 1
 abbrev pub is_failing_call : ℕ → List ℕ → Bool
 is_failing_call call fail_at = list_any (λ listed. nat_eq listed call) fail_at
 
--- whether the call failed. A call doesn't fail because the file is absent
+-- whether the call failed. A call for an absent file doesn't count as failed
 abbrev pub has_failed : Result ℕ StoreError → Bool
 has_failed (Ok count) = false
 has_failed (Err store.Missing) = false

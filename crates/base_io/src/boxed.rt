@@ -4,8 +4,7 @@ use crate::NoMemory;
 use std::alloc::Global;
 use std::marker::Model;
 
-/// A value on the heap that contracts see as the value alone. A recursive type may contain a box of its own
-/// type.
+/// A value on the heap. Contracts see the value alone. A type may have a field that is a `Boxed` of the type itself.
 #[derive(Debug, Drop)]
 pub struct Boxed<T> {
     inner: Box<T>,
@@ -25,14 +24,6 @@ impl<T> Boxed<T> {
         ensures { result.now ≡ self.now }
     {
         &self.inner
-    }
-
-    /// The value, taken off the heap.
-    pub fn into_inner(self) -> T
-        ensures { result ≡ self }
-    {
-        let Boxed { inner } = self;
-        Box::into_inner(inner)
     }
 }
 

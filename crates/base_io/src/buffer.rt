@@ -59,8 +59,8 @@ impl Buffer {
         Ok(())
     }
 
-    /// Adds bytes. If the buffer has no room for them, it first hands its waiting bytes to the sink. If there are more bytes than the whole buffer
-    /// takes, they go straight to the sink.
+    /// Adds bytes. If they don't fit, the buffer first hands its waiting bytes to the sink. More bytes than the whole buffer holds then go directly
+    /// to the sink.
     pub fn put<N: Sink>(&mut self, sink: &mut N, bytes: &[u8]) -> Result<(), Failed>
         ensures { WroteBuffered (growth N.taken N.faults sink.old sink.new) self.old self.new bytes.now result }
     {

@@ -1,10 +1,10 @@
-//! Small examples of this crate's definitions.
+//! Examples of this crate's definitions.
 ghost use Rattle.std.specs.Prelude.{◌≡◌, ◌∷◌, ◌^◌, ◌-◌, [], Some, None};
 ghost use Rattle.base_io.specs.Causes.{Rose, one_more};
 ghost use Rattle.base_io.specs.Files.{Absent, Unknown, Present, answer_about};
 ghost use Rattle.base_io.specs.Sinks.{appended};
 
-/// Theorems by computation. The function does nothing.
+/// Examples, proved by computation. The call does nothing.
 pub fn examples()
     // If two files have one name, the first file counts.
     ensures first { answer_about (Some ((82 ∷ [], 1 ∷ []) ∷ (82 ∷ [], 2 ∷ []) ∷ [])) (82 ∷ []) ≡ Present (1 ∷ []) }

@@ -1,12 +1,10 @@
-//! What every other crate uses: stores that give files by name, sinks that take bytes, lists, boxes, names, and the error for too little
-//! memory.
+//! Stores that give files by name, sinks that take bytes, lists, boxes, names, and the error for too little memory.
 //!
-//! The first stage of a query reads each file whole, with `read_file`. The last stage writes its texts with `write_all` and
-//! `write_parts`.
+//! The first stage of a query reads each file to its end, with `read_file`. The last stage writes its texts with `write_all`.
 //!
-//! Callers cite `answer_about` (what a store tells about a name) and `ReadsFile` (what reading a file answers). About sinks they cite `appended` and
-//! `GrewByPrefix` (what a sink took), `Wrote` and `WroteBuffered` (what is true after a step that writes). `Rose` says that a count of faults rose. Contracts
-//! see `Seq` as the list of its items, `Boxed` as its value and `Name` as its bytes.
+//! Contracts on stores use `answer_about` (what a store tells about a name) and `ReadsFile` (the results that reading a file may have). Contracts on
+//! sinks use `appended` and `GrewByPrefix` (what a sink took), and `Wrote` and `WroteBuffered` (what a step that writes guarantees). `Rose` says that
+//! a count of faults rose. Contracts see `Seq` as the list of its items, `Boxed` as its value and `Name` as its bytes.
 #![tactic(auto)]
 
 mod boxed;
@@ -35,4 +33,4 @@ pub use read::read_file;
 pub use seq::Seq;
 pub use sink::Sink;
 pub use store::Store;
-pub use write::{write_all, write_parts};
+pub use write::write_all;

@@ -63,7 +63,7 @@ impl Sink for MemSink {
 
     ghost faults = { λ s. s.faults };
 
-    /// Writes as every sink does, and takes as many of the bytes as there is room for.
+    /// Takes as many of the bytes as there is room for.
     fn write(&mut self, bytes: &[u8]) -> Result<usize, Failed>
         ensures bound { IfOk result (λ n. n ≤ length bytes.now) }
         ensures progress { 0 < length bytes.now → IfOk result (λ n. 0 < n) }
@@ -72,8 +72,8 @@ impl Sink for MemSink {
         ensures later { self.old.faults ≤ self.new.faults }
         ensures failed { OnErr result (Rose self.old.faults self.new.faults) }
 
-        // Only two kinds of calls fail: those whose numbers are in `fail_at`, and those that bring bytes when no room is left. Each failure is
-        // counted.
+        // Two kinds of calls fail, and no others: those whose numbers are in `fail_at`, and those that bring bytes when no room is left. Each failure
+        // is counted.
         ensures calls { self.new.calls ≡ one_more self.old.calls }
         ensures fail_at { self.new.fail_at ≡ self.old.fail_at }
         ensures fails { is_err result ≡ (is_failing_call self.new.calls self.old.fail_at

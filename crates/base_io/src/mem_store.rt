@@ -72,7 +72,7 @@ impl Store for MemStore {
 
     ghost misses = { λ s. s.misses };
 
-    /// Reads as every store does. A call fails exactly if its number is in `fail_at`.
+    /// Reads bytes of the first file with this name. A call fails exactly if its number is in `fail_at`.
     fn read_at(&mut self, name: &str, at: u64, into: &mut [u8]) -> Result<usize, StoreError>
         requires place { at ≤ most_file }
         requires room { 0 < length into.old }
@@ -89,7 +89,7 @@ impl Store for MemStore {
         ensures most { IfOk result (λ n. (bytes : List ℕ) → file_of self.old.files name.now ≡ Some bytes
             → n ≡ min (length bytes - at) (length into.new)) }
 
-        // Exactly the calls whose numbers are in `fail_at` fail, and each failure is counted.
+        // A call fails exactly if its number is in `fail_at`, and each failure is counted.
         ensures calls { self.new.calls ≡ one_more self.old.calls }
         ensures fail_at { self.new.fail_at ≡ self.old.fail_at }
         ensures fails { has_failed result ≡ is_failing_call self.new.calls self.old.fail_at }

@@ -27,7 +27,7 @@ impl Name {
         Ok(Name { text })
     }
 
-    /// The text itself.
+    /// The text.
     pub fn as_str(&self) -> &str
         ensures { result.now ≡ self.now }
     {

@@ -5,17 +5,17 @@ ghost use Rattle.base_io.specs.Causes.{Rose, one_more};
 ghost use Rattle.base_io.specs.Files.{ReadsFile, answer_about};
 
 use crate::{ReadError, Seq, Store, StoreError};
-use std::alloc::Global;
 
 // A block is large enough that reading a table takes few calls, and small beside the file itself.
 const BLOCK: usize = 65_536;
 
-/// Reads a whole file of at most `limit` bytes.
+/// Reads a whole file of at most `limit` bytes, into the memory of a list that is no longer needed.
 ///
-/// Each block is read straight into the list that is returned, without a buffer between. The list grows by doubling. The result is `Fault` only if
-/// the store's count of faults rose.
+/// The list's old bytes are dropped, and each block is read straight into its memory, without a buffer between. The memory grows by doubling. So
+/// files that are read one after another into the same memory need only the memory of the longest. The result is `Fault` only if the store's count of
+/// faults rose.
 pub fn read_file<S: Store>(
-    alloc: Global,
+    memory: Seq<u8>,
     store: &mut S,
     name: &str,
     limit: u32,
@@ -32,8 +32,9 @@ pub fn read_file<S: Store>(
         → (S.faults store.new ≡ S.faults store.old) × (S.misses store.new ≡ one_more (S.misses store.old)) }
     ensures misses { (IsErrOf result ReadError.Missing → ⊥) → S.misses store.new ≡ S.misses store.old }
 {
-    let mut items = Vec::new(alloc);
-    // Each round of the loop but the last reads at least one byte, so that `limit` rounds and one more are enough.
+    let mut items = memory.into_vec();
+    items.clear();
+    // Each round but the last reads at least one byte, so `limit` + 1 rounds are enough.
     'turns: for _turn in 0..=limit {
         let at = items.len();
         items.resize(at + BLOCK, 0)?;

@@ -38,6 +38,14 @@ impl<T> Seq<T> {
         Seq { items }
     }
 
+    /// The items as a vector, in the memory of the list.
+    pub fn into_vec(self) -> Vec<T>
+        ensures { result.items ≡ self }
+    {
+        let Seq { items } = self;
+        items
+    }
+
     /// Removes the last item and returns it. An empty list gives `None`.
     pub fn pop(&mut self) -> Option<T>
         ensures { MatchOption result ((self.old ≡ []) × (self.new ≡ [])) (λ last. self.old ≡ self.new ++ last ∷ []) }

@@ -19,8 +19,8 @@ pub trait Store {
     /// How often a file was missing.
     ghost misses: { Self → ℕ };
 
-    /// Reads bytes of a file, from the offset `at` on, into the front of a buffer, and returns how many bytes were read. The result is 0 exactly if
-    /// `at` is the end of the file or lies past the end.
+    /// Reads bytes of a file, from the offset `at` on, into the front of a buffer. Returns how many bytes were read. The result is 0 exactly if `at`
+    /// is the end of the file or lies past the end.
     fn read_at(&mut self, name: &str, at: u64, into: &mut [u8]) -> Result<usize, StoreError>
         requires place { at ≤ most_file }
         requires room { 0 < length into.old }

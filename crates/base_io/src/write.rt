@@ -1,5 +1,4 @@
 //! Writes whole texts into a sink.
-ghost use Rattle.std.specs.List.{flat_map};
 ghost use Rattle.base_io.specs.Devices.{growth};
 ghost use Rattle.base_io.specs.Writes.{Wrote};
 
@@ -13,17 +12,6 @@ pub fn write_all<N: Sink>(sink: &mut N, bytes: &[u8]) -> Result<(), Failed>
     let mut done = 0;
     'rest: while done < bytes.len() {
         done += sink.write(&bytes[done..])?;
-    }
-    Ok(())
-}
-
-/// Writes all bytes of several parts, in order. On `Failed` the sink has taken a prefix of them. Nothing is allocated.
-#[tactic(auto, using(crate::proofs::SinkFacts::prefix_of_all))]
-pub fn write_parts<N: Sink>(sink: &mut N, parts: &[&[u8]]) -> Result<(), Failed>
-    ensures { Wrote (growth N.taken N.faults sink.old sink.new) (flat_map (λ part. part.now) parts.now) result }
-{
-    'parts: for part in parts {
-        write_all(sink, part)?;
     }
     Ok(())
 }

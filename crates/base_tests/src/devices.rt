@@ -1,13 +1,13 @@
 //! Tests of stores and sinks in memory, and of slow ones, which move few bytes in each call.
 use base_io::{
     Failed, MemSink, MemStore, Name, NullSink, ReadError, Seq, Sink, Store, StoreError, read_file,
-    write_all, write_parts,
+    write_all,
 };
 use slow_devices::{SlowSink, SlowStore};
 use std::alloc::Global;
 use std::test::Fail;
 
-// A store of one file. Its call with the number `failing` fails; with 0 no call fails.
+// A store of one file. The calls are counted from 1, and call number `failing` fails. If `failing` is 0, no call fails.
 fn store_of(alloc: Global, failing: u64) -> Result<MemStore, Fail> {
     let bytes = Vec::from_slice(alloc, b"X\r\n")?;
     let mut files = Seq::new(alloc);
@@ -18,7 +18,7 @@ fn store_of(alloc: Global, failing: u64) -> Result<MemStore, Fail> {
 #[test]
 fn a_missing_file_is_counted(rt: HostRuntime) -> Result<(), Fail> {
     let mut store = store_of(rt.alloc(), 2)?;
-    let missing = read_file(rt.alloc(), &mut store, "s.csv", 100);
+    let missing = read_file(Seq::new(rt.alloc()), &mut store, "s.csv", 100);
     assert!(rt; matches!(missing, Err(ReadError::Missing)));
     assert_eq!(rt; (store.calls, store.faults, store.misses), (1, 0, 1));
     let mut block = [0_u8; 4];
@@ -32,11 +32,11 @@ fn a_missing_file_is_counted(rt: HostRuntime) -> Result<(), Fail> {
     Ok(())
 }
 
-// Reads the whole file, at most `most` bytes in each call, and gives its length and the number of calls.
+// Reads the whole file, at most `most` bytes in each call. Returns its length and the number of calls.
 fn read_slowly(alloc: Global, most: u32) -> Result<(usize, u64), Fail> {
     let inner = store_of(alloc, 0)?;
     let mut store = SlowStore { inner, most };
-    let read = read_file(alloc, &mut store, "r.csv", 100)?;
+    let read = read_file(Seq::new(alloc), &mut store, "r.csv", 100)?;
     Ok((read.len(), store.inner.calls))
 }
 
@@ -49,8 +49,8 @@ fn files_are_read_byte_by_byte(rt: HostRuntime) -> Result<(), Fail> {
     Ok(())
 }
 
-// Writes ten bytes to a sink with this room, at most `most` bytes in each call, and the call with the number `failing` fails. Gives whether
-// all bytes were written, and how many the sink took.
+// Writes ten bytes to a sink with this room, at most `most` bytes in each call. Call number `failing` fails. Returns whether all bytes were written,
+// and how many the sink took.
 fn taken(alloc: Global, room: u64, failing: u64, most: u32) -> Result<(bool, usize), Fail> {
     let inner = MemSink::new(alloc, room, Seq::one(alloc, failing)?)?;
     let mut sink = SlowSink { inner, most };
@@ -76,7 +76,9 @@ fn parts_are_written_in_order(rt: HostRuntime) -> Result<(), Fail> {
     let (scan, rows): (&[u8], &[u8]) = (b"scan ", b"R 6\n");
     assert_eq!(rt; sink.write(scan), Ok(5));
     assert_eq!(rt; sink.write(rows), Err(Failed));
-    assert_eq!(rt; write_parts(&mut sink, &[rows, scan]), Ok(()));
+    for part in [rows, scan] {
+        assert_eq!(rt; write_all(&mut sink, part), Ok(()));
+    }
     assert_eq!(rt; sink.written(), b"scan R 6\nscan ".as_slice());
     assert_eq!(rt; write_all(&mut NullSink, scan), Ok(()));
     Ok(())

@@ -1,10 +1,13 @@
 //! Tests of lists, names, sets of entries, degree lists and pieces.
+ghost use Rattle.std.specs.Prelude.{◌≡◌};
+ghost use Rattle.piece_compress.specs.BinaryDigits.{most_pieces};
+
 use base_io::{Boxed, Name, NoMemory, Seq};
 use counted_sets::{Use, reduce};
 use degree_lists::falling;
 use entry_sets::EntrySet;
 use limits::Accuracy;
-use piece_compress::{compress, compress_runs, pieces_at_most};
+use piece_compress::{compress, compress_runs};
 use piece_math::{Piece, Pieces};
 use row_buf::RowBuf;
 use std::alloc::Global;
@@ -18,7 +21,8 @@ fn lists_and_names(rt: HostRuntime) -> Result<(), Fail> {
     assert_eq!(rt; items.replace(0, 120), 97);
     assert_eq!(rt; items.pop(), Some(99));
     assert_eq!(rt; items.as_slice(), b"xb".as_slice());
-    assert_eq!(rt; Boxed::new(rt.alloc(), 7_u8)?.into_inner(), 7);
+    let seven = Boxed::new(rt.alloc(), 7_u8)?;
+    assert_eq!(rt; *seven.get(), 7);
     assert_eq!(rt; Name::from_str(rt.alloc(), "r.csv")?.as_str(), "r.csv");
     Ok(())
 }
@@ -27,10 +31,6 @@ fn lists_and_names(rt: HostRuntime) -> Result<(), Fail> {
 fn sets_gain_and_lose_entries(rt: HostRuntime) {
     let set = EntrySet::empty().with(3).with(15).with(3).without(15);
     assert_eq!(rt; set.bits(), 8);
-    let mut entries = EntrySet::from_bits(0b1000_0000_0000_0101).entries();
-    for entry in [Some(0), Some(2), Some(15), None] {
-        assert_eq!(rt; entries.next(), entry);
-    }
 }
 
 // The degrees of three different keys, which occur five times, three times and once.
@@ -43,6 +43,13 @@ fn compressed(alloc: Global) -> Result<Pieces, NoMemory> {
     compress(alloc, &[5, 3, 1], Accuracy::of(1))
 }
 
+// The most pieces that the compression of a list with the first degree `first` can have.
+fn pieces_at_most(first: u64, accuracy: Accuracy) -> u32
+    ensures { result ≡ most_pieces first accuracy }
+{
+    u32::from(accuracy.value()) * (u64::BITS - first.leading_zeros()) + 1
+}
+
 #[test]
 fn counts_fall(rt: HostRuntime) -> Result<(), Fail> {
     assert_eq!(rt; degrees(rt.alloc())?.as_slice(), [5, 3, 1].as_slice());
@@ -52,7 +59,7 @@ fn counts_fall(rt: HostRuntime) -> Result<(), Fail> {
     Ok(())
 }
 
-// The list with these runs, each a degree and its number of keys. No degree is above the degree before it, no degree and no number is 0, and the
+// The list with these runs, each a degree and its number of keys. No degree is above the degree before it, and no degree and no number is 0. The
 // numbers sum to less than 2^64. Otherwise the result is `NoMemory`, which fails the test.
 fn of_runs(alloc: Global, runs: &[(u64, u64)]) -> Result<Pieces, NoMemory> {
     let mut list = Pieces::empty(alloc);
@@ -72,8 +79,8 @@ fn of_runs(alloc: Global, runs: &[(u64, u64)]) -> Result<Pieces, NoMemory> {
 // Ten billion rows: 6,000 keys have 1,000,000 rows each, 5,000 keys have 600,001 each, and 999,995 keys have 1,000 each.
 const MANY_ROWS: [(u64, u64); 3] = [(1_000_000, 6_000), (600_001, 5_000), (1_000, 999_995)];
 
-// `MANY_ROWS` compressed at accuracy 1. The second degree is more than half of the first, so the 3,000,005,000 rows of the second degree are counted
-// at the first degree. With 995,000 rows of the third degree they make 3,001 more keys of 1,000,000 rows. Of the third degree 999,000,000 rows are
+// `MANY_ROWS` compressed at accuracy 1. The second degree is more than half of the first. So the 3,000,005,000 rows of the second degree are counted
+// at the first degree. With 995,000 rows of the third degree they make 3,001 more keys of 1,000,000 rows. 999,000,000 rows of the third degree are
 // left, which are 999,000 keys of 1,000 rows.
 fn many_compressed(alloc: Global) -> Result<Pieces, NoMemory> {
     let list = of_runs(alloc, &MANY_ROWS)?;
@@ -113,8 +120,8 @@ fn lists_are_combined_by_rank(rt: HostRuntime) -> Result<(), Fail> {
     Ok(())
 }
 
-// Item 1 needs slot 2, which no item gives, so it goes. Then item 0 goes, since it needs slot 1 of item 1. Item 2 gives the slot that it
-// needs, and item 3 needs no slot, so both stay.
+// Item 1 needs slot 2, which no item gives, so item 1 is dropped. Then item 0 is dropped, since it needs slot 1 of item 1. Item 2 gives the slot
+// that it needs, and item 3 needs no slot, so these two stay.
 fn marks(alloc: Global) -> Result<RowBuf<bool>, NoMemory> {
     let uses = [
         Use {

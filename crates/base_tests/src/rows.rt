@@ -1,7 +1,7 @@
-//! Tests of row buffers, of chains of equal keys, of linked rows, and of what `reserve` takes.
+//! Tests of row buffers, and of chains of equal keys.
 use base_io::NoMemory;
-use link_index::{Chains, Link, RowForest};
-use reserve_plan::{reserve, row_buffers};
+use link_index::Chains;
+use reserve_plan::{empty_chains, row_buffers};
 use row_buf::RowBuf;
 use std::alloc::Global;
 use std::test::Fail;
@@ -42,32 +42,27 @@ fn chains_ascend(rt: HostRuntime) -> Result<(), Fail> {
     Ok(())
 }
 
-// Two rows: that of the second link of the second level, and before it that of the link's parent.
-fn linked(alloc: Global) -> Result<[u32; 2], NoMemory> {
-    let mut forest = RowForest::reserve(alloc, &[1, 2])?;
-    forest.add(0, Link { parent: 0, row: 5 });
-    forest.add(1, Link { parent: 0, row: 3 });
-    forest.add(1, Link { parent: 0, row: 8 });
-    let mut rows = [0, 0];
-    forest.rows_of(1, 1, &mut rows);
-    Ok(rows)
+// The number of row lists with room for 6 and for 0 rows, and whether each of them takes a row.
+fn reserved(alloc: Global) -> Result<(usize, bool, bool), NoMemory> {
+    let lists = row_buffers(alloc, &[6, 0])?;
+    Ok((lists.len(), lists[0].has_spare(), lists[1].has_spare()))
 }
 
 #[test]
-fn a_row_leads_to_those_above_it(rt: HostRuntime) -> Result<(), Fail> {
-    assert_eq!(rt; linked(rt.alloc())?, [5, 8]);
+fn lists_are_reserved(rt: HostRuntime) -> Result<(), Fail> {
+    assert_eq!(rt; reserved(rt.alloc())?, (2, true, false));
     Ok(())
 }
 
-// How many row lists and how many chains are reserved for two entries.
-fn reserved(alloc: Global) -> Result<(usize, usize), NoMemory> {
-    let lists = row_buffers(alloc, &[6, 0])?;
-    let reserved = reserve(alloc, &[1, 0], &[6, 0], &[0, 12])?;
-    Ok((lists.len(), reserved.chains.len()))
+// The place of 7 in chains that were reserved for one row.
+fn place_in_reserved(alloc: Global) -> Result<Option<u32>, NoMemory> {
+    let mut chains = empty_chains(alloc, 1)?;
+    chains.load(&[7]);
+    Ok(chains.first(7))
 }
 
 #[test]
-fn two_entries_are_reserved(rt: HostRuntime) -> Result<(), Fail> {
-    assert_eq!(rt; reserved(rt.alloc())?, (2, 1));
+fn chains_are_reserved(rt: HostRuntime) -> Result<(), Fail> {
+    assert_eq!(rt; place_in_reserved(rt.alloc())?, Some(0));
     Ok(())
 }

@@ -6,7 +6,7 @@ use std::alloc::{AllocError, Global};
 pub enum Kind {
     Different,
     Equal,
-    Unequal,
+    Skewed,
 }
 
 impl Kind {
@@ -14,17 +14,17 @@ impl Kind {
         match self {
             Kind::Different => "different",
             Kind::Equal => "equal",
-            Kind::Unequal => "unequal",
+            Kind::Skewed => "unequal",
         }
     }
 
-    // The key that is made of random bits.
+    // Makes a key from random bits.
     fn key(self, bits: u64) -> u64 {
         match self {
             Kind::Different => bits,
             Kind::Equal => 7,
             // a random length of 0 to 21 bits: small keys are frequent, and large ones are rare
-            Kind::Unequal => (bits & 0xffff_ffff) >> (32 - (bits >> 58u32) % 22),
+            Kind::Skewed => (bits & 0xffff_ffff) >> (32 - (bits >> 58u32) % 22),
         }
     }
 }

@@ -1,7 +1,7 @@
 //! Measures the proved code of degree_lists; bench/degree_lists.rs measures plain Rust for the same work.
 //!
 //! Without an argument the program makes each call over 100 keys and writes nothing. With an argument, say `time`, it writes a line for each kind of
-//! keys: the kind, the number of keys, the length of the answer, and the nanoseconds of the fastest call.
+//! keys. A line has the kind, the number of keys, the length of the result, and the nanoseconds of the fastest call.
 #![tactic(auto)]
 
 mod keys;
@@ -59,7 +59,7 @@ fn write_time(rt: &HostRuntime, kind: Kind) -> io::Result<()> {
 
 fn main(rt: HostRuntime) -> io::Result<()> {
     let is_timed = env::args(&rt)?.count() > 1;
-    for kind in [Kind::Different, Kind::Equal, Kind::Unequal] {
+    for kind in [Kind::Different, Kind::Equal, Kind::Skewed] {
         if is_timed {
             write_time(&rt, kind)?;
         } else {

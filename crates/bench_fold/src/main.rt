@@ -1,11 +1,12 @@
 //! Measures the proved code of bound_fold and set_bounds; bench/fold.rs measures plain Rust for the same work.
 //!
-//! Without an argument the program writes the bounds of two small queries. With one argument, say `time`, it writes a line for each measure: the
-//! shape, the number of entries, the number of pieces of each list, the number of trees that are folded, the bound, and the least nanoseconds of one
-//! bound. With two arguments, say `time sets`, it measures the bounds of all sets of twelve entries, and writes a line for each shape: the shape, the
-//! sum of the bounds, and the nanoseconds.
+//! Without an argument the program writes the bounds of two small queries. With one argument, say `time`, it writes a line for each measure. The line
+//! has the shape and the number of entries, the number of pieces of each list, and the number of trees that are folded. Then it has the bound, and
+//! the least nanoseconds of one bound. With two arguments, say `time sets`, the program measures the bounds of all sets of twelve entries. It writes
+//! a line for each shape: the shape, the sum of the bounds, and the nanoseconds.
 #![tactic(auto)]
 
+mod listed;
 mod queries;
 mod timing;
 
@@ -21,7 +22,7 @@ const ROUNDS: u32 = 20;
 
 const PLANS: u32 = 3;
 
-// Adds the list of these numbers, as the list of a column of an entry.
+// Adds the list of an entry's column, which has these numbers.
 fn add_numbers(
     alloc: Global,
     query: &mut Query,
@@ -33,7 +34,7 @@ fn add_numbers(
     add_list(&mut query.lists, entry, column, list)
 }
 
-// R.X = S.X and S.Y = T.Y.
+// The query with the equalities R.X = S.X and S.Y = T.Y.
 fn path(alloc: Global) -> Result<Query, NoMemory> {
     let edges = [edge(0, 0, 1, 0), edge(1, 1, 2, 0)];
     let mut query = query_of(alloc, &edges, &[3, 6, 5])?;

@@ -129,7 +129,7 @@ pub fn list_of_numbers(alloc: Global, numbers: &[u128]) -> Result<Pieces, NoMemo
 }
 
 // A list of at most `pieces` pieces, each for about the same number of rows. The last value is 1, and the others are the multiples of
-// `column` + 1, so they descend in wider steps if the column's number is larger.
+// `column` + 1. So they descend in wider steps if the column's number is larger.
 fn list_of_column(alloc: Global, rows: u64, pieces: u32, column: u32) -> Result<Pieces, NoMemory> {
     let mut runs = Vec::new(alloc);
     let mut left = rows;
@@ -170,8 +170,8 @@ pub fn query_of(alloc: Global, edges: &[Edge], rows: &[u64]) -> Result<Query, No
     })
 }
 
-/// Adds the list of a column. The list is left out if the entry has no row bound, if the list's sum isn't the entry's row bound, or if the column has
-/// a list already.
+/// Adds the list of a column. The list is left out if its sum isn't the entry's row bound, if there is no row bound, or if the column has a list
+/// already.
 pub fn add_list(
     lists: &mut EntryLists,
     entry: u8,

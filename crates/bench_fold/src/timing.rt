@@ -2,9 +2,10 @@
 ghost use Rattle.bound_fold.specs.Sets.{SetHasBounds};
 ghost use Rattle.set_bounds.specs.AllSets.{first_entries};
 
+use crate::listed::is_listed;
 use crate::queries::Query;
 use base_io::NoMemory;
-use bound_fold::{is_listed, set_bound};
+use bound_fold::set_bound;
 use entry_sets::EntrySet;
 use set_bounds::bounds_of_sets;
 use std::alloc::Global;
@@ -90,8 +91,8 @@ fn sets_once(rt: &impl Clock, alloc: Global, query: &Query) -> io::Result<Timing
     Ok(Timing { bound, nanos })
 }
 
-/// The sum of the bounds of all sets of a query's first twelve entries, modulo 2^128, with the least time of `rounds` rounds. The summing isn't
-/// timed. The errors are the same as in `timed`.
+/// Bounds all sets of a query's first twelve entries. The result is the sum of these bounds, modulo 2^128, and the least time of `rounds` rounds. The
+/// summing isn't timed. The errors are the same as in `timed`.
 pub fn timed_sets(
     rt: &impl Clock,
     alloc: Global,

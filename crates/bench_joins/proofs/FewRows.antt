@@ -1,11 +1,12 @@
 -- If the right table has each key at most `times` times, a join has at most `times` rows for each row of the left table.
 use Rattle.std.proofs.Common.{◌≡◌, ℕ, zero, suc, ◌+◌, ◌-◌, ◌*◌, ◌/◌, ◌%◌, ◌<◌, ◌≤◌, ◌^◌, Bool, true, false, not, eqb, ◌||◌, Option, Some, None, List, [], ◌∷◌, ◌++◌, length, map, get_or, refl, ap, sym, ◌∙◌, subst, arith, inl, inr}
 use Rattle.std.specs.Prelude.{All, IsUtf8}
-use Rattle.std.specs.List.{filter, range_with_len, AllByRecursion, AllZip, IsDistinct}
+use Rattle.std.specs.List.{filter, range_with_len, AllByRecursion, count_by}
 use Rattle.std.proofs.lemmas.Bool.{and_parts, cases_Bool, cases_lt, eqb-true}
 use Rattle.std.proofs.lemmas.List.{get_or-map, length-append, length-map}
-use Rattle.std.proofs.lemmas.List.Elements.{All-contains_itself, All-from_recursion, All-map, filter-append, recursion_from_All}
+use Rattle.std.proofs.lemmas.List.Elements.{All-from_recursion, All-map, filter-append, recursion_from_All}
 use Rattle.std.proofs.lemmas.List.FromFn.{get_or-range_with_len, length-range_with_len}
+use Rattle.std.proofs.lemmas.List.Sums.{count_by-le-length, length-filter}
 use Rattle.std.proofs.lemmas.Nat.{div-add-mod'}
 use Rattle.std.proofs.Math.Nat.{mul-suc, suc-mul}
 use Rattle.csv_tables.specs.declared.types.Database.{Database}
@@ -14,31 +15,33 @@ use Rattle.query_grammar.specs.declared.tree.Op.TheVariants as op
 use Rattle.query_types.specs.declared.types.ColumnRef.{ColumnRef}
 use Rattle.query_types.specs.declared.types.Operand.TheVariants as operand
 use Rattle.query_types.specs.declared.types.Query.{Query}
-use Rattle.reserve_plan.specs.declared.reserved.Reserved.{Reserved}
-use Rattle.row_buf.specs.Rows.{Rows}
-use Rattle.reserve_plan.specs.Rooms.{rooms, HasRooms, IsRoomFor}
-use Rattle.reserve_plan.proofs.Roomy.{less_buffers, less_room}
 use Rattle.sql_meaning.specs.Answers.{conjuncts_of}
 use Rattle.sql_meaning.specs.Choices.{extended, IsChoiceOf}
 use Rattle.sql_meaning.specs.Conditions.{cond_holds}
 use Rattle.sql_meaning.specs.Databases.{AreCells, IsWellTyped, IsColumnOf, IsColumnOfKind, IsDatabaseOf}
-use Rattle.sql_meaning.specs.Levels.{all_hold, completed_hold, passes_own, row_in, Conjunct}
+use Rattle.sql_meaning.specs.Levels.{completed_hold, passes_own, row_in, Conjunct}
 use Rattle.sql_meaning.specs.Tables.{row_counts, tables_of}
+use Rattle.sql_meaning.proofs.AskFacts.{depend_on_named}
+use Rattle.sql_meaning.proofs.LevelFacts.{level_over_more}
 use Rattle.sql_meaning.proofs.LoopFacts.{rows_are}
 use Rattle.sql_meaning.proofs.NamedFacts.{can_ask}
 use Rattle.join_steps.specs.declared.join_keys.JoinKey.{JoinKey}
-use Rattle.join_steps.specs.Lists.{list_sizes, scan_of, scans_of, IsOfScan, IsOrderOf}
-use Rattle.join_steps.specs.Sides.{is_between}
+use Rattle.join_steps.specs.Lists.{list_at, scan_of, scans_of, IsOfScan}
+use Rattle.join_steps.specs.Sides.{spans_both_sides}
 use Rattle.join_steps.proofs.KeyFacts.{key_holds, sides_between, IsKeyOf}
-use Rattle.hash_join.specs.Levels.{listed_level, list_level_sizes}
-use Rattle.hash_join.proofs.AllLevels.{next_joined, placed_joined}
-use Rattle.join_steps.proofs.ListedRows.{scan_below, below}
-use Rattle.join_steps.proofs.WholeScans.{weaker}
-use Rattle.bench_joins.specs.Tables.{compared, join_of, each_repeated, table_of, tables_of_two, AreNumbers}
+use Rattle.join_steps.proofs.ListedRows.{below, of_scan, own_kept, scan_below}
+use Rattle.join_steps.proofs.WholeScans.{weaker, whole_of_scans}
+use Rattle.tree_plans.specs.declared.bushy.BushyPlan.{BushyPlan}
+use Rattle.tree_plans.specs.TreePlans.{IsTreePlan}
+use Rattle.tree_rows.specs.Rooms.{bound_at, BoundsFitBuffers}
+use Rattle.bushy_join.specs.Trees.{chosen_rows, node_rows, IsTreePlanOf}
+use Rattle.bushy_join.proofs.LeafRows.{few_chosen, leaf_fits}
+use Rattle.bushy_join.proofs.Running.{are_choices}
+use Rattle.bench_joins.specs.Tables.{compared, join_of, each_repeated, plan_of, table_of, tables_of_two, AreNumbers}
 
 -- ---- how many rows have a key
 
--- if only numbers from a to below a + m pass a test, at most a + m - s of the numbers from s on pass it
+-- suppose that only numbers from a to below a + m pass a test. Then at most a + m - s of the numbers from s on pass it
 in_key_range : (p : ℕ → Bool) (a m : ℕ) → ((x : ℕ) → p x ≡ true → (a ≤ x) × (x < a + m)) → (n s : ℕ) → a ≤ s → length (filter p (range_with_len s n)) ≤ a + m - s
 in_key_range p a m near zero s low = omega arith
 in_key_range p a m near (suc n) s low =
@@ -104,10 +107,10 @@ few_keys rows times key own some =
     let few : length (filter q (range_with_len 0 rows)) ≤ times = before_stretch q (key * times) times (λ x hit. in_key key times x some hit) rows 0 in
     omega (arith, filtered_twice p own (range_with_len 0 rows), ap (λ (s : List ℕ). length s) same, few)
 
--- ---- a level
+-- ---- how many rows follow each choice of the level before
 
--- suppose that a row passes `q` if the choice with this row after it passes `p`. Then at most as many such choices pass `p` as rows of the list pass
--- `q`
+-- Suppose that a row passes `q` whenever the choice with this row at its end passes `p`. Then at most as many of these longer choices pass `p` as
+-- rows of the list pass `q`
 few_below : (p : List ℕ → Bool) (q : ℕ → Bool) (Q : ℕ → Type 0) (choice : List ℕ) → ((row : ℕ) → Q row → p (choice ++ row ∷ []) ≡ true → q row ≡ true) → (list : List ℕ) → AllByRecursion Q list
     → length (filter p (map (λ row. choice ++ row ∷ []) list)) ≤ length (filter q list)
 few_below p q Q choice only [] all = omega arith
@@ -131,20 +134,6 @@ few_each p list times P each (choice ∷ above) all =
     let product : times * suc (length above) ≡ times * length above + times = mul-suc times (length above) in
     omega (arith, splits, rest, each choice all.0, product)
 
-fewer : {X : Type 0} (p : X → Bool) (xs : List X) → length (filter p xs) ≤ length xs
-fewer p [] = omega arith
-fewer p (x ∷ xs) =
-    let rest : length (filter p xs) ≤ length xs = fewer p xs in
-    elim (cases_Bool (p x)) [
-      | inl hit ↦ rw hit (omega (arith, rest))
-      | inr miss ↦ rw miss (omega (arith, rest))
-    ]
-
-at_most_one : (n x : ℕ) → x ≤ 1 → n * x ≤ n
-at_most_one n zero low = omega arith
-at_most_one n (suc zero) low = omega arith
-at_most_one n (suc (suc x)) low = absurd (omega arith)
-
 le_product : (a n : ℕ) → 0 < n → a ≤ a * n
 le_product a zero some = absurd (omega arith)
 le_product a (suc n) some = let is : a * suc n ≡ a * n + a = mul-suc a n in omega (arith, is)
@@ -160,10 +149,6 @@ more_times (suc n) a b low =
 few_enough : (a b c : ℕ) → a ≤ b → b ≤ c → a ≤ c
 few_enough a b c low lower = omega (arith, low, lower)
 
-nothing_asked : (xs : List (List ℕ)) → AllByRecursion (λ x. Unit {0}) xs
-nothing_asked [] = tt
-nothing_asked (x ∷ xs) = (tt, nothing_asked xs)
-
 -- ---- the two tables
 
 module _ (left right times : ℕ) (values : Option Op) (lk lv rv : List ℕ) (are_lk : AreNumbers left lk) (are_lv : AreNumbers left lv) (are_rv : AreNumbers right rv) (some : 0 < times) (few_right : right ≤ 4000000) (few_left : left ≤ 4000000) where
@@ -172,9 +157,6 @@ module _ (left right times : ℕ) (values : Option Op) (lk lv rv : List ℕ) (ar
 
   abbrev q : Query
   q = join_of values
-
-  abbrev order : List ℕ
-  order = 0 ∷ 1 ∷ []
 
   abbrev conjuncts : List Conjunct
   conjuncts = conjuncts_of q (tables_of db)
@@ -239,32 +221,28 @@ module _ (left right times : ℕ) (values : Option Op) (lk lv rv : List ℕ) (ar
     outputs = All-from_recursion (λ out. IsColumnOf db out.column) q.select tt;
   }
 
-  pub is_order : IsOrderOf q order
-  unfolding IsDistinct
-  is_order = record { entries = (omega arith, (omega arith, tt)); once = ((refl, tt), (tt, tt)); all = refl }
-
   -- ---- how many rows there are
 
   scan_few : (entry : ℕ) → length (scan_of q db entry) ≤ row_counts (tables_of db) entry
-  scan_few entry = omega (arith, fewer (passes_own conjuncts entry) (range_with_len 0 (row_counts (tables_of db) entry)), length-range_with_len 0 (row_counts (tables_of db) entry))
+  scan_few entry =
+      let own : ℕ → Bool = passes_own conjuncts entry in
+      let rows : List ℕ = range_with_len 0 (row_counts (tables_of db) entry) in
+      omega (arith, length-filter own rows, count_by-le-length own rows, length-range_with_len 0 (row_counts (tables_of db) entry))
 
-  pub first_scan : length (scan_of q db 0) ≤ left
+  first_scan : length (scan_of q db 0) ≤ left
   first_scan = omega (arith, scan_few 0, rows_are db 0)
 
-  pub second_scan : length (scan_of q db 1) ≤ right
+  second_scan : length (scan_of q db 1) ≤ right
   second_scan = omega (arith, scan_few 1, rows_are db 1)
 
-  of_scans : All (IsOfScan conjuncts (row_counts (tables_of db)) (scan_of q db)) order
-  of_scans k d low = All-contains_itself (scan_of q db (get_or order k d))
+  abbrev scans : List (List ℕ)
+  scans = scans_of q (tables_of db)
 
-  pub first_level : length (listed_level q db (scan_of q db) order 1) ≤ left
-  first_level =
-      let above : List (List ℕ) = listed_level q db (scan_of q db) order 0 in
-      let next = next_joined q db (scan_of q db) order is_order 0 (omega arith) (of_scans 0 0 (omega arith)) in
-      let some_above : length above ≤ 1 = fewer (λ (choice : List ℕ). all_hold conjuncts [] (row_in [] choice)) ([] ∷ []) in
-      let few_all = few_each (completed_hold conjuncts [] 0) (scan_of q db 0) (length (scan_of q db 0)) (λ choice. Unit {0})
-      (λ choice p. omega (arith, fewer (completed_hold conjuncts [] 0) (map (λ row. choice ++ row ∷ []) (scan_of q db 0)), length-map (scan_of q db 0) (λ row. choice ++ row ∷ []))) above (nothing_asked above) in
-      omega (arith, ap (λ (s : List (List ℕ)). length s) next, few_all, at_most_one (length (scan_of q db 0)) (length above) some_above, first_scan)
+  scanned : (entry : ℕ) → entry < 2 → IsOfScan conjuncts (row_counts (tables_of db)) (list_at scans) entry
+  scanned entry low = of_scan q (tables_of db) scans (whole_of_scans q (tables_of db)) entry low
+
+  first_level : length (chosen_rows q (tables_of db) scans (0 ∷ [])) ≤ left
+  first_level = omega (arith, few_chosen q (tables_of db) scans 0, first_scan)
 
   -- a right row that is joined with a left row has the left row's key
   has_key : (x row : ℕ) → x < row_counts (tables_of db) 0 → row < row_counts (tables_of db) 1 → completed_hold conjuncts (0 ∷ []) 1 (x ∷ row ∷ []) ≡ true → eqb (get_or (each_repeated right times) row 0) (get_or lk x 0) ≡ true
@@ -274,8 +252,8 @@ module _ (left right times : ℕ) (values : Option Op) (lk lv rv : List ℕ) (ar
       let b : ColumnRef = col 1 0 in
       let key : JoinKey = record { conjunct = 0; left = a; right = b } in
       let is_key : IsKeyOf (0 ∷ []) (1 ∷ []) 0 (compared op.Eq 0) key = record { conjunct = refl; on_left = refl; on_right = refl; shape = inl refl } in
-      let between : is_between (0 ∷ []) (1 ∷ []) (compared op.Eq 0) ≡ true = (sides_between (0 ∷ []) (1 ∷ []) a b refl refl refl refl).0 in
-      let first : (not (is_between (0 ∷ []) (1 ∷ []) (compared op.Eq 0)) || cond_holds (tables_of db) row_of (compared op.Eq 0)) ≡ true = (and_parts _ _ hit).0 in
+      let between : spans_both_sides (0 ∷ []) (1 ∷ []) (compared op.Eq 0) ≡ true = (sides_between (0 ∷ []) (1 ∷ []) a b refl refl refl refl).0 in
+      let first : (not (spans_both_sides (0 ∷ []) (1 ∷ []) (compared op.Eq 0)) || cond_holds (tables_of db) row_of (compared op.Eq 0)) ≡ true = (and_parts _ _ hit).0 in
       let holds : cond_holds (tables_of db) row_of (compared op.Eq 0) ≡ true = ap (λ b. not b || cond_holds (tables_of db) row_of (compared op.Eq 0)) (sym between) ∙ first in
       let none : All IsUtf8 [] = All-from_recursion IsUtf8 [] tt in
       sym (key_holds db row_of (0 ∷ []) (1 ∷ []) 0 (compared op.Eq 0) key is_key fits.tables (λ i j d low high same. absurd (omega arith)) none (askable op.Eq 0 (omega arith)) (omega (arith, low_x, rows_are db 0)) (omega (arith, low_row, rows_are db 1))) ∙ holds
@@ -288,31 +266,51 @@ module _ (left right times : ℕ) (values : Option Op) (lk lv rv : List ℕ) (ar
       few_enough (length (filter (completed_hold conjuncts (0 ∷ []) 1) (map (λ row. (x ∷ []) ++ row ∷ []) (scan_of q db 1))))
       (length (filter (λ row. eqb (get_or (each_repeated right times) row 0) (get_or lk x 0)) (scan_of q db 1))) times
       (few_below (completed_hold conjuncts (0 ∷ []) 1) (λ row. eqb (get_or (each_repeated right times) row 0) (get_or lk x 0)) (λ row. row < row_counts (tables_of db) 1) (x ∷ []) (λ row low hit. has_key x row p.0 low hit)
-      (scan_of q db 1) (recursion_from_All (λ row. row < row_counts (tables_of db) 1) (scan_of q db 1) (scan_below conjuncts (row_counts (tables_of db)) 1 (scan_of q db 1) (of_scans 1 0 (omega arith)))))
+      (scan_of q db 1) (recursion_from_All (λ row. row < row_counts (tables_of db) 1) (scan_of q db 1) (scan_below conjuncts (row_counts (tables_of db)) 1 (scan_of q db 1) (scanned 1 (omega arith)))))
       (subst (λ (n : ℕ). length (filter (λ row. eqb (get_or (each_repeated right times) row 0) (get_or lk x 0)) (filter (passes_own conjuncts 1) (range_with_len 0 n))) ≤ times) (sym (rows_are db 1))
       (few_keys right times (get_or lk x 0) (passes_own conjuncts 1) some))
 
-  pub second_level : length (listed_level q db (scan_of q db) order 2) ≤ times * left
+  second_level : length (chosen_rows q (tables_of db) (scans_of q (tables_of db)) (0 ∷ 1 ∷ [])) ≤ times * left
   second_level =
-      let above : List (List ℕ) = listed_level q db (scan_of q db) order 1 in
-      let next = next_joined q db (scan_of q db) order is_order 1 (omega arith) (of_scans 1 0 (omega arith)) in
+      let above : List (List ℕ) = chosen_rows q (tables_of db) scans (0 ∷ []) in
+      let next : chosen_rows q (tables_of db) scans (0 ∷ 1 ∷ []) ≡ filter (completed_hold conjuncts (0 ∷ []) 1) (extended above (scan_of q db 1)) =
+      level_over_more conjuncts (list_at scans) (0 ∷ []) 1 (depend_on_named (tables_of db) q.conjuncts) refl
+      ∙ ap (λ (s : List ℕ). filter (completed_hold conjuncts (0 ∷ []) 1) (extended above s)) (own_kept conjuncts (row_counts (tables_of db)) 1 (scan_of q db 1) (scanned 1 (omega arith))) in
       let few_all = few_each (completed_hold conjuncts (0 ∷ []) 1) (scan_of q db 1) times (IsChoiceOf (row_counts (tables_of db)) (0 ∷ [])) below_choice above
-      (recursion_from_All (IsChoiceOf (row_counts (tables_of db)) (0 ∷ [])) above (placed_joined q db (scan_of q db) order is_order 1 (omega arith) of_scans)) in
+      (are_choices q db scans (whole_of_scans q (tables_of db)) (0 ∷ []) (omega arith, tt)) in
       let few_above : length above ≤ left = first_level in
       omega (arith, ap (λ (s : List (List ℕ)). length s) next, few_all, more_times times (length above) left few_above)
 
-  -- ---- the rooms
+  -- ---- the plan
 
-  abbrev scans : List (List ℕ)
-  scans = scans_of q (tables_of db)
+  abbrev plan : BushyPlan
+  plan = plan_of left right times
 
-  pub small : times * left ≤ 20000000 → All (λ rows. rows ≤ 20000000) (list_level_sizes q (tables_of db) (scans_of q (tables_of db)) order)
-  small most = All-from_recursion (λ rows. rows ≤ 20000000) (list_level_sizes q (tables_of db) scans order) (omega (arith, first_level, few_left), (omega (arith, second_level, most), tt))
+  is_tree : IsTreePlan 2 plan
+  is_tree = record { few = omega arith; scans = refl; joins = refl; behind = (omega arith, omega arith, tt); once = each_once }
+    where
+      each_once : (node : ℕ) → node < 2 → count_by (λ other. eqb other node) (0 ∷ 1 ∷ []) ≡ 1
+      each_once zero low = refl
+      each_once (suc zero) low = refl
+      each_once (suc (suc node)) low = absurd (omega arith)
 
-  pub has_rooms : (reserved : Reserved) → HasRooms (rooms order (left ∷ right ∷ []) (left ∷ times * left ∷ [])) reserved
-      → HasRooms (rooms order (list_sizes q (scans_of q (tables_of db))) (list_level_sizes q (tables_of db) (scans_of q (tables_of db)) order)) reserved
-  has_rooms reserved has =
-      less_room order (list_sizes q scans) (list_level_sizes q (tables_of db) scans order) (left ∷ right ∷ []) (left ∷ times * left ∷ []) reserved (first_scan, (second_scan, tt)) (first_level, (second_level, tt)) has
+  fits_buffers : times * left ≤ 20000000 → BoundsFitBuffers plan
+  fits_buffers few_joined = record {
+    all = record { scans = (omega arith, (omega arith, tt)); joins = (omega arith, tt) };
+    rights = (omega arith, tt);
+  }
 
-  pub has_lists : (buffers : List (Rows ℕ)) → AllZip IsRoomFor (left ∷ right ∷ []) buffers → AllZip IsRoomFor (list_sizes q (scans_of q (tables_of db))) buffers
-  has_lists buffers has = less_buffers (list_sizes q scans) (left ∷ right ∷ []) buffers (first_scan, (second_scan, tt)) has
+  scan_fits : (entry : ℕ) → entry < 2 → length (list_at scans entry) ≤ get_or plan.scans entry 0
+  scan_fits zero low = first_scan
+  scan_fits (suc zero) low = second_scan
+  scan_fits (suc (suc entry)) low = absurd (omega arith)
+
+  node_fits : (node : ℕ) → node < 3 → length (node_rows q (tables_of db) scans plan node) ≤ bound_at plan node
+  node_fits zero low = leaf_fits q (tables_of db) scans plan 2 is_tree scan_fits 0 (omega arith)
+  node_fits (suc zero) low = leaf_fits q (tables_of db) scans plan 2 is_tree scan_fits 1 (omega arith)
+  node_fits (suc (suc zero)) low = second_level
+  node_fits (suc (suc (suc node))) low = absurd (omega arith)
+
+  pub planned : times * left ≤ 20000000 → IsTreePlanOf (join_of values) (tables_of (tables_of_two (table_of left lk lv) (table_of right (each_repeated right times) rv)))
+      (scans_of (join_of values) (tables_of (tables_of_two (table_of left lk lv) (table_of right (each_repeated right times) rv)))) (plan_of left right times)
+  planned few_joined = record { for_each_entry = is_tree; small = fits_buffers few_joined; scans = scan_fits; nodes = node_fits }

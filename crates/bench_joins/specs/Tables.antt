@@ -1,5 +1,5 @@
--- Two tables that are joined, and the query over them.
-use Rattle.std.specs.Prelude.{◌≡◌, ℕ, ◌*◌, ◌/◌, ◌^◌, ◌<◌, List, [], ◌∷◌, All, Option, Some, None, length, map}
+-- Two tables that are joined, the query that joins them, and its plan.
+use Rattle.std.specs.Prelude.{◌≡◌, ℕ, ◌*◌, ◌/◌, ◌^◌, ◌<◌, ◌≤◌, List, [], ◌∷◌, All, Option, Some, None, length, map}
 use Rattle.std.specs.List.{range_with_len}
 use Rattle.schema_types.specs.declared.types.Kind.TheVariants as kind
 use Rattle.csv_tables.specs.declared.types.Cells.{Cells}
@@ -9,7 +9,7 @@ use Rattle.query_grammar.specs.declared.tree.Op.TheVariants as op
 use Rattle.query_types.specs.declared.types.Operand.TheVariants as operand
 use Rattle.query_types.specs.declared.types.Cond.{Cond, Compare}
 use Rattle.query_types.specs.declared.types.Query.{Query}
-use Rattle.reserve_plan.specs.Rooms.{rooms, Rooms}
+use Rattle.tree_plans.specs.declared.bushy.BushyPlan.{BushyPlan}
 
 abbrev pub compared : Op → ℕ → Cond
 compared op number = Compare op (operand.Column (record { from = 0; column = number }))
@@ -20,7 +20,7 @@ abbrev pub values_compared : Option Op → List Cond
 values_compared None = []
 values_compared (Some operator) = compared operator 1 ∷ []
 
--- the query FROM L, R WHERE L.K = R.K; with an operator it goes on with AND and the comparison of L.V with R.V
+-- the query FROM L, R WHERE L.K = R.K. With an operator it goes on with AND and the comparison of L.V with R.V
 abbrev pub join_of : Option Op → Query
 join_of values = record {
   from = record { table = 0; alias = [] } ∷ record { table = 1; alias = [] } ∷ [];
@@ -66,6 +66,24 @@ pub record AreTwo (left right times : ℕ) (db : Database) : Type 0 where
   pub is_first : IsTable left first
   pub is_second : HasRepeated right times second
 
--- the rooms for both scans, and for a join that has at most `times` rows for each row of the left table
-abbrev pub rooms_for : ℕ → ℕ → ℕ → Rooms
-rooms_for left right times = rooms (0 ∷ 1 ∷ []) (left ∷ right ∷ []) (left ∷ times * left ∷ [])
+-- the plan of the query. The join has at most `times` rows for each row of the left table
+abbrev pub plan_of : ℕ → ℕ → ℕ → BushyPlan
+plan_of left right times = record {
+  joins = record { left = 0; right = 1; bound = times * left } ∷ [];
+  scans = left ∷ right ∷ [];
+  cost = times * left;
+}
+
+-- two tables, the query that joins them, and its plan. Their sizes are within the limits of tables and plans
+pub record IsJoinOfTwo (plan : BushyPlan) (query : Query) (db : Database) : Type 0 where
+  pub left : ℕ
+  pub right : ℕ
+  pub times : ℕ
+  pub values : Option Op
+  pub is_plan : plan ≡ plan_of left right times
+  pub is_query : query ≡ join_of values
+  pub are_two : AreTwo left right times db
+  pub some : 0 < times
+  pub few_left : left ≤ 4000000
+  pub few_right : right ≤ 4000000
+  pub few_joined : times * left ≤ 20000000

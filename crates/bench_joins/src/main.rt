@@ -1,30 +1,36 @@
-//! Measures the proved code of hash_join; bench/joins.rs measures plain Rust for the same work.
+//! Measures the proved code of bushy_join; bench/joins.rs measures plain Rust for the same work.
 //!
-//! The program joins pairs of tables, and writes for each pair how many rows the join has and a checksum of their row numbers. Without an argument
-//! the tables are small. With an argument, say `time`, they have up to 1,000,000 rows, and the program also writes to standard error the nanoseconds
+//! The program joins pairs of tables. For each pair it writes how many rows the join has, and a checksum of their row numbers. Without an argument
+//! the tables are small. With an argument, say `time`, they have up to 1,000,000 rows. The program then also writes to standard error the nanoseconds
 //! of the fastest of three executions.
 #![tactic(auto)]
 
-ghost use Rattle.std.specs.Prelude.{◌≡◌, ◌*◌, ◌<◌, ◌≤◌, [], ◌∷◌, IfOk, length};
+ghost use Rattle.std.specs.Prelude.{◌≡◌, ◌*◌, ◌<◌, ◌≤◌, [], ◌∷◌, length};
 ghost use Rattle.std.specs.List.{AllZip};
-ghost use Rattle.reserve_plan.specs.Rooms.{HasRooms, IsRoomFor};
-ghost use Rattle.bench_joins.specs.Tables.{join_of, rooms_for, AreTwo};
+ghost use Rattle.reserve_plan.specs.Rooms.{IsRoomFor};
+ghost use Rattle.tree_rows.specs.Nodes.{node_at};
+ghost use Rattle.tree_rows.specs.Rooms.{HasTreeRooms};
+ghost use Rattle.bench_joins.specs.Tables.{IsJoinOfTwo};
 
 mod tables;
 
 use base_io::NoMemory;
+use bushy_join::execute_bushy;
 use csv_tables::Database;
-use hash_join::execute;
 use join_steps::scan_all;
-use link_index::RowForest;
 use query_types::{Op, Query};
-use reserve_plan::{Reserved, reserve, row_buffers};
+use reserve_plan::row_buffers;
 use row_buf::RowBuf;
 use std::alloc::Global;
 use std::rt::Clock;
 use std::time::Instant;
 use std::{env, io};
-use tables::{Sizes, database, query};
+use tables::{Sizes, database, plan, query};
+use tree_plans::BushyPlan;
+use tree_rows::{BushyReserved, BushyResult, reserve_bushy};
+
+// The node that joins the tables. The tables themselves are nodes 0 and 1.
+const ROOT: u8 = 2;
 
 const ROUNDS: u32 = 3;
 
@@ -40,14 +46,15 @@ struct Joined {
     sum: u64,
 }
 
-fn summed(executed: &RowForest) -> Joined
-    requires { length executed.now ≡ 2 }
+fn summed(done: &BushyResult) -> Joined
+    requires nodes { length done.now.nodes ≡ 3 }
+    requires entries { (node_at done.now.nodes ROOT).entries ≡ 0 ∷ 1 ∷ [] }
 {
-    let rows = executed.len(1);
+    let rows = done.len(ROOT);
     let mut sum: u64 = 0;
     for i in 0..rows {
         let mut choice = [0, 0];
-        executed.rows_of(1, i, &mut choice);
+        done.rows_of(ROOT, i, &mut choice);
         sum = sum.wrapping_add(u64::from(choice[0]) ^ u64::from(choice[1]));
     }
     Joined {
@@ -57,72 +64,39 @@ fn summed(executed: &RowForest) -> Joined
     }
 }
 
-// Lists with room for the scans.
-fn lists_for(alloc: Global, sizes: Sizes) -> Result<Vec<RowBuf<u32>>, NoMemory>
-    ensures { IfOk result (λ lists. AllZip IsRoomFor (sizes.left ∷ sizes.right ∷ []) lists.items) }
-{
-    row_buffers(alloc, &[sizes.left as u64, sizes.right as u64])
-}
-
-// Buffers with room for the join. The right table has each key at most `times` times, so each row of the left table is joined with at most `times`
-// rows.
-fn reserved_for(alloc: Global, sizes: Sizes) -> Result<Reserved, NoMemory>
-    requires left { sizes.left ≤ 4000000 }
-    requires right { sizes.right ≤ 4000000 }
-    requires joined { sizes.times * sizes.left ≤ 20000000 }
-    ensures { IfOk result (HasRooms (rooms_for sizes.left sizes.right sizes.times)) }
-{
-    let left = sizes.left as u64;
-    let right = sizes.right as u64;
-    let most = sizes.times as u64 * left;
-    reserve(alloc, &[0, 1], &[left, right], &[left, most])
-}
-
 // Times the scans and their join. The memory for them was reserved before.
 fn execution(
     rt: &impl Clock,
     mut lists: Vec<RowBuf<u32>>,
-    reserved: Reserved,
-    sizes: Sizes,
-    values: Option<Op>,
+    reserved: BushyReserved,
+    plan: &BushyPlan,
     query: &Query,
     db: &Database,
 ) -> io::Result<Joined>
-    requires query { query.now ≡ join_of values }
-    requires db { AreTwo sizes.left sizes.right sizes.times db.now }
-    requires some { 0 < sizes.times }
-    requires left { sizes.left ≤ 4000000 }
-    requires right { sizes.right ≤ 4000000 }
-    requires joined { sizes.times * sizes.left ≤ 20000000 }
-    requires lists { AllZip IsRoomFor (sizes.left ∷ sizes.right ∷ []) lists.items }
-    requires rooms { HasRooms (rooms_for sizes.left sizes.right sizes.times) reserved }
+    requires join { IsJoinOfTwo plan.now query.now db.now }
+    requires lists { AllZip IsRoomFor plan.now.scans lists.items }
+    requires rooms { HasTreeRooms plan.now reserved }
 {
     let start = Instant::now(rt)?;
     scan_all(query, db, lists.as_mut_slice());
-    let executed = execute(reserved, lists.as_slice(), &[0, 1], query, db);
+    let done = execute_bushy(reserved, lists, plan, query, db);
     let nanos = start.elapsed(rt)?.as_nanos();
-    let Joined { rows, sum, .. } = summed(&executed.levels);
+    let Joined { rows, sum, .. } = summed(&done);
     Ok(Joined { nanos, rows, sum })
 }
 
 fn timed(
     rt: &impl Clock,
     alloc: Global,
-    sizes: Sizes,
-    values: Option<Op>,
+    plan: &BushyPlan,
     query: &Query,
     db: &Database,
 ) -> io::Result<Joined>
-    requires query { query.now ≡ join_of values }
-    requires db { AreTwo sizes.left sizes.right sizes.times db.now }
-    requires some { 0 < sizes.times }
-    requires left { sizes.left ≤ 4000000 }
-    requires right { sizes.right ≤ 4000000 }
-    requires joined { sizes.times * sizes.left ≤ 20000000 }
+    requires { IsJoinOfTwo plan.now query.now db.now }
 {
-    let lists = lists_for(alloc, sizes).map_err(out_of_memory)?;
-    let reserved = reserved_for(alloc, sizes).map_err(out_of_memory)?;
-    execution(rt, lists, reserved, sizes, values, query, db)
+    let lists = row_buffers(alloc, plan.scans.as_slice()).map_err(out_of_memory)?;
+    let reserved = reserve_bushy(alloc, plan).map_err(out_of_memory)?;
+    execution(rt, lists, reserved, plan, query, db)
 }
 
 // The fastest of several executions.
@@ -140,9 +114,10 @@ fn least_of(
 {
     let db = database(alloc, sizes).map_err(out_of_memory)?;
     let query = query(alloc, values).map_err(out_of_memory)?;
-    let mut least = timed(rt, alloc, sizes, values, &query, &db)?;
+    let plan = plan(alloc, sizes).map_err(out_of_memory)?;
+    let mut least = timed(rt, alloc, &plan, &query, &db)?;
     for _ in 1..rounds {
-        let next = timed(rt, alloc, sizes, values, &query, &db)?;
+        let next = timed(rt, alloc, &plan, &query, &db)?;
         if next.nanos < least.nanos {
             least = next;
         }
@@ -150,7 +125,7 @@ fn least_of(
     Ok(least)
 }
 
-// A name, the numbers of rows of the left and the right table, how often the right table has each key, and the operator that compares values, if any.
+// A name, the row counts of the left and the right table, and how often the right table has each key. Then the operator that compares values, if any.
 #[derive(Clone, Copy)]
 struct Case<'a>(&'a str, u32, u32, u32, Option<Op>);
 

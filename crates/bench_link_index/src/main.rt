@@ -1,8 +1,8 @@
 //! Measures the proved code of link_index; bench/link_index.rs measures plain Rust for the same work.
 //!
 //! Without an argument the program makes the calls over 1,000 keys, and writes a checksum of their results. With an argument it makes them over
-//! 4,000,000 keys. Then it also writes to standard error the nanoseconds that `load`, `first` and `after` took for all keys, each the least of five
-//! rounds.
+//! 4,000,000 keys. Then it also writes to standard error the nanoseconds that `load`, `first` and `after` took for all keys. Each is the least of
+//! five rounds.
 #![tactic(auto)]
 
 ghost use Rattle.std.specs.Prelude.{◌≡◌, ◌<◌, ◌≤◌, length, vec_len, IfOk};

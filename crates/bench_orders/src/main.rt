@@ -1,7 +1,7 @@
 //! Measures the proved code of order_search and bushy_plan; bench/orders.rs and bench/bushy.rs measure plain Rust for the same work.
 //!
 //! The program chooses orders of twelve entries for several kinds of bounds, then join trees for these bounds, and writes what it chose. With an
-//! argument it also writes to standard error the nanoseconds of each choice: the least of 50 for an order, and of 10 for a tree.
+//! argument it also writes to standard error the nanoseconds of each choice. They are the least of 50 for an order, and of 10 for a tree.
 #![tactic(auto)]
 
 ghost use Rattle.std.specs.Prelude.{◌≡◌, ◌<◌, length, replicate, vec_len, IfOk};
@@ -14,7 +14,7 @@ use std::alloc::{AllocError, Global};
 use std::time::Instant;
 use std::{env, io};
 
-// What is chosen.
+// Whether an order or a join tree is chosen.
 #[derive(Clone, Copy)]
 enum PlanKind {
     Order,

@@ -1,9 +1,10 @@
 //! Measures the proved code of reduced_scans; bench/reduce.rs measures plain Rust for the same work.
 //!
 //! The program reduces the scans of two queries. The first is a chain of three tables, in which one row in a hundred stays. The second is a cycle of
-//! two tables, in which one row after another is dropped. For each query the program writes how many rows stay and the sum of their numbers. Without
-//! an argument the tables are small. With an argument, say `time`, the chain has three tables of 1,000,000 rows, and the cycle has 250,000 rows in
-//! all, then 500,000, then 1,000,000. The program also writes to standard error the nanoseconds of scans and reduction together, the least of three.
+//! two tables, in which one row after another is dropped. For each query the program writes how many rows stay and the sum of their row numbers.
+//! Without an argument the tables are small. With an argument, say `time`, the chain has three tables of 1,000,000 rows. The cycle has 250,000
+//! rows in all, then 500,000, then 1,000,000. The program then also writes to standard error the nanoseconds of scans and reduction together, the
+//! least of three.
 #![tactic(auto)]
 
 ghost use Rattle.std.specs.Prelude.{◌≤◌};

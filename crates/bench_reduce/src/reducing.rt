@@ -15,7 +15,7 @@ use std::alloc::Global;
 use std::rt::Clock;
 use std::time::Instant;
 
-/// How long scans and reduction took, in nanoseconds, how many rows stay, and the sum of their numbers.
+/// How long scans and reduction took, in nanoseconds, how many rows stay, and the sum of their row numbers.
 #[derive(Clone, Copy)]
 pub(crate) struct Reduced {
     pub nanos: u128,

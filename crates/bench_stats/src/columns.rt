@@ -1,31 +1,31 @@
-//! The columns that are measured. bench/stats.rs makes the same columns.
+//! The columns from which the benchmark makes statistics. bench/stats.rs makes the same columns.
 use base_io::NoMemory;
 use csv_tables::Pool;
 use std::alloc::Global;
 
 /// The values of a filter column: ten numbers, numbers that are all different, or a thousand texts.
 #[derive(Clone, Copy)]
-pub enum Filter {
+pub enum FilterKind {
     Ten,
     Different,
     Texts,
 }
 
-impl Filter {
+impl FilterKind {
     pub fn name(self) -> &'static str {
         match self {
-            Filter::Ten => "ten",
-            Filter::Different => "different",
-            Filter::Texts => "texts",
+            FilterKind::Ten => "ten",
+            FilterKind::Different => "different",
+            FilterKind::Texts => "texts",
         }
     }
 
-    // The cell that is made of random bits.
+    // Makes a cell from random bits.
     fn cell(self, bits: u64) -> u64 {
         match self {
-            Filter::Ten => bits % 10,
-            Filter::Different => bits,
-            Filter::Texts => bits % 1000,
+            FilterKind::Ten => bits % 10,
+            FilterKind::Different => bits,
+            FilterKind::Texts => bits % 1000,
         }
     }
 }
@@ -46,7 +46,7 @@ impl Random {
 }
 
 // A key of a random length of 0 to 21 bits. Small keys are frequent and large ones are rare, so keys repeat about as unevenly as words of a text.
-fn unequal(bits: u64) -> u64 {
+fn skewed_key(bits: u64) -> u64 {
     (bits & 0xffff_ffff) >> (32 - (bits >> 58u32) % 22)
 }
 
@@ -58,7 +58,7 @@ pub struct Pair {
 }
 
 /// `rows` rows with a filter column of this kind, the same in every run.
-pub fn pair_of(alloc: Global, kind: Filter, rows: u32) -> Result<Pair, NoMemory> {
+pub fn pair_of(alloc: Global, kind: FilterKind, rows: u32) -> Result<Pair, NoMemory> {
     let mut random = Random {
         state: 88172645463325252,
     };
@@ -66,7 +66,7 @@ pub fn pair_of(alloc: Global, kind: Filter, rows: u32) -> Result<Pair, NoMemory>
     let mut joined = Vec::new(alloc);
     for _ in 0..rows {
         filter.push(kind.cell(random.next()))?;
-        joined.push(unequal(random.next()))?;
+        joined.push(skewed_key(random.next()))?;
     }
     Ok(Pair { filter, joined })
 }

@@ -1,8 +1,8 @@
 //! Measures the proved code of column_stats and cond_stats; bench/stats.rs measures plain Rust for the same work.
 //!
-//! The program makes all lists of a pair of columns at once, and then the lists of one value and of one range on demand. For both it writes how many
-//! runs the lists have. Without an argument the columns have 100 rows. With an argument, say `time`, they have 1,000,000 rows, and the program also
-//! writes to standard error the nanoseconds of each, the least of three.
+//! The program makes all lists of a pair of columns at once, and then the lists of one value and of one range on demand. Each time it writes how many
+//! runs these lists have. Without an argument the columns have 100 rows. With an argument, say `time`, they have 1,000,000 rows. The program then
+//! also writes to standard error the nanoseconds of each of the two parts, the least of three.
 #![tactic(auto)]
 
 ghost use Rattle.std.specs.Prelude.{◌≡◌, ◌<◌, ◌^◌, length, IfOk};
@@ -11,12 +11,12 @@ ghost use Rattle.column_stats.specs.Pairs.{HasColumn};
 mod columns;
 
 use base_io::NoMemory;
-use column_stats::{ColumnStats, gather};
-use columns::{Filter, Pair, pair_of, texts};
+use column_stats::ColumnStats;
+use columns::{FilterKind, Pair, pair_of, texts};
 use cond_stats::FilterColumn;
 use csv_tables::{Cells, Pool};
 use limits::Accuracy;
-use pair_tables::{are_cells, table_of_pair};
+use pair_tables::{are_cells, gather, table_of_pair};
 use piece_math::Pieces;
 use schema_types::Kind;
 use std::alloc::Global;
@@ -46,7 +46,7 @@ fn runs_of(stats: &ColumnStats) -> u64 {
     all
 }
 
-// A column of a kind, sorted. The error is `NoMemory` too if a cell isn't of this kind or there are more than 4,000,000 cells.
+// A column of a kind, sorted. Invalid cells give the error `NoMemory` too: a cell that isn't of this kind, or more than 4,000,000 cells.
 fn sorted<'a>(
     alloc: Global,
     pool: &'a Pool,
@@ -61,7 +61,7 @@ fn sorted<'a>(
     FilterColumn::new(alloc, pool, kind, cells)
 }
 
-// How many runs two lists have: the list of the value of the middle row, and the list of the range from leaf 8 to leaf 15.
+// How many runs two lists have together: the list of the middle row's value, and the list of the range from leaf 8 to leaf 15.
 fn on_demand(alloc: Global, pool: &Pool, kind: Kind, pair: &Pair) -> Result<u64, NoMemory> {
     let cells = pair.filter.as_slice();
     let joined = pair.joined.as_slice();
@@ -136,10 +136,10 @@ fn measure_demand(
     report(rt, plan, name, "-demand", runs, least)
 }
 
-fn measure_pair(rt: &HostRuntime, plan: Plan, pool: &Pool, filter: Filter) -> io::Result<()> {
+fn measure_pair(rt: &HostRuntime, plan: Plan, pool: &Pool, filter: FilterKind) -> io::Result<()> {
     let kind = match filter {
-        Filter::Ten | Filter::Different => Kind::Int,
-        Filter::Texts => Kind::Text(8),
+        FilterKind::Ten | FilterKind::Different => Kind::Int,
+        FilterKind::Texts => Kind::Text(8),
     };
     let pair = pair_of(rt.alloc(), filter, plan.rows).map_err(out_of_memory)?;
     let cells = table_of_pair(
@@ -169,7 +169,7 @@ fn main(rt: HostRuntime) -> io::Result<()> {
         }
     };
     let pool = texts(rt.alloc()).map_err(out_of_memory)?;
-    for filter in [Filter::Ten, Filter::Different, Filter::Texts] {
+    for filter in [FilterKind::Ten, FilterKind::Different, FilterKind::Texts] {
         measure_pair(&rt, plan, &pool, filter)?;
     }
     Ok(())

@@ -25,7 +25,7 @@ impl Source {
     }
 }
 
-// Random bits, and how many different texts there were.
+// Random bits, and how many different texts the file has so far.
 #[derive(Clone, Copy)]
 struct State {
     bits: u64,

@@ -1,4 +1,4 @@
--- An entry is in two lists put together (`xs ++ ys`) exactly if it is in one of them. The code tests the first list, and then the second one.
+-- An entry is in the list `xs ++ ys` exactly if it is in `xs` or in `ys`. The code tests `xs` first, and then `ys`.
 use Rattle.std.proofs.Common.{◌≡◌, ◌≢◌, ℕ, Bool, true, false, eqb, List, [], ◌∷◌, ◌++◌, refl, ap, sym, ◌∙◌, inl, inr}
 use Rattle.std.specs.Prelude.{◌||◌}
 use Rattle.std.proofs.lemmas.Bool.{cases_Bool, eqb-true}

@@ -17,7 +17,7 @@ use Rattle.berge_tree.specs.Equalities.{places_of}
 use Rattle.berge_tree.specs.Rooted.{class_columns, AreItsColumns, FollowsBelow, IsTreeOf, AreAllTreesOf, roots}
 use Rattle.berge_tree.proofs.NoCycle.{has_no_cycle, ends_differ}
 use Rattle.berge_tree.specs.Equalities.{ClosesNoCycle, AreWithin}
-use Rattle.berge_tree.specs.Walk.{AreColumnsOf, walked, tree_at, is_among, forest}
+use Rattle.berge_tree.specs.Walk.{AreSortedColumnsOf, classes_below, tree_at, is_among, forest}
 use Rattle.berge_tree.proofs.Steps.{are_same, root_reached}
 use Rattle.berge_tree.proofs.Separate.{Distinct, all_append, all_map, later_above, pairs_tail, once_tree, one_side, pairs_from}
 use Rattle.berge_tree.proofs.Closed.{named, closed_tree}
@@ -70,8 +70,8 @@ within_place set (e ∷ es) h p k = elim (one_in e.left (e.right ∷ places_of e
   ]
 ]
 
-module _ (es : List Edge) (closes : ClosesNoCycle es) (columns : List Column) (are : AreColumnsOf es columns) (set : List ℕ) (n : ℕ) (inside : AreWithin set es) (low : AllByRecursion (λ x. x < n) set) where
-  pub follows : (x : ℕ) → Contains set x → AreItsColumns es x None (class_columns (walked n columns x None)) × FollowsBelow es x (walked n columns x None)
+module _ (es : List Edge) (closes : ClosesNoCycle es) (columns : List Column) (are : AreSortedColumnsOf es columns) (set : List ℕ) (n : ℕ) (inside : AreWithin set es) (low : AllByRecursion (λ x. x < n) set) where
+  pub follows : (x : ℕ) → Contains set x → AreItsColumns es x None (class_columns (classes_below n columns x None)) × FollowsBelow es x (classes_below n columns x None)
   follows x k =
       walked_follows es (has_no_cycle es closes) (ends_differ [] es closes) columns are n (λ p m. each (λ y. y < n) set low p.entry (within_place set es inside p m)) n [] x None (root_reached (class_of es) x) tt tt
       (each (λ y. y < n) set low x k) (omega arith)
@@ -131,7 +131,7 @@ module _ (es : List Edge) (closes : ClosesNoCycle es) (columns : List Column) (a
       E : List ℕ
       E = entries t
 
-      f : AreItsColumns es x None (class_columns (walked n columns x None)) × FollowsBelow es x (walked n columns x None)
+      f : AreItsColumns es x None (class_columns (classes_below n columns x None)) × FollowsBelow es x (classes_below n columns x None)
       f = follows x x_in
 
       off_done : (e : ℕ) → Contains E e → Contains done e → ⊥

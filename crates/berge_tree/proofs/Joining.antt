@@ -1,4 +1,4 @@
--- Columns of one class are joined by the equalities.
+-- Columns in the same class are joined by the equalities.
 use Rattle.std.proofs.Common.{◌≡◌, ℕ, List, [], ◌∷◌, true, false, refl, ap, subst, sym, ◌∙◌, inl, inr}
 use Rattle.std.specs.List.{AllByRecursion}
 use Rattle.std.proofs.lemmas.Bool.{cases_Bool}

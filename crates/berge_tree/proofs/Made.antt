@@ -1,5 +1,5 @@
--- The walk makes a tree that follows the equalities. Below an entry are its classes except the one above it, and below a class are its entries
--- except the one above it.
+-- The walk makes a tree that follows the equalities. Below an entry are its classes, except the class above it. Below a class are its entries, except
+-- the entry above it.
 use Rattle.std.proofs.Common.{◌≡◌, ◌≢◌, ℕ, Bool, true, false, not, eqb, List, [], ◌∷◌, ◌+◌, ◌<◌, ◌≤◌, zero, suc, length, map, arith, refl, ap, sym, ◌∙◌, subst, inl, inr, Option, Some, None}
 use Rattle.std.specs.Prelude.{filter}
 use Rattle.std.specs.List.{Contains, AllByRecursion, IsDistinct, list_any}
@@ -13,7 +13,7 @@ use Rattle.berge_tree.specs.declared.columns.Column.{Column}
 use Rattle.berge_tree.specs.Trees.{Classes, Members, one_member, and_member}
 use Rattle.berge_tree.specs.Equalities.{place, same_place, merged, classes_from, class_of, places_of, HasNoCycle}
 use Rattle.berge_tree.specs.Rooted.{class_columns, member_places, member_entries, AreItsColumns, AreItsOthers, FollowsBelow, FollowsWithin}
-use Rattle.berge_tree.specs.Walk.{is_before, Ascend, AreColumnsOf, is_above, is_column_below, is_other_of_class, joined_members, members_with, classes_with, walked, HaveOthers}
+use Rattle.berge_tree.specs.Walk.{is_before, Ascend, AreSortedColumnsOf, is_column_above, is_column_below, is_other_of_class, joined_members, members_with, classes_with, classes_below, HaveOthers}
 use Rattle.berge_tree.proofs.NoCycle.{same_place-true}
 use Rattle.berge_tree.proofs.Joining.{keeps, joins}
 use Rattle.berge_tree.proofs.Steps.{same_place-is, none_some, IsReached, avoided, step}
@@ -46,7 +46,7 @@ another_one (e ∷ es) h d p k = elim (one_in e.left (e.right ∷ places_of es) 
   ]
 ]
 
--- ---- sorted lists
+-- ---- properties of sorted lists that a filter keeps
 
 filter_all : (Q : Column → Type 0) (test : Column → Bool) (cs : List Column) → AllByRecursion Q cs → AllByRecursion Q (filter test cs)
 filter_all Q test [] h = tt
@@ -150,9 +150,9 @@ map_map : (cs : List Column) → map (λ (p : Place). p.entry) (map (λ (c : Col
 map_map [] = refl
 map_map (c ∷ cs) = ap (λ xs. c.place.entry ∷ xs) (map_map cs)
 
--- ---- what it means that a test is true or false
+-- ---- true and false results of the walk's tests
 
-above_false : (above : Option ℕ) (c : ℕ) → is_above above c ≡ false → above ≢ Some c
+above_false : (above : Option ℕ) (c : ℕ) → is_column_above above c ≡ false → above ≢ Some c
 above_false None c e f = none_some c f
 above_false (Some a) c e f = false≢true (sym e ∙ eq-eqb a c (of_some a c f))
   where
@@ -166,24 +166,24 @@ above_false (Some a) c e f = false≢true (sym e ∙ eq-eqb a c (of_some a c f))
         refl_a : a ≡ a
         refl_a = refl
 
-above_not : (above : Option ℕ) (c : ℕ) → above ≢ Some c → is_above above c ≡ false
+above_not : (above : Option ℕ) (c : ℕ) → above ≢ Some c → is_column_above above c ≡ false
 above_not None c e = refl
 above_not (Some a) c e = elim (cases_Bool (eqb a c)) [ inl t ↦ absurd (e (ap (λ (n : ℕ). Some n) (eqb-true a c t))) | inr n ↦ n ]
 
-module _ (es : List Edge) (nc : HasNoCycle (class_of es)) (differ : Differ es) (columns : List Column) (are : AreColumnsOf es columns) where
+module _ (es : List Edge) (nc : HasNoCycle (class_of es)) (differ : Differ es) (columns : List Column) (are : AreSortedColumnsOf es columns) where
   at_some : (y : ℕ) (above : Option ℕ) (c : Column) → Contains (filter (is_column_below y above) columns) c → Contains columns c × (c.place.entry ≡ y) × (above ≢ Some c.place.column)
   at_some y above c k =
       let g : Contains columns c × (is_column_below y above c ≡ true) = filter_some (is_column_below y above) columns c k in
-      let t : (eqb c.place.entry y ≡ true) × (not (is_above above c.place.column) ≡ true) = and_parts (eqb c.place.entry y) (not (is_above above c.place.column)) g.1 in
-      (g.0, eqb-true c.place.entry y t.0, above_false above c.place.column (not-true (is_above above c.place.column) t.1))
+      let t : (eqb c.place.entry y ≡ true) × (not (is_column_above above c.place.column) ≡ true) = and_parts (eqb c.place.entry y) (not (is_column_above above c.place.column)) g.1 in
+      (g.0, eqb-true c.place.entry y t.0, above_false above c.place.column (not-true (is_column_above above c.place.column) t.1))
 
   at_all : (y : ℕ) (above : Option ℕ) (p : Place) → Contains (places_of es) p → p.entry ≡ y → above ≢ Some p.column → Has (filter (is_column_below y above) columns) p
   at_all y above p k at off =
       let h : Has columns p = are.all p k in (
         h.0,
         filter_in (is_column_below y above) columns h.0 h.1
-            (and_from (eqb h.0.place.entry y) (not (is_above above h.0.place.column)) (eq-eqb h.0.place.entry y (ap (λ (u : Place). u.entry) h.2 ∙ at))
-            (not_from_false (is_above above h.0.place.column) (above_not above h.0.place.column (λ is. off (is ∙ ap (λ (u : Place). Some u.column) h.2))))),
+            (and_from (eqb h.0.place.entry y) (not (is_column_above above h.0.place.column)) (eq-eqb h.0.place.entry y (ap (λ (u : Place). u.entry) h.2 ∙ at))
+            (not_from_false (is_column_above above h.0.place.column) (above_not above h.0.place.column (λ is. off (is ∙ ap (λ (u : Place). Some u.column) h.2))))),
         h.2,
       )
 
@@ -276,7 +276,7 @@ classes_made es y members (c ∷ cs) at good =
     let c_is : c.place ≡ place y c.place.column = by_parts c.place (place y c.place.column) (at c (in_front c cs c refl)) refl in
     rw g.is (ap (λ ns. c.place.column ∷ ns) rest.0, (subst (λ u. AreItsOthers es u g.members) c_is g.others, g.follows, rest.1))
 
--- ---- the depth is enough
+-- ---- a depth of sixteen is enough
 
 apart : (x : ℕ) (xs : List ℕ) → AllByRecursion (λ y. x ≢ y) xs → AllByRecursion (λ y. eqb x y ≡ false) xs
 apart x [] h = tt
@@ -301,15 +301,15 @@ not_in : (y : ℕ) (xs : List ℕ) → (Contains xs y → ⊥) → AllByRecursio
 not_in y [] h = tt
 not_in y (x ∷ xs) h = (λ is. h (in_front x xs y is), not_in y xs (λ k. h (in_rest x xs y k)))
 
-module _ (es : List Edge) (nc : HasNoCycle (class_of es)) (differ : Differ es) (columns : List Column) (are : AreColumnsOf es columns) (n : ℕ) (small : (p : Place) → Contains (places_of es) p → p.entry < n) where
+module _ (es : List Edge) (nc : HasNoCycle (class_of es)) (differ : Differ es) (columns : List Column) (are : AreSortedColumnsOf es columns) (n : ℕ) (small : (p : Place) → Contains (places_of es) p → p.entry < n) where
   level : (depth : ℕ) (y : ℕ) (above : Option ℕ)
       → ((c : Column) → Contains columns c → c.place.entry ≡ y → above ≢ Some c.place.column → (d : Column) → Contains columns d → class_of es c.place ≡ class_of es d.place → d.place ≢ c.place
-      → AreItsColumns es d.place.entry (Some d.place.column) (class_columns (walked depth columns d.place.entry (Some d.place.column))) × FollowsBelow es d.place.entry (walked depth columns d.place.entry (Some d.place.column)))
-      → AreItsColumns es y above (class_columns (walked (suc depth) columns y above)) × FollowsBelow es y (walked (suc depth) columns y above)
+      → AreItsColumns es d.place.entry (Some d.place.column) (class_columns (classes_below depth columns d.place.entry (Some d.place.column))) × FollowsBelow es d.place.entry (classes_below depth columns d.place.entry (Some d.place.column)))
+      → AreItsColumns es y above (class_columns (classes_below (suc depth) columns y above)) × FollowsBelow es y (classes_below (suc depth) columns y above)
   level depth y above deeper = (subst (AreItsColumns es y above) (sym all.0) (its_columns es nc differ columns are y above), all.1)
     where
       below : Column → Classes
-      below d = walked depth columns d.place.entry (Some d.place.column)
+      below d = classes_below depth columns d.place.entry (Some d.place.column)
 
       members : Column → Option Members
       members c = members_with below (filter (is_other_of_class c) columns)
@@ -336,9 +336,9 @@ module _ (es : List Edge) (nc : HasNoCycle (class_of es)) (differ : Differ es) (
   less_left : (k depth : ℕ) → n ≤ k + suc depth → n ≤ suc k + depth
   less_left k depth h = omega (arith, h)
 
-  -- each step down the walk goes to an entry that isn't yet above, so `depth` is never used up
+  -- each step of the walk leads to an entry that isn't among the entries above it, so `depth` is never used up
   pub walked_follows : (depth : ℕ) (P : List ℕ) (y : ℕ) (above : Option ℕ) → IsReached (class_of es) P y above → Distinct P → AllByRecursion (λ x. x < n) P → y < n → n ≤ length P + depth
-      → AreItsColumns es y above (class_columns (walked depth columns y above)) × FollowsBelow es y (walked depth columns y above)
+      → AreItsColumns es y above (class_columns (classes_below depth columns y above)) × FollowsBelow es y (classes_below depth columns y above)
   walked_follows zero P y above reached d low y_low enough =
       absurd (short (length P) (few n (y ∷ P) (not_in y P (avoided (class_of es) P y above reached), d) (y_low, low)) enough)
   walked_follows (suc depth) P y above reached d low y_low enough =

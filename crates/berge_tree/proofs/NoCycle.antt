@@ -6,7 +6,7 @@ use Rattle.berge_tree.specs.declared.edges.Place.{Place}
 use Rattle.berge_tree.specs.declared.edges.Edge.{Edge}
 use Rattle.berge_tree.specs.Equalities.{same_place, merged, classes_from, class_of, side_of_column, IsBridge, HasNoCycle, AreApart, ClosesNoCycleAfter, ClosesNoCycle}
 
--- `name` gives names of parts. If a and b become joined, the part of b takes the name of the part of a
+-- `name` gives names of components. After a and b are joined, the component of b takes the name of the component of a
 abbrev pub merged_by : {A : Type 0} → (A → A → Bool) → (A → A) → A → A → A → A
 merged_by same name a b x = cond (same (name x) (name b)) (name a) (name x)
 
@@ -33,7 +33,7 @@ merged-first same name a b x e = elim (cases_Bool (same (name x) (name b))) [
 merged-same : {A : Type 0} (same : A → A → Bool) (name : A → A) (a b x y : A) → name x ≡ name y → merged_by same name a b x ≡ merged_by same name a b y
 merged-same same name a b x y e = ap (λ n. cond (same n (name b)) (name a) n) e
 
--- ---- two sides
+-- ---- division of the entries into two sides
 
 abbrev flip : Bool → Bool → Bool
 flip true b = not b
@@ -49,7 +49,7 @@ flip-not : (d b : Bool) → not (flip d b) ≡ flip d (not b)
 flip-not true b = refl
 flip-not false b = refl
 
--- after some equalities were read, `g` names the part of each entry, and `h` the class of each column
+-- after some equalities were read, `g` names the component of each entry, and `h` the class of each column
 record Sound (g : ℕ → ℕ) (h : Place → Place) : Type 0 where
   part : (p q : Place) → h p ≡ h q → g p.entry ≡ g q.entry
   one : (p q : Place) → h p ≡ h q → p.entry ≡ q.entry → p ≡ q
@@ -62,7 +62,7 @@ module _ (g : ℕ → ℕ) (h : Place → Place) (l r : Place) (s : Sound g h) (
   abbrev h' : Place → Place
   h' = merged_by same_place h l r
 
-  -- after an equality between l and r was read, two columns can be in one class in these three ways
+  -- the three ways in which two columns can be in the same class after an equality between l and r was read
   data JoinedBy (p q : Place) : Type 0 where
     before : h p ≡ h q → JoinedBy p q
     first : h p ≡ h r → h q ≡ h l → JoinedBy p q
@@ -146,7 +146,8 @@ module _ (g : ℕ → ℕ) (h : Place → Place) (l r : Place) (s : Sound g h) (
 abbrev pub LiesTogether : (ℕ → Bool) → List Edge → Type 0
 LiesTogether side es = AllByRecursion (λ e. side e.left.entry ≡ side e.right.entry) es
 
--- let the entries be put on two sides so that each earlier equality is within one side. Then an entry is on the side of the entry that names its part
+-- the component of an entry is named by one of its entries, x. If the entries are divided into two sides so that each earlier equality is within one
+-- side, x is on the entry's side
 abbrev AreParts : (ℕ → ℕ) → List Edge → Type 0
 AreParts g earlier = (side : ℕ → Bool) → LiesTogether side earlier → (x : ℕ) → side (g x) ≡ side x
 

@@ -55,7 +55,7 @@ entry_in (and_member entry column below rest) q k = elim (one_in (record { entry
   | inr is ↦ in_front entry (member_entries rest) q.entry (ap (λ (u : Place). u.entry) is)
 ]
 
--- the columns of a class are on one side, unless an entry of P has a column in the class
+-- all columns of a class are on one side, unless an entry of P has a column in the class
 abbrev pub ConstOutside : (Place → Place) → List ℕ → (ℕ → Bool) → Type 0
 ConstOutside class P side = (u v : Place) → class u ≡ class v → ((p : Place) → Contains P p.entry → class p ≡ class u → ⊥) → side u.entry ≡ side v.entry
 

@@ -55,7 +55,7 @@ none_some c e = subst (λ (o : Option ℕ). is_none o) e tt
     is_none None = ⊤
     is_none (Some d) = ⊥
 
--- ---- the walk reaches entry y through y's column `above`, below the entries P
+-- ---- the walk has reached entry y, below the entries P, by y's column `above`
 
 pub record IsReached (class : Place → Place) (P : List ℕ) (y : ℕ) (above : Option ℕ) : Type 0 where
   pub connected : (side : ℕ → Bool) → ((u v : Place) → class u ≡ class v → Contains P u.entry → side u.entry ≡ side v.entry) → (a : ℕ) → Contains P a → side a ≡ side y

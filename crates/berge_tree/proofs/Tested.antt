@@ -1,8 +1,9 @@
--- The tests `joins_parts` and `has_entries` can be run. If they give true, the equalities close no cycle, and they name only entries of the set.
+-- The tests `joins_parts` and `has_entries` can be computed. If both give true, the equalities close no cycle, and they name only entries of the set.
 use Rattle.std.proofs.Common.{◌≡◌, ℕ, true, false, not, ◌&&◌, eqb, ltb, List, [], ◌∷◌, refl, sym, ◌∙◌, subst, inl, inr}
 use Rattle.std.specs.Int.{bit_at}
 use Rattle.std.specs.List.{AllByRecursion}
 use Rattle.std.proofs.lemmas.Bool.{cases_Bool, eq-eqb, ltb-true, false≢true, and_parts, not-true}
+use Rattle.limits.specs.Profile.{greatest_entries}
 use Rattle.berge_tree.specs.declared.edges.Edge.{Edge}
 use Rattle.berge_tree.specs.Equalities.{AreWithin, ClosesNoCycleAfter, ClosesNoCycle}
 use Rattle.entry_sets.specs.Sets.{entries_of_set, has_entry}
@@ -45,6 +46,6 @@ has_within subset [] t = tt
 has_within subset (e ∷ es) t =
     let h : (has_entry subset e.left.entry ≡ true) × ((has_entry subset e.right.entry && has_entries subset es) ≡ true) = and_parts (has_entry subset e.left.entry) (has_entry subset e.right.entry && has_entries subset es) t in
     let k : (has_entry subset e.right.entry ≡ true) × (has_entries subset es ≡ true) = and_parts (has_entry subset e.right.entry) (has_entries subset es) h.1 in
-    let l : (ltb e.left.entry 16 ≡ true) × (eqb (bit_at subset e.left.entry) 1 ≡ true) = and_parts (ltb e.left.entry 16) (eqb (bit_at subset e.left.entry) 1) h.0 in
-    let r : (ltb e.right.entry 16 ≡ true) × (eqb (bit_at subset e.right.entry) 1 ≡ true) = and_parts (ltb e.right.entry 16) (eqb (bit_at subset e.right.entry) 1) k.0 in
-    ((set_has subset e.left.entry (ltb-true e.left.entry 16 l.0) l.1, set_has subset e.right.entry (ltb-true e.right.entry 16 r.0) r.1), has_within subset es k.1)
+    let l : (ltb e.left.entry greatest_entries ≡ true) × (eqb (bit_at subset e.left.entry) 1 ≡ true) = and_parts (ltb e.left.entry greatest_entries) (eqb (bit_at subset e.left.entry) 1) h.0 in
+    let r : (ltb e.right.entry greatest_entries ≡ true) × (eqb (bit_at subset e.right.entry) 1 ≡ true) = and_parts (ltb e.right.entry greatest_entries) (eqb (bit_at subset e.right.entry) 1) k.0 in
+    ((set_has subset e.left.entry (ltb-true e.left.entry greatest_entries l.0) l.1, set_has subset e.right.entry (ltb-true e.right.entry greatest_entries r.0) r.1), has_within subset es k.1)

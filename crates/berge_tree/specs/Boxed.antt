@@ -1,4 +1,4 @@
--- The tree that boxes contain, without the boxes' addresses.
+-- The tree in heap boxes, as a mathematical tree without the boxes' addresses.
 use Rattle.std.specs.Prelude.{Option, Some, None}
 use Rattle.berge_tree.specs.declared.tree.Classes.{Classes as ClassBoxes}
 use Rattle.berge_tree.specs.declared.tree.Classes.TheVariants as classes

@@ -1,4 +1,4 @@
--- Equalities of columns, the classes of columns that they make, and when they close no cycle between entries.
+-- Equalities of columns, and the classes of columns that they make. Equalities that close no cycle between entries.
 use Rattle.std.specs.Prelude.{◌≡◌, ◌≢◌, ℕ, Bool, not, ◌&&◌, ◌==◌, if◌then◌else◌, ⊤, List, [], ◌∷◌}
 use Rattle.std.specs.List.{AllByRecursion, Contains}
 use Rattle.berge_tree.specs.declared.edges.Place.{Place}
@@ -21,7 +21,8 @@ AreWithin set es = AllByRecursion (λ e. Contains set e.left.entry × Contains s
 
 -- ---- connected entries
 
--- no equalities connect a with b: the entries can be put on two sides so that each equality is within a side, but a and b are on different sides
+-- no equalities connect a with b. That is: the entries can be divided into two sides with each equality within one side, but a and b on different
+-- sides
 pub record AreApart (es : List Edge) (a b : ℕ) : Type 0 where
   pub side : ℕ → Bool
   pub together : AllByRecursion (λ e. side e.left.entry ≡ side e.right.entry) es
@@ -37,7 +38,7 @@ ClosesNoCycle es = ClosesNoCycleAfter [] es
 
 -- ---- classes of columns
 
--- `name` gives each column the name of its class. If the columns a and b become equal, the class of b takes the name of the class of a
+-- `name` gives each column the name of its class. After an equality of a and b, the columns in the class of b take the name of the class of a
 abbrev pub merged : (Place → Place) → Place → Place → Place → Place
 merged name a b p = if same_place (name p) (name b) then name a else name p
 
@@ -45,11 +46,11 @@ abbrev pub classes_from : (Place → Place) → List Edge → Place → Place
 classes_from name [] = name
 classes_from name (e ∷ es) = classes_from (merged name e.left e.right) es
 
--- the class of a column: at first each column is a class of its own, and then each equality merges the classes of its columns
+-- the class of a column. At first each column is a class of its own; then each equality merges the classes of its two columns
 abbrev pub class_of : List Edge → Place → Place
 class_of es = classes_from (λ p. p) es
 
--- p and q are in one class: whenever keys are equal in the two columns of each equality, the keys in p and q are equal
+-- p and q are in the same class: whenever the keys in both columns of each equality are equal, the keys in p and q are equal
 abbrev pub AreInOneClass : List Edge → Place → Place → Type 0
 AreInOneClass es p q =
     (key : ℕ → ℕ → ℕ) → AllByRecursion (λ e. key e.left.entry e.left.column ≡ key e.right.entry e.right.column) es
@@ -57,12 +58,13 @@ AreInOneClass es p q =
 
 -- ---- no cycle of entries and classes
 
--- the side of column q: the side of its entry, but the other side for the column p itself
+-- the side of column q is the side of its entry. Only the column p is on the other side than its entry
 abbrev pub side_of_column : (ℕ → Bool) → Place → Place → Bool
 side_of_column side p q = if same_place q p then not (side q.entry) else side q.entry
 
--- the only way from p's entry to p's class is the link between them: entries can be put on two sides so that each class is on one side.
--- A column is on the side of its entry, but p itself counts for the other side
+-- only the link p connects p's entry with p's class. That is: entries can be divided into two sides so that all columns of each class are on one
+-- side.
+-- A column is on the side of its entry, except p, which is on the other side
 pub record IsBridge (class : Place → Place) (p : Place) : Type 0 where
   pub side : ℕ → Bool
   pub together : (q r : Place) → class q ≡ class r → side_of_column side p q ≡ side_of_column side p r

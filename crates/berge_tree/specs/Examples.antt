@@ -1,10 +1,10 @@
--- Equalities and their tree, for worked examples.
+-- Equalities of an example, and their tree.
 use Rattle.std.specs.Prelude.{ℕ, List, [], ◌∷◌}
 use Rattle.berge_tree.specs.declared.edges.Edge.{Edge}
 use Rattle.berge_tree.specs.Equalities.{place}
 use Rattle.berge_tree.specs.Trees.{no_class, and_class, one_member, and_member, BergeTree}
 
--- over entries R, S, T, U, numbered from 0, with columns X and Y: R.X = S.X, S.X = T.X, S.Y = U.Y
+-- the equalities R.X = S.X, S.X = T.X and S.Y = U.Y. The entries R, S, T and U have the numbers 0 to 3
 abbrev pub four_entries : List Edge
 four_entries =
     record { left = place 0 0; right = place 1 0 }
@@ -12,7 +12,7 @@ four_entries =
     ∷ record { left = place 1 1; right = place 3 1 }
     ∷ []
 
--- the class of X has the children S and T, the class of Y has the child U
+-- below R is the class of X, with S and T below it. Below S is the class of Y, with U below it
 abbrev pub four_entries_tree : BergeTree
 four_entries_tree =
     record {

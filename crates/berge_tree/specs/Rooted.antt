@@ -1,4 +1,4 @@
--- The trees of equalities: which classes are below an entry, which entries are below a class, and in which order.
+-- The tree of given equalities: the classes below each entry, the entries below each class, and the order of both.
 use Rattle.std.specs.Prelude.{◌≡◌, ◌≢◌, ℕ, ◌≤◌, ⊤, List, [], ◌∷◌, Option, Some, None}
 use Rattle.std.specs.List.{AllByRecursion, AllPairs, Contains}
 use Rattle.std.specs.List.Sorted.{IsStrictlyIncreasing}
@@ -7,12 +7,12 @@ use Rattle.berge_tree.specs.declared.edges.Edge.{Edge}
 use Rattle.berge_tree.specs.Equalities.{place, places_of, class_of}
 use Rattle.berge_tree.specs.Trees.{Classes, no_class, and_class, Members, one_member, and_member, BergeTree, entries, entries_of_all}
 
--- for each class below an entry, the entry's column in it
+-- the entry's columns in the classes below it, one for each class
 abbrev pub class_columns : Classes → List ℕ
 class_columns no_class = []
 class_columns (and_class column members rest) = column ∷ class_columns rest
 
--- the columns below a class, and their entries
+-- the columns of a class, for the entries below it
 abbrev pub member_places : Members → List Place
 member_places (one_member entry column below) = place entry column ∷ []
 member_places (and_member entry column below rest) = place entry column ∷ member_places rest

@@ -1,14 +1,15 @@
--- Tests by computation. If they are true of equalities, `rooted` may be called with these equalities.
+-- Tests by computation. If both are true of equalities, `rooted` may be called with them.
 use Rattle.std.specs.Prelude.{ℕ, Bool, true, not, ◌&&◌, ◌==◌, if◌then◌else◌, List, [], ◌∷◌}
 use Rattle.entry_sets.specs.Sets.{has_entry}
 use Rattle.berge_tree.specs.declared.edges.Edge.{Edge}
 use Rattle.berge_tree.specs.Equalities.{place}
 
--- `name` gives each entry the name of its part. If the entries a and b become connected, the part of b takes the name of the part of a
+-- `name` gives each entry the name of its component. After an equality of the entries a and b, the component of b takes the name of the component of
+-- a
 abbrev pub merged_components : (ℕ → ℕ) → ℕ → ℕ → ℕ → ℕ
 merged_components name a b x = if name x == name b then name a else name x
 
--- each equality joins two parts that the earlier ones leave apart
+-- each equality joins two components that the earlier equalities leave apart
 abbrev pub joins_parts : (ℕ → ℕ) → List Edge → Bool
 joins_parts name [] = true
 joins_parts name (e ∷ es) = not (name e.left.entry == name e.right.entry) && joins_parts (merged_components name e.left.entry e.right.entry) es

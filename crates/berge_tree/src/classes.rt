@@ -1,4 +1,4 @@
-//! Tells whether two columns are in one class of some equalities.
+//! Tells whether some equalities put two columns into the same class.
 ghost use Rattle.std.specs.Prelude.{◌≡◌, IfOk};
 ghost use Rattle.berge_tree.specs.Equalities.{class_of, same_place};
 
@@ -43,7 +43,7 @@ impl ColumnClasses {
         self.edges.as_slice()
     }
 
-    /// Whether both columns of an equality are in one class of these equalities.
+    /// Whether both columns of an equality are in the same class of these equalities.
     pub fn are_in_one(&self, edge: Edge) -> bool
         ensures { result ≡ same_place (class_of self.now edge.left) (class_of self.now edge.right) }
     {

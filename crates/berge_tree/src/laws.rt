@@ -1,4 +1,4 @@
-//! What the definitions say, as laws. Each call does nothing.
+//! Laws of the definitions. Each call does nothing.
 ghost use Rattle.std.specs.Prelude.{[], ◌∷◌, ◌≡◌, ◌≢◌, ◌↔◌, ℕ, Bool, true, List};
 ghost use Rattle.std.specs.List.{AllByRecursion, AllPairs, Contains};
 ghost use Rattle.berge_tree.specs.Equalities.{AreApart, AreInOneClass, AreWithin, ClosesNoCycle, HasNoCycle, class_of, place};
@@ -10,7 +10,7 @@ ghost use Rattle.berge_tree.specs.Trees.{BergeTree, entries};
 ghost use Rattle.berge_tree.specs.declared.edges.Edge.{Edge};
 ghost use Rattle.berge_tree.specs.declared.edges.Place.{Place};
 
-/// Two columns are in one class exactly if they are equal whenever all equalities hold.
+/// Two columns are in the same class exactly if they are equal whenever all equalities hold.
 pub fn classes_are_joined_columns()
     ensures { (es : List Edge) (p q : Place) → (class_of es p ≡ class_of es q) ↔ AreInOneClass es p q }
 {}
@@ -20,20 +20,21 @@ pub fn no_cycle_of_classes()
     ensures { (es : List Edge) → ClosesNoCycle es → HasNoCycle (class_of es) }
 {}
 
-/// Two entries are apart, that is, no equalities connect them, if entries can be named like this: each equality joins entries of one name, and the
-/// two entries have different names.
+/// A test that two entries are apart, which means that no equalities connect them. Give each entry a name so that each equality joins entries with
+/// the same name. If the two entries then have different names, they are apart.
 pub fn names_keep_entries_apart()
     ensures { (es : List Edge) (a b : ℕ) (name : ℕ → ℕ)
         → AllByRecursion (λ e. name e.left.entry ≡ name e.right.entry) es
         → name a ≢ name b → AreApart es a b }
 {}
 
-/// If `joins_parts` is true of equalities, each of them joins two parts that the earlier ones leave apart. Then the equalities close no cycle.
+/// If `joins_parts` is true of equalities, each of them joins two components that the earlier equalities leave apart. Then the equalities close no
+/// cycle.
 pub fn joined_parts_close_no_cycle()
     ensures { (es : List Edge) → joins_parts (λ e. e) es ≡ true → ClosesNoCycle es }
 {}
 
-/// If `has_entries` is true for the bits of a set, the equalities join only entries of this set.
+/// If `has_entries` is true of a set and of equalities, the equalities join only entries of this set.
 pub fn bits_tell_what_a_set_has()
     ensures { (subset : ℕ) (es : List Edge) → has_entries subset es ≡ true
         → AreWithin (entries_of_set subset) es }
@@ -51,7 +52,7 @@ pub fn a_tree_is_a_component()
         → AllPairs (λ e f. e ≢ f) (entries t) }
 {}
 
-/// What the definitions give for four entries.
+/// The definitions, computed for an example of four entries.
 pub fn examples()
     ensures closes { ClosesNoCycle four_entries }
     ensures within { AreWithin (0 ∷ 1 ∷ 2 ∷ 3 ∷ []) four_entries }

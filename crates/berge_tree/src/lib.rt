@@ -1,11 +1,11 @@
 //! Makes join trees from the equalities that a plan keeps. A bound is folded over these trees of entries and classes.
 //!
 //! In: equalities of columns that close no cycle between entries, and a set of entries, an `EntrySet`. Out: one tree for each component of the set,
-//! on the heap. A class is a largest set of columns that the equalities connect. Below an entry are the classes of its columns, except the class
-//! above the entry. Below a class are its entries, except the entry above the class. `ColumnClasses` tells whether two columns are in one class.
+//! on the heap. A class has all columns that the equalities connect with each other. Below an entry are the classes of its columns, except the class
+//! above the entry. Below a class are its entries, except the entry above the class. `ColumnClasses` tells whether two columns are in the same class.
 //!
-//! Callers cite `ClosesNoCycle` and `AreWithin` for what they hand in. For what they get they cite `AreAllTreesOf` (the trees of a set),
-//! `tree_of` (the tree that boxes hold) and `class_of` (the class of a column).
+//! Contracts require `ClosesNoCycle` and `AreWithin` of the equalities. For results, `AreAllTreesOf` gives the trees of a set, `tree_of` the tree
+//! that heap boxes contain, and `class_of` the class of a column.
 #![tactic(auto)]
 
 mod classes;

@@ -1,6 +1,6 @@
-//! Join trees, each part in a box of its own.
+//! Join trees on the heap. Each part of a tree is in a box of its own.
 
-/// A list of the classes below an entry. Each item has the entry's column in the class, the entries below the class, and the rest of the list.
+/// A list of the classes below an entry. Each item has the entry's column in the class, the entries below the class, and the remaining items.
 #[cycle(trees)]
 #[derive(Drop)]
 pub enum Classes {
@@ -8,8 +8,8 @@ pub enum Classes {
     And(u32, Box<Members>, Box<Classes>),
 }
 
-/// A list of the entries below a class, one or more. Each item has the entry, its column in the class, the classes below the entry, and the rest of
-/// the list.
+/// A list of the entries below a class, at least one. Each item has the entry, its column in the class, the classes below the entry, and the
+/// remaining items.
 #[cycle(trees)]
 #[derive(Drop)]
 pub enum Members {

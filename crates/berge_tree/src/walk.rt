@@ -1,21 +1,23 @@
 //! Walks along the equalities and makes the trees.
 ghost use Rattle.std.specs.Prelude.{◌≡◌, ◌++◌, map, IfOk};
+ghost use Rattle.limits.specs.Profile.{greatest_entries};
 ghost use Rattle.berge_tree.specs.Boxed.{classes_of, members_of, some_members_of, tree_of};
 ghost use Rattle.berge_tree.specs.Equalities.{AreWithin, ClosesNoCycle};
 ghost use Rattle.berge_tree.specs.Rooted.{AreAllTreesOf};
 ghost use Rattle.entry_sets.specs.Sets.{entries_of_set};
 ghost use Rattle.berge_tree.specs.Trees.{entries, entries_below, entries_within};
-ghost use Rattle.berge_tree.specs.Walk.{IsNext, added, classes_at, is_among, is_column_below, is_other_of_class, members_at, is_in_a_tree, tree_at, walked};
+ghost use Rattle.berge_tree.specs.Walk.{IsNext, added, classes_at, is_among, is_column_below, is_other_of_class, members_at, is_in_a_tree, tree_at, classes_below};
 
 use crate::columns::{Column, columns_of, is_same};
 use crate::edges::Edge;
 use crate::tree::{Classes, Members, Tree};
 use base_io::{NoMemory, Seq};
 use entry_sets::EntrySet;
+use limits::GREATEST_ENTRIES;
 use std::alloc::Global;
 
-// A tree has no entry twice, and there are at most sixteen entries, so no tree is deeper.
-const DEPTH: u8 = 16;
+// The greatest depth of a tree. A tree has no entry twice.
+const DEPTH: u8 = GREATEST_ENTRIES as u8;
 
 // Whether the column is a column of the entry, but not the entry's column in the class above.
 fn is_column_below(column: Column, entry: u8, above: Option<u32>) -> bool
@@ -57,7 +59,7 @@ fn next_other(columns: &[Column], from: usize, above: Column) -> Option<usize>
     None
 }
 
-// The classes below an entry, for those of the entry's columns that `columns` has at index `from` or later.
+// The classes below an entry. Only columns that `columns` has at index `from` or later are considered.
 #[cycle(walk)]
 fn classes_at(
     alloc: Global,
@@ -85,8 +87,8 @@ fn classes_at(
     }
 }
 
-// The members of the class of `above` whose columns `columns` has at index `from` or later, each with the classes below it. `None` if there is no
-// member.
+// The members of the class of `above`, each with the classes below it. Only columns that `columns` has at index `from` or later are considered.
+// `None` if there is no member.
 #[cycle(walk)]
 fn members_at(
     alloc: Global,
@@ -101,7 +103,7 @@ fn members_at(
         return Ok(None);
     };
     let place = columns[i].place;
-    let below = walked(alloc, columns, place.entry, Some(place.column), depth)?;
+    let below = classes_below(alloc, columns, place.entry, Some(place.column), depth)?;
     match members_at(alloc, columns, i + 1, above, depth)? {
         None => Ok(Some(Members::One(place.entry, place.column, below))),
         Some(rest) => {
@@ -111,16 +113,16 @@ fn members_at(
     }
 }
 
-// The classes below an entry, down to a depth.
+// The classes below an entry, down to at most `depth` levels of entries.
 #[cycle(walk)]
-fn walked(
+fn classes_below(
     alloc: Global,
     columns: &[Column],
     entry: u8,
     above: Option<u32>,
     depth: u8,
 ) -> Result<Classes, NoMemory>
-    ensures { IfOk result (λ classes. classes_of classes ≡ walked depth columns.now entry above) }
+    ensures { IfOk result (λ classes. classes_of classes ≡ classes_below depth columns.now entry above) }
 {
     if depth == 0 {
         return Ok(Classes::End);
@@ -130,9 +132,9 @@ fn walked(
 
 // The tree that a walk from an entry makes.
 fn tree_from(alloc: Global, columns: &[Column], root: u8) -> Result<Tree, NoMemory>
-    ensures { IfOk result (λ tree. tree_of tree ≡ tree_at 16 columns.now root) }
+    ensures { IfOk result (λ tree. tree_of tree ≡ tree_at greatest_entries columns.now root) }
 {
-    let below = walked(alloc, columns, root, None, DEPTH)?;
+    let below = classes_below(alloc, columns, root, None, DEPTH)?;
     Ok(Tree { root, below })
 }
 
@@ -212,10 +214,10 @@ fn add_tree(
     Ok(())
 }
 
-/// The trees of the set: one for each component, in the order of their roots, each rooted at its least entry.
+/// The trees of the set, one for each component. Each tree's root is its least entry, and the trees are in the order of their roots.
 ///
-/// The children of an entry are its classes other than the one above, in the order of the columns' numbers. The children of a class are its
-/// other entries, in FROM order.
+/// The children of an entry are its classes, except the class above it, in the order of the columns' numbers. The children of a class are its
+/// entries, except the entry above it, in FROM order.
 pub fn rooted(alloc: Global, edges: &[Edge], subset: EntrySet) -> Result<Seq<Tree>, NoMemory>
     requires within { AreWithin (entries_of_set subset) edges.now }
     requires no_cycle { ClosesNoCycle edges.now }
@@ -223,7 +225,7 @@ pub fn rooted(alloc: Global, edges: &[Edge], subset: EntrySet) -> Result<Seq<Tre
 {
     let columns = columns_of(alloc, edges)?;
     let mut trees = Seq::new(alloc);
-    for entry in 0..16u8 {
+    for entry in 0..GREATEST_ENTRIES as u8 {
         if subset.has(entry) {
             add_tree(alloc, &mut trees, columns.as_slice(), entry)?;
         }

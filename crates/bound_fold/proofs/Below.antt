@@ -1,5 +1,5 @@
--- The fold composes lists from the leaves of a join tree up. The lemmas are about its steps: the lists of the classes below an entry, and the lists
--- of the entries below a class.
+-- The fold composes lists from the leaves of a join tree up. These lemmas are about its steps: the lists of the classes below an entry, and of the
+-- entries below a class.
 use Rattle.std.proofs.Common.{◌≡◌, ℕ, zero, suc, ◌^◌, ◌<◌, List, [], ◌∷◌, ◌++◌, length, get_or, map, refl, ap, sym, ◌∙◌, subst, sum, arith}
 use Rattle.std.specs.Borrow.{Bor}
 use Rattle.std.specs.Prelude.{Option, Some, None, IsSome, Result, Ok, Err, IfOk, unwrap_or}
@@ -18,32 +18,32 @@ use Rattle.tree_bounds.specs.Saturating.{saturated_class}
 use Rattle.tree_bounds.specs.TreeBounds.{EntryBounds, child_lists, class_list, bound_of_tree}
 use Rattle.tree_bounds.proofs.Saturated.{saturated-composed, saturated-root_total}
 use Rattle.bound_fold.specs.declared.lists.EntryLists.{EntryLists}
-use Rattle.bound_fold.specs.Lists.{bounds_of, rows_of, list_of}
+use Rattle.bound_fold.specs.Lists.{bounds_of, row_bound_of, list_of}
 
 pub if_ok : {T E : Type 0} (P Q : T → Type 0) (r : Result T E) → ((x : T) → P x → Q x) → IfOk r P → IfOk r Q
 if_ok P Q (Ok x) f h = f x h
 if_ok P Q (Err e) f h = tt
 
--- ---- a list that is looked up
+-- ---- the result of looking up a list
 
 pub found_list : (r : Option (Bor (List ℕ))) (x : Bor (List ℕ)) (o : Option (List ℕ)) → option_copied r ≡ o → r ≡ Some x → x.now ≡ unwrap_or o []
 found_list r x o e h = sym (ap (λ (p : Option (List ℕ)). unwrap_or p []) (sym e) ∙ ap (λ (p : Option (Bor (List ℕ))). unwrap_or (option_copied p) []) h)
 
--- ---- what the lists of an entry sum to
+-- ---- each list of an entry sums to its row bound
 
-total_of : (lists : EntryLists) (entry column : ℕ) (o : Option (List ℕ)) → list_of lists entry column ≡ o → IsSome o → sum (unwrap_or o []) ≡ unwrap_or (rows_of lists entry) 0
+total_of : (lists : EntryLists) (entry column : ℕ) (o : Option (List ℕ)) → list_of lists entry column ≡ o → IsSome o → sum (unwrap_or o []) ≡ unwrap_or (row_bound_of lists entry) 0
 total_of lists entry column None e h = absurd (cc h)
 total_of lists entry column (Some list) e h = sym (ap (λ (o : Option ℕ). unwrap_or o 0) (lists.sums entry column list e).1)
 
 pub listed_total : (lists : EntryLists) (entry column : ℕ) → IsSome (list_of lists entry column) → sum ((bounds_of lists).list entry column) ≡ (bounds_of lists).rows entry
 listed_total lists entry column h = total_of lists entry column (list_of lists entry column) refl h
 
-small_rows : (lists : EntryLists) (entry : ℕ) (o : Option ℕ) → rows_of lists entry ≡ o → unwrap_or o 0 < 2 ^ 64
+small_rows : (lists : EntryLists) (entry : ℕ) (o : Option ℕ) → row_bound_of lists entry ≡ o → unwrap_or o 0 < 2 ^ 64
 small_rows lists entry None e = omega arith
 small_rows lists entry (Some n) e = lists.bounds entry n e
 
 rows_small : (lists : EntryLists) (entry : ℕ) → (bounds_of lists).rows entry < 2 ^ 64
-rows_small lists entry = small_rows lists entry (rows_of lists entry) refl
+rows_small lists entry = small_rows lists entry (row_bound_of lists entry) refl
 
 pub found_small : (lists : EntryLists) (entry column : ℕ) (list : List ℕ) → list ≡ (bounds_of lists).list entry column → IsSome (list_of lists entry column) → sum list < 2 ^ 64
 found_small lists entry column list is h = subst (λ n. n < 2 ^ 64) (sym (ap sum is ∙ listed_total lists entry column h)) (rows_small lists entry)

@@ -14,7 +14,7 @@ use Rattle.bound_fold.specs.declared.lists.EntryLists.{EntryLists}
 use Rattle.bound_fold.specs.Lists.{bounds_of, list_of, TreeHasBounds}
 use Rattle.bound_fold.proofs.Below.{listed_total}
 
--- ---- if Q implies R, and Q is true of each column of a tree, R is true of each column
+-- ---- a property of each column of a tree, carried over to a weaker property
 
 abbrev mutual
   pub carried_below : (Q R : ℕ → ℕ → Type 0) → ((entry column : ℕ) → Q entry column → R entry column) → (entry : ℕ) (cs : Classes) → EachColumnBelow Q entry cs → EachColumnBelow R entry cs

@@ -1,4 +1,4 @@
--- If no class is below an entry, composing its list with nothing leaves the list as it is.
+-- If no class is below an entry, its list is composed with nothing and stays as it is.
 use Rattle.std.proofs.Common.{◌≡◌, ℕ, ◌+◌, ◌^◌, ◌<◌, List, [], ◌∷◌, map, refl, ap, sym, ◌∙◌, sum, arith}
 use Rattle.std.specs.List.{All}
 use Rattle.std.proofs.lemmas.List.Sums.{sum_by-cons}

@@ -21,7 +21,7 @@ use Rattle.bound_fold.specs.Lists.{bounds_of, TreeHasBounds}
 use Rattle.bound_fold.specs.Sets.{SetHasBounds}
 use Rattle.bound_fold.proofs.SetTrees.{set_has_lists, turn_has_bounds}
 
--- ---- the product over trees
+-- ---- the loop over trees, which multiplies their bounds
 
 module _ (lists : EntryLists) where
   pub tree_listed : (trees : List Tree) (i : ℕ) (d : Tree) → AllByRecursion (TreeHasBounds lists) (map tree_of trees) → i < length trees → TreeHasBounds lists (tree_of (get_or trees i d))
@@ -46,7 +46,7 @@ module _ (b : EntryBounds) where
   pub all_trees : (trees : List Tree) (n i : ℕ) → i ≡ length trees → n ≡ saturated (bound_of_trees b (map tree_of (take i trees))) → n ≡ saturated (bound_of_trees b (map tree_of trees))
   all_trees trees n i is before = before ∙ ap (λ (us : List Tree). saturated (bound_of_trees b (map tree_of us))) (ap (λ k. take k trees) is ∙ take-length trees)
 
--- ---- one turn
+-- ---- the bound of one turn
 
 module _ (es : List Edge) (subset turn : ℕ) (kept : List Edge) (is_kept : kept ≡ kept_of subset turn es) (ts : List BergeTree) (r : AreAllTreesOf kept (entries_of_set subset) ts) where
   are_all : AreAllTreesOf (kept_of subset turn es) (entries_of_set subset) ts
@@ -59,7 +59,7 @@ module _ (es : List Edge) (subset turn : ℕ) (kept : List Edge) (is_kept : kept
   turn_done b (Ok n) h = h ∙ ap (λ ts. saturated (bound_of_trees b ts)) (trees_are es subset turn ts are_all)
   turn_done b (Err e) h = tt
 
--- ---- the least of the turns
+-- ---- the loop over turns, which takes the least bound
 
 module _ (b : EntryBounds) (es : List Edge) (subset : ℕ) where
   pub one_more_turn : (turn least n : ℕ) → 1 ≤ turn → least ≡ saturated (least_to (bound_of_turn b es subset) (turn - 1))

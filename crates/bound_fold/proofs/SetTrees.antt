@@ -1,4 +1,4 @@
--- If a set has its row bounds and lists, each tree of a turn has its row bounds and lists. Each list of the set is in descending order and sums to
+-- If a set has its row bounds and lists, each tree of each turn has its row bounds and lists. Each list of the set is in descending order and sums to
 -- the row bound of its entry.
 use Rattle.std.proofs.Common.{ℕ, List, [], ◌∷◌, ◌++◌}
 use Rattle.std.specs.Prelude.{IsSome}
@@ -14,7 +14,7 @@ use Rattle.tree_bounds.specs.TreeBounds.{HasList}
 use Rattle.tree_bounds.specs.SetBounds.{SetHasLists}
 use Rattle.tree_bounds.proofs.Agreeing.{in_trees, named_in_turn, tree_columns}
 use Rattle.bound_fold.specs.declared.lists.EntryLists.{EntryLists}
-use Rattle.bound_fold.specs.Lists.{bounds_of, rows_of, list_of, TreeHasBounds}
+use Rattle.bound_fold.specs.Lists.{bounds_of, row_bound_of, list_of, TreeHasBounds}
 use Rattle.bound_fold.proofs.Folded.{has_list}
 use Rattle.bound_fold.specs.Sets.{SetHasBounds}
 
@@ -31,7 +31,7 @@ module _ (Q : ℕ → Type 0) where
 
 module _ (lists : EntryLists) (es : List Edge) (subset turn : ℕ) (h : SetHasBounds lists es subset) where
   abbrev HasRowBound : ℕ → Type 0
-  HasRowBound entry = IsSome (rows_of lists entry)
+  HasRowBound entry = IsSome (row_bound_of lists entry)
 
   abbrev IsThere : ℕ → ℕ → Type 0
   IsThere entry column = IsSome (list_of lists entry column)

@@ -1,13 +1,12 @@
--- The code goes through all entry numbers and through all equalities of the query, and tests only those of the set. All tests pass exactly if what
--- they test is true of every entry of the set, or of every equality within the set.
-use Rattle.std.proofs.Common.{Bor, zero, ◌≡◌, ℕ, suc, ◌+◌, ◌<◌, Bool, true, false, eqb, ltb, List, [], ◌∷◌, get_or, length, refl, ap, ◌∙◌, sym, subst, arith, inl, inr}
-use Rattle.std.specs.Prelude.{Option, Some, None, IsSome, IsTrue, MatchBool, ◌↔◌, is_some}
-use Rattle.std.specs.Option.{option_copied}
+-- The code goes through all entry numbers and all equalities of the query, but tests only those of the set. All tests pass exactly if every entry of
+-- the set has its row bound and every equality within the set has its lists.
+use Rattle.std.proofs.Common.{zero, ◌≡◌, ℕ, suc, ◌+◌, ◌<◌, Bool, true, false, eqb, ltb, List, [], ◌∷◌, get_or, length, refl, ap, ◌∙◌, sym, subst, arith, inl, inr}
 use Rattle.std.specs.Int.{bit_at}
 use Rattle.std.specs.List.{AllByRecursion, Contains}
 use Rattle.std.proofs.lemmas.Bool.{cases_Bool, cases_lt, eq-eqb, eqb-true, lt-ltb, ltb-true, and_parts}
 use Rattle.std.proofs.lemmas.List.{get_or_default}
 use Rattle.std.proofs.lemmas.List.Elements.{All-contains_itself, All-weaker, recursion_from_All}
+use Rattle.limits.specs.Profile.{greatest_entries}
 use Rattle.berge_tree.specs.declared.edges.Edge.{Edge}
 use Rattle.entry_sets.specs.Sets.{entries_of_set, has_entry}
 use Rattle.entry_sets.proofs.Listing.{set_bits, set_bits_only, each}
@@ -21,15 +20,15 @@ module _ (P : ℕ → Type 0) (subset : ℕ) where
     | inr top ↦ (let same : k ≡ i = omega arith in subst P (sym same) (here (subst (λ j. has_entry subset j ≡ true) same has)))
   ]
 
-  has_it : (k : ℕ) → k < 16 → bit_at subset k ≡ 1 → has_entry subset k ≡ true
-  has_it k low bit = rw (lt-ltb k 16 low, eq-eqb (bit_at subset k) 1 bit) refl
+  has_it : (k : ℕ) → k < greatest_entries → bit_at subset k ≡ 1 → has_entry subset k ≡ true
+  has_it k low bit = rw (lt-ltb k greatest_entries low, eq-eqb (bit_at subset k) 1 bit) refl
 
-  pub each_in_set : ((k : ℕ) → k < 16 → has_entry subset k ≡ true → P k) → AllByRecursion P (entries_of_set subset)
+  pub each_in_set : ((k : ℕ) → k < greatest_entries → has_entry subset k ≡ true → P k) → AllByRecursion P (entries_of_set subset)
   each_in_set h =
       recursion_from_All P (entries_of_set subset)
       (All-weaker (Contains (entries_of_set subset)) P (λ k in_set. at k (set_bits subset k in_set)) (entries_of_set subset) (All-contains_itself (entries_of_set subset)))
     where
-      at : (k : ℕ) → (k < 16) × (bit_at subset k ≡ 1) → P k
+      at : (k : ℕ) → (k < greatest_entries) × (bit_at subset k ≡ 1) → P k
       at k bits = h k bits.0 (has_it k bits.0 bits.1)
 
 pub edge_more : (P : Edge → Type 0) (es : List Edge) (i : ℕ) (e : Edge) → ((k : ℕ) (d : Edge) → k < i → P (get_or es k d)) → P (get_or es i e) → i < length es
@@ -74,29 +73,5 @@ named_at Q subset (e ∷ es) h (suc k) d low joins = named_at Q subset es (later
 
 pub entry_at : (P : ℕ → Type 0) (subset : ℕ) → AllByRecursion P (entries_of_set subset) → (k : ℕ) → has_entry subset k ≡ true → P k
 entry_at P subset h k has =
-    let bits : (ltb k 16 ≡ true) × (eqb (bit_at subset k) 1 ≡ true) = and_parts (ltb k 16) (eqb (bit_at subset k) 1) has in
-    each P (entries_of_set subset) h k (set_bits_only subset k (ltb-true k 16 bits.0, eqb-true (bit_at subset k) 1 bits.1))
-
--- ---- results of tests
-
-pub some_or_not : {X : Type 0} (r o : Option X) (b : Bool) → r ≡ o → b ≡ is_some r → MatchBool b (IsSome o) (¬ IsSome o)
-some_or_not r (Some x) true e f = refl
-some_or_not r None true e f = absurd (cc (ap is_some e, f))
-some_or_not r (Some x) false e f = absurd (cc (ap is_some e, f))
-some_or_not r None false e f = λ h. cc h
-
-pub copied_or_not : {X : Type 0} (r : Option (Bor X)) (o : Option X) (b : Bool) → option_copied r ≡ o → b ≡ is_some r → MatchBool b (IsSome o) (¬ IsSome o)
-copied_or_not None o b e f = some_or_not None o b e f
-copied_or_not (Some x) o b e f = some_or_not (Some x.now) o b e f
-
-pub if_held : (b : Bool) (H P : Type 0) → H → MatchBool b P (¬ P) → MatchBool b (H → P) (H × ¬ P)
-if_held true H P held h = λ _. h
-if_held false H P held h = (held, h)
-
-pub alike : (b : Bool) (Q R : Type 0) → (Q → R) → (R → Q) → MatchBool b Q (¬ Q) → MatchBool b R (¬ R)
-alike true Q R f g h = f h
-alike false Q R f g h = λ r. h (g r)
-
-pub told : (b : Bool) (P : Type 0) → MatchBool b P (¬ P) → IsTrue b ↔ P
-told true P h = (λ _. h, λ _. refl)
-told false P h = (λ e. absurd (cc e), λ p. absurd (h p))
+    let bits : (ltb k greatest_entries ≡ true) × (eqb (bit_at subset k) 1 ≡ true) = and_parts (ltb k greatest_entries) (eqb (bit_at subset k) 1) has in
+    each P (entries_of_set subset) h k (set_bits_only subset k (ltb-true k greatest_entries bits.0, eqb-true (bit_at subset k) 1 bits.1))

@@ -1,4 +1,4 @@
-//! The fold of a tree, from the leaves up.
+//! Computes the bound of a tree by a fold from the leaves up.
 ghost use Rattle.std.specs.Prelude.{◌≡◌, ◌⊎◌, ◌-◌, ◌^◌, ◌<◌, ◌≤◌, ◌++◌, ℕ, List, [], length, map, IsSome, IfOk};
 ghost use Rattle.std.specs.List.{AllByRecursion, sum};
 ghost use Rattle.degree_sequences.specs.Composition.{composed};
@@ -18,7 +18,7 @@ use berge_tree::{Classes, Members, Tree};
 use piece_math::{Child, Pieces, compose, root_total};
 use std::alloc::Global;
 
-// Adds to `children`, for each class below an entry, the entry's list for that class and the list of the class.
+// Adds a child to `children` for each class below an entry. The child has the entry's list in that class, and the list of the class.
 #[cycle(folding)]
 fn add_children(
     children: &mut Vec<Child>,
@@ -89,16 +89,15 @@ fn own_list(list: &Pieces) -> Result<Pieces, NoMemory>
     requires { sum list.now < 2 ^ 64 }
     ensures { IfOk result (λ own. own ≡ map saturated (composed list.now [])) }
 {
-    // From this call the proof learns that the list is in descending order, and that its numbers are positive.
+    // The contract of this call says that the list is in descending order, and that its numbers are positive.
     let _ = list.pieces();
     list.copy()
 }
 
-/// The bound of a tree, or `u128::MAX` where it is larger.
+/// The bound of a tree, or `u128::MAX` if the bound is larger.
 ///
-/// From the leaves up, an entry's list is composed with the lists of the classes below it. A class multiplies the lists
-/// of the entries below it (Degree Sequence Bound, ICDT 2023; SafeBound, SIGMOD 2023). Where the lists dominate tables,
-/// no join of the tables along the tree has more rows.
+/// From the leaves up, an entry's list is composed with the lists of the classes below it. A class multiplies the lists of the entries below it
+/// (Degree Sequence Bound, ICDT 2023; SafeBound, SIGMOD 2023). If the lists dominate tables, no join of the tables along the tree has more rows.
 pub fn fold(alloc: Global, tree: &Tree, lists: &EntryLists) -> Result<u128, NoMemory>
     requires { TreeHasBounds lists.now (tree_of tree.now) }
     ensures exact { IfOk result (λ n. n ≡ saturated (bound_of_tree (bounds_of lists.now) (tree_of tree.now))) }

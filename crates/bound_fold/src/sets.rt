@@ -1,4 +1,4 @@
-//! The bound of a set of entries. In each turn the bounds of the turn's trees are multiplied; the least product is the bound.
+//! Computes the bound of a set of entries. In each turn the bounds of the turn's trees are multiplied; the least product is the bound.
 ghost use Rattle.std.specs.Prelude.{◌≡◌, ◌⊎◌, ◌-◌, ◌^◌, ◌≤◌, ℕ, List, length, map, IfOk};
 ghost use Rattle.std.specs.List.{AllByRecursion};
 ghost use Rattle.degree_sequences.specs.Saturation.{saturated};
@@ -31,8 +31,8 @@ fn product_of_trees(alloc: Global, trees: &[Tree], lists: &EntryLists) -> Result
     Ok(product)
 }
 
-/// The bound of a set in one turn, or `u128::MAX` where it is larger. In that turn the set keeps some equalities, and the bounds of their trees are
-/// multiplied.
+/// The bound of a set in one turn, or `u128::MAX` if the bound is larger. In this turn the set keeps some equalities, and the bounds of their trees
+/// are multiplied.
 pub fn turn_bound(
     alloc: Global,
     parts: &Parts,
@@ -48,11 +48,11 @@ pub fn turn_bound(
     product_of_trees(alloc, trees.as_slice(), lists)
 }
 
-/// The bound of a set of entries, or `u128::MAX` where it is larger.
+/// The bound of a set of entries, or `u128::MAX` if the bound is larger.
 ///
-/// In each turn the set keeps some equalities. The bound of the turn is the product of the bounds of these equalities' trees. The least bound of all
-/// turns is the bound of the set (SafeBound, SIGMOD 2023). The equalities that a turn leaves out can only make the rows fewer. Where the lists
-/// dominate tables, no join of the set's tables by all its equalities has more rows.
+/// In each turn the set keeps some equalities. These equalities make trees, and the bound of the turn is the product of the trees' bounds. The least
+/// bound of all turns is the bound of the set (SafeBound, SIGMOD 2023). A turn leaves out the other equalities, which can only reduce the rows. If
+/// the lists dominate tables, no join of the set's tables by all its equalities has more rows.
 pub fn set_bound(
     alloc: Global,
     parts: &Parts,

@@ -6,11 +6,12 @@ use Rattle.sql_meaning.specs.Examples.{triangle, triangle_tables}
 use Rattle.sql_meaning.specs.Tables.{tables_of}
 use Rattle.join_steps.specs.Lists.{scan_of, scans_of}
 use Rattle.tree_plans.specs.declared.bushy.BushyPlan.{BushyPlan}
-use Rattle.tree_plans.specs.TreePlans.{joined_nodes, IsTreePlan, BoundsAreWithin}
-use Rattle.tree_rows.specs.Rooms.{bound_at}
-use Rattle.hash_join.specs.Examples.{equal, one_is_two, r_joins_s, six_and_five, three_rows_two_entries, Comparison}
-use Rattle.hash_join.proofs.Worked.{level_is, scan_is}
-use Rattle.bushy_join.specs.Trees.{whole_rows, IsTreePlanOf}
+use Rattle.tree_plans.specs.TreePlans.{joined_nodes, IsTreePlan}
+use Rattle.tree_rows.specs.Rooms.{bound_at, BoundsFitBuffers}
+use Rattle.tree_rows.proofs.RoomFacts.{within_fits}
+use Rattle.bushy_join_tests.specs.SmallQueries.{equal, one_is_two, r_joins_s, six_and_five, three_rows_two_entries, Comparison}
+use Rattle.bushy_join_tests.proofs.Worked.{level_is, scan_is}
+use Rattle.bushy_join.specs.Trees.{rows_over_tables, IsTreePlanOf}
 use Rattle.bushy_join.proofs.Scans.{of_whole}
 use Rattle.bushy_join_tests.specs.Examples.{alone, never, pair_plan, three, triangle_plan, twice}
 
@@ -48,8 +49,8 @@ pair_tree = record {
   once = two_named;
 }
 
-pair_small : BoundsAreWithin 4000000 pair_plan
-pair_small = record { scans = (omega arith, (omega arith, tt)); joins = (omega arith, tt) }
+pair_small : BoundsFitBuffers pair_plan
+pair_small = within_fits pair_plan (record { scans = (omega arith, (omega arith, tt)); joins = (omega arith, tt) })
 
 pair_scan : (entry : ℕ) → entry < 2 → length (scan_of r_joins_s six_and_five entry) ≤ get_or pair_plan.scans entry 0
 pair_scan zero low =
@@ -60,7 +61,7 @@ pair_scan (suc zero) low =
     (scan_is (equal 0 0 1 0 ∷ []) six_and_five 1) (omega arith)
 pair_scan (suc (suc entry)) low = absurd (omega arith)
 
-pair_node : (node : ℕ) → node < 3 → length (whole_rows r_joins_s (tables_of six_and_five) pair_plan node) ≤ bound_at pair_plan node
+pair_node : (node : ℕ) → node < 3 → length (rows_over_tables r_joins_s (tables_of six_and_five) pair_plan node) ≤ bound_at pair_plan node
 pair_node zero low =
     leaf_fits (scan_of r_joins_s six_and_five 0) (0 ∷ 1 ∷ 2 ∷ 3 ∷ 4 ∷ 5 ∷ []) 6
     (scan_is (equal 0 0 1 0 ∷ []) six_and_five 0) (omega arith)
@@ -68,7 +69,7 @@ pair_node (suc zero) low =
     leaf_fits (scan_of r_joins_s six_and_five 1) (0 ∷ 1 ∷ 2 ∷ 3 ∷ 4 ∷ []) 5
     (scan_is (equal 0 0 1 0 ∷ []) six_and_five 1) (omega arith)
 pair_node (suc (suc zero)) low =
-    level_fits (whole_rows r_joins_s (tables_of six_and_five) pair_plan 2)
+    level_fits (rows_over_tables r_joins_s (tables_of six_and_five) pair_plan 2)
     ((0 ∷ 0 ∷ []) ∷ (0 ∷ 1 ∷ []) ∷ (1 ∷ 0 ∷ []) ∷ (1 ∷ 1 ∷ []) ∷ (2 ∷ 0 ∷ []) ∷ (2 ∷ 1 ∷ []) ∷ []) 12
     (level_is (equal 0 0 1 0 ∷ []) six_and_five (0 ∷ 1 ∷ []) 2) (omega arith)
 pair_node (suc (suc (suc node))) low = absurd (omega arith)
@@ -103,8 +104,8 @@ triangle_scans (suc zero) low = scan_is sides triangle_tables 1
 triangle_scans (suc (suc zero)) low = scan_is sides triangle_tables 2
 triangle_scans (suc (suc (suc entry))) low = absurd (omega arith)
 
-triangle_small : BoundsAreWithin 4000000 triangle_plan
-triangle_small = record { scans = (omega arith, (omega arith, (omega arith, tt))); joins = (omega arith, (omega arith, tt)) }
+triangle_small : BoundsFitBuffers triangle_plan
+triangle_small = within_fits triangle_plan (record { scans = (omega arith, (omega arith, (omega arith, tt))); joins = (omega arith, (omega arith, tt)) })
 
 triangle_scan : (entry : ℕ) → entry < 3 → length (scan_of triangle triangle_tables entry) ≤ get_or triangle_plan.scans entry 0
 triangle_scan zero low = scan_fits (scan_of triangle triangle_tables 0) (0 ∷ 1 ∷ 2 ∷ []) 3 (triangle_scans 0 low) (omega arith)
@@ -112,7 +113,7 @@ triangle_scan (suc zero) low = scan_fits (scan_of triangle triangle_tables 1) (0
 triangle_scan (suc (suc zero)) low = scan_fits (scan_of triangle triangle_tables 2) (0 ∷ 1 ∷ 2 ∷ []) 3 (triangle_scans 2 low) (omega arith)
 triangle_scan (suc (suc (suc entry))) low = absurd (omega arith)
 
-triangle_node : (node : ℕ) → node < 5 → length (whole_rows triangle (tables_of triangle_tables) triangle_plan node) ≤ bound_at triangle_plan node
+triangle_node : (node : ℕ) → node < 5 → length (rows_over_tables triangle (tables_of triangle_tables) triangle_plan node) ≤ bound_at triangle_plan node
 triangle_node zero low = leaf_fits (scan_of triangle triangle_tables 0) (0 ∷ 1 ∷ 2 ∷ []) 3 (triangle_scans 0 (omega arith)) (omega arith)
 triangle_node (suc zero) low =
     leaf_fits (scan_of triangle triangle_tables 1) (0 ∷ 1 ∷ 2 ∷ []) 3
@@ -121,11 +122,11 @@ triangle_node (suc (suc zero)) low =
     leaf_fits (scan_of triangle triangle_tables 2) (0 ∷ 1 ∷ 2 ∷ []) 3
     (triangle_scans 2 (omega arith)) (omega arith)
 triangle_node (suc (suc (suc zero))) low =
-    level_fits (whole_rows triangle (tables_of triangle_tables) triangle_plan 3)
+    level_fits (rows_over_tables triangle (tables_of triangle_tables) triangle_plan 3)
     ((0 ∷ 0 ∷ []) ∷ (0 ∷ 2 ∷ []) ∷ (1 ∷ 1 ∷ []) ∷ (2 ∷ 0 ∷ []) ∷ (2 ∷ 2 ∷ []) ∷ []) 5
     (level_is sides triangle_tables (1 ∷ 2 ∷ []) 2) (omega arith)
 triangle_node (suc (suc (suc (suc zero)))) low =
-    level_fits (whole_rows triangle (tables_of triangle_tables) triangle_plan 4)
+    level_fits (rows_over_tables triangle (tables_of triangle_tables) triangle_plan 4)
     ((0 ∷ 0 ∷ 0 ∷ []) ∷ (0 ∷ 1 ∷ 1 ∷ []) ∷ (1 ∷ 0 ∷ 2 ∷ []) ∷ (2 ∷ 2 ∷ 0 ∷ []) ∷ []) 9
     (level_is sides triangle_tables (0 ∷ 1 ∷ 2 ∷ []) 3) (omega arith)
 triangle_node (suc (suc (suc (suc (suc node))))) low = absurd (omega arith)
@@ -133,7 +134,7 @@ triangle_node (suc (suc (suc (suc (suc node))))) low = absurd (omega arith)
 pub triangle_planned : IsTreePlanOf triangle (tables_of triangle_tables) (scans_of triangle (tables_of triangle_tables)) triangle_plan
 triangle_planned = of_whole triangle (tables_of triangle_tables) triangle_plan triangle_tree triangle_small triangle_scan triangle_node
 
--- ---- a condition that fails
+-- ---- the constant condition 1 = 2
 
 alone_tree : IsTreePlan 1 alone
 alone_tree = record {
@@ -144,15 +145,15 @@ alone_tree = record {
   once = λ node low. absurd (omega arith);
 }
 
-alone_small : BoundsAreWithin 4000000 alone
-alone_small = record { scans = (omega arith, tt); joins = tt }
+alone_small : BoundsFitBuffers alone
+alone_small = within_fits alone (record { scans = (omega arith, tt); joins = tt })
 
 alone_scan : (entry : ℕ) → entry < 1 → length (scan_of (never (0 ∷ [])) three entry) ≤ get_or alone.scans entry 0
 alone_scan zero low = scan_fits (scan_of (never (0 ∷ [])) three 0) (0 ∷ 1 ∷ 2 ∷ []) 3 (scan_is (one_is_two ∷ []) three 0) (omega arith)
 alone_scan (suc entry) low = absurd (omega arith)
 
-alone_node : (node : ℕ) → node < 1 → length (whole_rows (never (0 ∷ [])) (tables_of three) alone node) ≤ bound_at alone node
-alone_node zero low = level_fits (whole_rows (never (0 ∷ [])) (tables_of three) alone 0) [] 3 (level_is (one_is_two ∷ []) three (0 ∷ []) 1) (omega arith)
+alone_node : (node : ℕ) → node < 1 → length (rows_over_tables (never (0 ∷ [])) (tables_of three) alone node) ≤ bound_at alone node
+alone_node zero low = level_fits (rows_over_tables (never (0 ∷ [])) (tables_of three) alone 0) [] 3 (level_is (one_is_two ∷ []) three (0 ∷ []) 1) (omega arith)
 alone_node (suc node) low = absurd (omega arith)
 
 pub alone_planned : IsTreePlanOf (never (0 ∷ [])) (tables_of three) (scans_of (never (0 ∷ [])) (tables_of three)) alone
@@ -167,8 +168,8 @@ twice_tree = record {
   once = two_named;
 }
 
-twice_small : BoundsAreWithin 4000000 twice
-twice_small = record { scans = (omega arith, (omega arith, tt)); joins = (omega arith, tt) }
+twice_small : BoundsFitBuffers twice
+twice_small = within_fits twice (record { scans = (omega arith, (omega arith, tt)); joins = (omega arith, tt) })
 
 twice_scans : (entry : ℕ) → entry < 2 → scan_of (never (0 ∷ 0 ∷ [])) three_rows_two_entries entry ≡ 0 ∷ 1 ∷ 2 ∷ []
 twice_scans zero low = scan_is (one_is_two ∷ []) three_rows_two_entries 0
@@ -180,13 +181,13 @@ twice_scan zero low = scan_fits (scan_of (never (0 ∷ 0 ∷ [])) three_rows_two
 twice_scan (suc zero) low = scan_fits (scan_of (never (0 ∷ 0 ∷ [])) three_rows_two_entries 1) (0 ∷ 1 ∷ 2 ∷ []) 3 (twice_scans 1 low) (omega arith)
 twice_scan (suc (suc entry)) low = absurd (omega arith)
 
-twice_node : (node : ℕ) → node < 3 → length (whole_rows (never (0 ∷ 0 ∷ [])) (tables_of three_rows_two_entries) twice node) ≤ bound_at twice node
+twice_node : (node : ℕ) → node < 3 → length (rows_over_tables (never (0 ∷ 0 ∷ [])) (tables_of three_rows_two_entries) twice node) ≤ bound_at twice node
 twice_node zero low = leaf_fits (scan_of (never (0 ∷ 0 ∷ [])) three_rows_two_entries 0) (0 ∷ 1 ∷ 2 ∷ []) 3 (twice_scans 0 (omega arith)) (omega arith)
 twice_node (suc zero) low =
     leaf_fits (scan_of (never (0 ∷ 0 ∷ [])) three_rows_two_entries 1) (0 ∷ 1 ∷ 2 ∷ []) 3
     (twice_scans 1 (omega arith)) (omega arith)
 twice_node (suc (suc zero)) low =
-    level_fits (whole_rows (never (0 ∷ 0 ∷ [])) (tables_of three_rows_two_entries) twice 2) [] 9
+    level_fits (rows_over_tables (never (0 ∷ 0 ∷ [])) (tables_of three_rows_two_entries) twice 2) [] 9
     (level_is (one_is_two ∷ []) three_rows_two_entries (0 ∷ 1 ∷ []) 2) (omega arith)
 twice_node (suc (suc (suc node))) low = absurd (omega arith)
 

@@ -1,1 +1,2 @@
+pub mod SmallQueries
 pub mod Examples

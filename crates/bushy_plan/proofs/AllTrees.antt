@@ -12,7 +12,7 @@ use Rattle.bushy_plan.specs.PlanTrees.{IsFirstEntry, IsSplit, IsTreeOver, PlanTr
 use Rattle.bushy_plan.proofs.LeftDeep.{tree_first}
 use Rattle.bushy_plan.proofs.Splitting.{no_split_of_one, same_power, split_sum, tree_set}
 
--- ---- all trees
+-- ---- a property of all trees over n entries
 
 abbrev pub each_with : ℕ → (PlanTree → Bool) → PlanTree → Bool
 each_with last test (leaf entry) = test (node (leaf entry) (leaf last))
@@ -24,7 +24,7 @@ each_tree zero test = true
 each_tree (suc zero) test = test (leaf 0)
 each_tree (suc (suc n)) test = each_tree (suc n) (λ t. each_with (suc n) test t)
 
--- ---- the last entry is taken out of a split
+-- ---- a split without its last entry
 
 pub first_stays : (set last first : ℕ) → set < 2 ^ suc last → bit_at set last ≡ 1 → IsFirstEntry (set - 2 ^ last) first → (first < last) × IsFirstEntry set first
 first_stays set last first fits has is_first = (
@@ -94,7 +94,8 @@ split_without_left set left right last fits split has more = record {
     in_set : bit_at set last ≡ 1
     in_set = omega (arith, split.apart last, bit_at-lt set last)
 
--- the set's first entry is on the left side, and the right side has a later entry. So the first entry isn't the last one
+-- a split whose set has the last entry: the first entry is on the left side, and the right side has a later entry. So the first entry isn't the last
+-- one
 left_has_more : (set last : ℕ) (left right : PlanTree) → set < 2 ^ suc last → IsTreeOver set (node left right) → bit_at (leaf_set left) last ≡ 1 → 0 < leaf_set left - 2 ^ last
 left_has_more set last left right fits is_tree has = elim (cases_lt (2 ^ last) (leaf_set left)) [
   | inl more ↦ omega arith
@@ -118,7 +119,7 @@ left_has_more set last left right fits is_tree has = elim (cases_lt (2 ^ last) (
       | inr apart ↦ absurd (omega (arith, bit_at-pow_other last first apart, ap (λ k. bit_at k first) alone, is))
     ]
 
--- ---- the last entry is taken out of a tree
+-- ---- a tree without its last entry
 
 -- `IsWith last smaller tree`: `tree` is `smaller` with the last entry joined to one of its nodes
 abbrev pub IsWith : ℕ → PlanTree → PlanTree → Type 0

@@ -1,4 +1,4 @@
--- The weight of a tree is the greatest of its bounds, or their sum.
+-- The weight of a tree is the greatest of its bounds, or the sum of its bounds.
 use Rattle.std.proofs.Common.{◌≡◌, ℕ, zero, suc, ◌+◌, ◌*◌, ◌-◌, ◌^◌, ◌<◌, ◌≤◌, min, List, get_or, refl, arith, inl, inr}
 use Rattle.std.proofs.lemmas.Bool.{cases_lt}
 use Rattle.std.proofs.lemmas.Nat.{pow_pos}
@@ -47,7 +47,7 @@ weighs_most most bounds (node left right) high =
       ]
     ]
 
--- 2^59 is the greatest budget. A tree over 12 entries has 11 inner nodes, so the sum of its bounds fits into 64 bits
+-- 2^59 is the greatest budget. A tree has fewer inner nodes than entries, so the sum of its bounds fits into 64 bits
 pub sum_small : (bounds : List ℕ) (tree : PlanTree) → inner_greatest bounds tree ≤ 2 ^ 59 → inner_sum bounds tree ≤ inner_count tree * 2 ^ 59
 sum_small bounds (leaf entry) low = omega arith
 sum_small bounds (node left right) low = omega (arith, sum_small bounds left (omega arith), sum_small bounds right (omega arith))

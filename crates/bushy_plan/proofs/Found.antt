@@ -1,15 +1,16 @@
--- The search fills two tables. The least cost is in the first table, and the best tree is read off the second.
+-- The search fills two arrays. The first gives the least cost, and the best tree is read off the second.
 use Rattle.std.proofs.Common.{◌≡◌, ℕ, zero, suc, ◌+◌, ◌-◌, ◌^◌, ◌<◌, ◌≤◌, List, [], ◌∷◌, ◌++◌, length, get_or, refl, ap, sym, ◌∙◌, subst, arith, inl, inr}
 use Rattle.std.proofs.lemmas.List.{append-nil, append_assoc, length-append}
 use Rattle.std.proofs.lemmas.Nat.{pow_pos}
 use Rattle.std.proofs.lemmas.Bool.{cases_lt}
+use Rattle.limits.specs.Profile.{greatest_entries}
 use Rattle.entry_sets.proofs.Bits.{twice}
 use Rattle.tree_plans.specs.declared.bushy.Join.{Join}
 use Rattle.bushy_plan.specs.declared.weight.Weighing.{Weighing}
 use Rattle.bushy_plan.specs.declared.weight.Weighing.TheVariants as weight
 use Rattle.bushy_plan.specs.BestTree.{AreOfBest, IsTreeBefore, IsBest, IsLeastCost, full_set, cost, inner_greatest, inner_sum, total}
 use Rattle.bushy_plan.specs.PlanTrees.{IsFirstEntry, IsSplit, IsTreeOver, PlanTree, leaf, node, leaf_set, inner_count, joins_from, root_number}
-use Rattle.bushy_plan.specs.Splits.{IsWithoutFirst, IsFirstLightest, IsLeastWeight, AppendsFirstLightest, IsTable, weight_of}
+use Rattle.bushy_plan.specs.Splits.{IsWithoutFirst, IsFirstLightest, IsLeastWeight, AppendsFirstLightest, HasLeastWeights, weight_of}
 use Rattle.bushy_plan.proofs.Costs.{cost_inside, greatest_at_most_cost, sum_small, total_inside, weighs_greatest, weighs_most, weighs_sum}
 use Rattle.bushy_plan.proofs.Lightest.{right_in_table}
 use Rattle.bushy_plan.proofs.Numbering.{count_of_all, length-joins_from}
@@ -43,16 +44,16 @@ read_node w bounds next set right_set old middle all new left_root right_root nu
       number = is_number ∙ all_count;
     }
 
--- ---- the inner nodes of each side are few enough to be numbered
+-- ---- each side has few enough inner nodes to be numbered
 
-pub room_left : (w : Weighing) (bounds table : List ℕ) (set end right_set count : ℕ) → set < end → IsTable w bounds table end → IsSplit set (set - right_set) right_set
-    → ((tree : PlanTree) → IsTreeOver set tree → count + inner_count tree < 12) → (tree : PlanTree) → IsTreeOver (set - right_set) tree → count + inner_count tree < 12
+pub room_left : (w : Weighing) (bounds table : List ℕ) (set end right_set count : ℕ) → set < end → HasLeastWeights w bounds table end → IsSplit set (set - right_set) right_set
+    → ((tree : PlanTree) → IsTreeOver set tree → count + inner_count tree < greatest_entries) → (tree : PlanTree) → IsTreeOver (set - right_set) tree → count + inner_count tree < greatest_entries
 room_left w bounds table set end right_set count h is_table split room tree is_tree =
     let other : IsLeastWeight w bounds right_set (get_or table right_set 0) = right_in_table w bounds table set end right_set (omega arith) is_table split in
     omega (arith, room (node tree other.tree) (node_over set right_set tree other.tree split is_tree other.is_tree))
 
 pub room_right : (set right_set count : ℕ) (left : PlanTree) → IsTreeOver (set - right_set) left → IsSplit set (set - right_set) right_set
-    → ((tree : PlanTree) → IsTreeOver set tree → count + inner_count tree < 12) → (tree : PlanTree) → IsTreeOver right_set tree → count + inner_count left + inner_count tree + 1 < 12
+    → ((tree : PlanTree) → IsTreeOver set tree → count + inner_count tree < greatest_entries) → (tree : PlanTree) → IsTreeOver right_set tree → count + inner_count left + inner_count tree + 1 < greatest_entries
 room_right set right_set count left left_tree split room tree is_tree =
     omega (arith, room (node left tree) (node_over set right_set left tree split left_tree is_tree))
 
@@ -61,13 +62,13 @@ count_after w bounds next set old new root read =
     omega (arith, ap length read.joins, length-append {A = Join} old (joins_from bounds (next + length old) read.tree), length-joins_from bounds (next + length old) read.tree)
 
 pub room_behind : (w : Weighing) (bounds : List ℕ) (next set right_set : ℕ) (old middle : List Join) (left_root : ℕ) → AppendsFirstLightest w bounds next (set - right_set) old middle left_root
-    → IsSplit set (set - right_set) right_set → ((tree : PlanTree) → IsTreeOver set tree → length old + inner_count tree < 12)
-    → (tree : PlanTree) → IsTreeOver right_set tree → length middle + inner_count tree < 12
+    → IsSplit set (set - right_set) right_set → ((tree : PlanTree) → IsTreeOver set tree → length old + inner_count tree < greatest_entries)
+    → (tree : PlanTree) → IsTreeOver right_set tree → length middle + inner_count tree < greatest_entries
 room_behind w bounds next set right_set old middle left_root left split room tree is_tree =
     omega (arith, count_after w bounds next (set - right_set) old middle left_root left, room_right set right_set (length old) left.tree left.is_first.is_tree split room tree is_tree)
 
 pub few_numbers : (w : Weighing) (bounds : List ℕ) (next set right_set : ℕ) (old middle all : List Join) (left_root right_root : ℕ) → AppendsFirstLightest w bounds next (set - right_set) old middle left_root
-    → AppendsFirstLightest w bounds next right_set middle all right_root → IsSplit set (set - right_set) right_set → ((tree : PlanTree) → IsTreeOver set tree → length old + inner_count tree < 12) → length all < 12
+    → AppendsFirstLightest w bounds next right_set middle all right_root → IsSplit set (set - right_set) right_set → ((tree : PlanTree) → IsTreeOver set tree → length old + inner_count tree < greatest_entries) → length all < greatest_entries
 few_numbers w bounds next set right_set old middle all left_root right_root left right split room =
     omega (
       arith,
@@ -75,9 +76,9 @@ few_numbers w bounds next set right_set old middle all left_root right_root left
       room_behind w bounds next set right_set old middle left_root left split room right.tree right.is_first.is_tree,
     )
 
-pub read_leaf : (w : Weighing) (bounds : List ℕ) (next set first : ℕ) (old : List Join) → IsFirstEntry set first → (behind : ℕ) → IsWithoutFirst set behind → behind ≡ 0
+pub read_leaf : (w : Weighing) (bounds : List ℕ) (next set first : ℕ) (old : List Join) → IsFirstEntry set first → (all_but_first : ℕ) → IsWithoutFirst set all_but_first → all_but_first ≡ 0
     → AppendsFirstLightest w bounds next set old old first
-read_leaf w bounds next set first old is_first behind b none =
+read_leaf w bounds next set first old is_first all_but_first b none =
     let same : b.first ≡ first = one_first set b.first first b.is_first is_first in
     let alone : set - 2 ^ first ≡ 0 = ap (λ k. set - 2 ^ k) (sym same) ∙ sym b.others ∙ none in
     record {
@@ -87,13 +88,13 @@ read_leaf w bounds next set first old is_first behind b none =
       number = refl;
     }
 
--- ---- whole trees
+-- ---- the best tree over all entries
 
 pub some_of_all : (n : ℕ) → 0 < n → 0 < full_set n
 some_of_all zero some = absurd (omega arith)
 some_of_all (suc n) some = omega (arith, twice n, pow_pos n)
 
-pub least_cost_from : (bounds table : List ℕ) (n least : ℕ) → 1 < n → length bounds ≡ 2 ^ n → IsTable weight.Greatest bounds table (length bounds)
+pub least_cost_from : (bounds table : List ℕ) (n least : ℕ) → 1 < n → length bounds ≡ 2 ^ n → HasLeastWeights weight.Greatest bounds table (length bounds)
     → least ≡ get_or table (length bounds - 1) 0 → IsLeastCost bounds n least
 least_cost_from bounds table n least more size is_table is =
     let last : length bounds - 1 ≡ full_set n = omega arith in
@@ -107,20 +108,20 @@ least_cost_from bounds table n least more size is_table is =
       none_cheaper = λ other is_tree. omega (arith, is, whole.none_lighter other is_tree, weighs_greatest bounds other, cost_inside bounds n other more is_tree);
     }
 
--- weights saturate at 2^128 - 1, and this sum is far below it
-weighs_small : (bounds : List ℕ) (n least : ℕ) (tree : PlanTree) → n ≤ 12 → least ≤ 2 ^ 59 → IsTreeOver (full_set n) tree → inner_greatest bounds tree ≤ least
+-- weights saturate at 2^128 - 1, and a sum of bounds that are at most 2^59 is far below it
+weighs_small : (bounds : List ℕ) (n least : ℕ) (tree : PlanTree) → n ≤ greatest_entries → least ≤ 2 ^ 59 → IsTreeOver (full_set n) tree → inner_greatest bounds tree ≤ least
     → (weight_of (weight.SumOfBoundsUpTo least) bounds tree ≡ inner_sum bounds tree) × (inner_sum bounds tree < 2 ^ 63)
 weighs_small bounds n least tree few small is_tree low =
     let sum_is_small : inner_sum bounds tree < 2 ^ 63 = omega (arith, sum_small bounds tree (omega arith), count_of_all n tree is_tree) in
     (omega (arith, weighs_sum least bounds tree low, sum_is_small), sum_is_small)
 
-found_is_light : (bounds : List ℕ) (n least : ℕ) → n ≤ 12 → least ≤ 2 ^ 59 → (found : IsLeastCost bounds n least)
+found_is_light : (bounds : List ℕ) (n least : ℕ) → n ≤ greatest_entries → least ≤ 2 ^ 59 → (found : IsLeastCost bounds n least)
     → (weight_of (weight.SumOfBoundsUpTo least) bounds found.tree ≡ inner_sum bounds found.tree) × (inner_sum bounds found.tree < 2 ^ 63)
 found_is_light bounds n least few small found =
     weighs_small bounds n least found.tree few small found.is_tree (omega (arith, greatest_at_most_cost bounds found.tree, found.costs))
 
-pub sum_is_light : (bounds table : List ℕ) (n least : ℕ) → 0 < n → n ≤ 12 → least ≤ 2 ^ 59 → IsLeastCost bounds n least → length bounds ≡ 2 ^ n
-    → IsTable (weight.SumOfBoundsUpTo least) bounds table (length bounds) → get_or table (length bounds - 1) 0 < 2 ^ 128 - 1
+pub sum_is_light : (bounds table : List ℕ) (n least : ℕ) → 0 < n → n ≤ greatest_entries → least ≤ 2 ^ 59 → IsLeastCost bounds n least → length bounds ≡ 2 ^ n
+    → HasLeastWeights (weight.SumOfBoundsUpTo least) bounds table (length bounds) → get_or table (length bounds - 1) 0 < 2 ^ 128 - 1
 sum_is_light bounds table n least some few small found size is_table =
     let last : length bounds - 1 ≡ full_set n = omega arith in
     let weighs : (weight_of (weight.SumOfBoundsUpTo least) bounds found.tree ≡ inner_sum bounds found.tree) × (inner_sum bounds found.tree < 2 ^ 63) =
@@ -149,7 +150,7 @@ best_if_one_entry bounds tree is_tree = record {
     not_before (leaf entry) over before = before
     not_before (node left right) over before = absurd (no_split_of_one 0 (leaf_set left) (leaf_set right) over.0)
 
-best_if_more_entries : (bounds : List ℕ) (n least : ℕ) (tree : PlanTree) → 1 < n → n ≤ 12 → least ≤ 2 ^ 59 → IsLeastCost bounds n least
+best_if_more_entries : (bounds : List ℕ) (n least : ℕ) (tree : PlanTree) → 1 < n → n ≤ greatest_entries → least ≤ 2 ^ 59 → IsLeastCost bounds n least
     → IsFirstLightest (weight.SumOfBoundsUpTo least) bounds (full_set n) tree → IsBest bounds n tree × (cost bounds tree ≡ least)
 best_if_more_entries bounds n least tree more few small found first = (best, costs)
   where
@@ -179,7 +180,7 @@ best_if_more_entries bounds n least tree more few small found first = (best, cos
       none_earlier = λ other is_tree same equal. first.none_earlier other is_tree (theirs other is_tree same ∙ equal ∙ sym own);
     }
 
-best_of_first : (bounds : List ℕ) (n least : ℕ) (tree : PlanTree) → 0 < n → n ≤ 12 → least ≤ 2 ^ 59 → IsLeastCost bounds n least
+best_of_first : (bounds : List ℕ) (n least : ℕ) (tree : PlanTree) → 0 < n → n ≤ greatest_entries → least ≤ 2 ^ 59 → IsLeastCost bounds n least
     → IsFirstLightest (weight.SumOfBoundsUpTo least) bounds (full_set n) tree → IsBest bounds n tree × (cost bounds tree ≡ least)
 best_of_first bounds zero least tree some few small found first = absurd (omega arith)
 best_of_first bounds (suc zero) least tree some few small found first =
@@ -187,7 +188,7 @@ best_of_first bounds (suc zero) least tree some few small found first =
     (best, omega (arith, best.none_cheaper found.tree found.is_tree, found.none_cheaper tree first.is_tree, found.costs))
 best_of_first bounds (suc (suc n)) least tree some few small found first = best_if_more_entries bounds (suc (suc n)) least tree (omega arith) few small found first
 
-pub joins_of_best : (bounds : List ℕ) (n least root : ℕ) (joins : List Join) → 0 < n → n ≤ 12 → least ≤ 2 ^ 59 → IsLeastCost bounds n least → length bounds ≡ 2 ^ n
+pub joins_of_best : (bounds : List ℕ) (n least root : ℕ) (joins : List Join) → 0 < n → n ≤ greatest_entries → least ≤ 2 ^ 59 → IsLeastCost bounds n least → length bounds ≡ 2 ^ n
     → AppendsFirstLightest (weight.SumOfBoundsUpTo least) bounds n (length bounds - 1) [] joins root → AreOfBest bounds n least joins
 joins_of_best bounds n least root joins some few small found size read =
     let last : length bounds - 1 ≡ full_set n = omega arith in

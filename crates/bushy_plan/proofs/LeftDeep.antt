@@ -52,8 +52,8 @@ split_with_first set left right a b apart some_left some_right first_a first_b h
   first_left = λ first is_first. ap (bit_at left) (one_first set first a is_first (first_of_both set left right a b apart first_a first_b h)) ∙ first_a.is_in;
 }
 
--- one more entry is joined to a tree. `grown` is the result, with sides swapped so that the set's first entry is on the left. To swap sides doesn't
--- change the bounds
+-- a tree with one more entry joined to it. `grown` has its sides swapped where needed, so that the set's first entry is on the left. Swapping sides
+-- doesn't change the bounds
 record Grown (bounds : List ℕ) (set : ℕ) (tree : PlanTree) : Type 0 where
   grown : PlanTree
   is_tree : IsTreeOver set grown

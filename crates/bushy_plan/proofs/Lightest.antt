@@ -1,11 +1,11 @@
--- The least weight of a tree over a set follows from the least weights over the set's parts.
+-- The least weight of a tree over a set follows from the least weights of trees over its subsets.
 use Rattle.std.proofs.Common.{◌≡◌, ℕ, ◌+◌, ◌-◌, ◌^◌, ◌<◌, ◌≤◌, min, List, get_or, refl, ap, sym, ◌∙◌, subst, arith, inl, inr}
 use Rattle.std.specs.Prelude.{◌⊎◌, bit_and}
 use Rattle.std.proofs.lemmas.Bool.{cases_lt, cases_order, le-leb, lt-leb}
 use Rattle.bushy_plan.specs.declared.weight.Weighing.{Weighing}
 use Rattle.bushy_plan.specs.declared.weight.Weighing.TheVariants as weight
 use Rattle.bushy_plan.specs.PlanTrees.{IsFirstEntry, IsSplit, IsTreeOver, PlanTree, leaf, node, leaf_set}
-use Rattle.bushy_plan.specs.Splits.{IsLeastWeight, IsTable, combined, weight_of, weight_through}
+use Rattle.bushy_plan.specs.Splits.{IsLeastWeight, HasLeastWeights, combined, weight_of, weight_through}
 use Rattle.bushy_plan.proofs.Parts.{IsPart, itself, common_part, none_between, part_le}
 use Rattle.bushy_plan.proofs.Splitting.{no_leaf, only_leaf, part_of_split, some_entries, split_of_part, split_right_le, tree_set}
 
@@ -22,28 +22,28 @@ combined-mono (weight.SumOfBoundsUpTo most) bound a b c d h k = elim (cases_lt m
   | inr within ↦ omega (arith, combined-within most bound a b within, combined-within most bound c d within)
 ]
 
--- the right sets above `right` were tried: `least` is the least weight of a tree with one of them, or 2^128 - 1 if no right set was tried
-pub record Tried (w : Weighing) (bounds table : List ℕ) (set behind right least : ℕ) : Type 0 where
-  pub is_part : IsPart right behind
-  pub above : (other : ℕ) → IsPart other behind → right < other → (least ≤ weight_through w bounds table set other) × (weight_through w bounds table set other < 2 ^ 128)
-  pub found : (least ≡ 2 ^ 128 - 1) ⊎ ((other : ℕ) × IsPart other behind × (0 < other) × (weight_through w bounds table set other ≡ least))
+-- the right sets above `right` were tried. `least` is the least weight of a tree with one of them, or 2^128 - 1 if no right set was tried
+pub record Tried (w : Weighing) (bounds table : List ℕ) (set all_but_first right least : ℕ) : Type 0 where
+  pub is_part : IsPart right all_but_first
+  pub above : (other : ℕ) → IsPart other all_but_first → right < other → (least ≤ weight_through w bounds table set other) × (weight_through w bounds table set other < 2 ^ 128)
+  pub found : (least ≡ 2 ^ 128 - 1) ⊎ ((other : ℕ) × IsPart other all_but_first × (0 < other) × (weight_through w bounds table set other ≡ least))
 
-pub tried_none : (w : Weighing) (bounds table : List ℕ) (set behind : ℕ) → Tried w bounds table set behind behind (2 ^ 128 - 1)
-tried_none w bounds table set behind = record {
-  is_part = itself behind;
-  above = λ other is_other h. absurd (omega (arith, part_le other behind is_other));
+pub tried_none : (w : Weighing) (bounds table : List ℕ) (set all_but_first : ℕ) → Tried w bounds table set all_but_first all_but_first (2 ^ 128 - 1)
+tried_none w bounds table set all_but_first = record {
+  is_part = itself all_but_first;
+  above = λ other is_other h. absurd (omega (arith, part_le other all_but_first is_other));
   found = inl refl;
 }
 
-pub tried_more : (w : Weighing) (bounds table : List ℕ) (set behind right least through : ℕ) → Tried w bounds table set behind right least → 0 < right
-    → through ≡ weight_through w bounds table set right → through < 2 ^ 128 → Tried w bounds table set behind (bit_and (right - 1) behind) (min least through)
-tried_more w bounds table set behind right least through tried some is fits = record {
-  is_part = common_part (right - 1) behind;
+pub tried_more : (w : Weighing) (bounds table : List ℕ) (set all_but_first right least through : ℕ) → Tried w bounds table set all_but_first right least → 0 < right
+    → through ≡ weight_through w bounds table set right → through < 2 ^ 128 → Tried w bounds table set all_but_first (bit_and (right - 1) all_but_first) (min least through)
+tried_more w bounds table set all_but_first right least through tried some is fits = record {
+  is_part = common_part (right - 1) all_but_first;
   above = λ other is_other h. elim (cases_order other right) [
     | inl same ↦ (let this : weight_through w bounds table set other ≡ through = ap (weight_through w bounds table set) same ∙ sym is in
         (omega arith, omega arith))
     | inr apart ↦ elim apart [
-      | inl below ↦ absurd (omega (arith, none_between right behind other tried.is_part is_other below))
+      | inl below ↦ absurd (omega (arith, none_between right all_but_first other tried.is_part is_other below))
       | inr above ↦ (let before : (least ≤ weight_through w bounds table set other) × (weight_through w bounds table set other < 2 ^ 128) = tried.above other is_other above in
           (omega arith, before.1))
     ]
@@ -51,7 +51,7 @@ tried_more w bounds table set behind right least through tried some is fits = re
   found = elim (cases_lt through least) [
     | inl lighter ↦ (let is_min : min least through ≡ through = omega arith in inr (right, tried.is_part, some, sym is ∙ sym is_min))
     | inr heavier ↦ (let is_min : min least through ≡ least = omega arith in
-        subst (λ (v : ℕ). (v ≡ 2 ^ 128 - 1) ⊎ ((other : ℕ) × IsPart other behind × (0 < other) × (weight_through w bounds table set other ≡ v))) (sym is_min) tried.found)
+        subst (λ (v : ℕ). (v ≡ 2 ^ 128 - 1) ⊎ ((other : ℕ) × IsPart other all_but_first × (0 < other) × (weight_through w bounds table set other ≡ v))) (sym is_min) tried.found)
   ];
 }
 
@@ -63,7 +63,7 @@ least_of_one w bounds set first is_first none = record {
   none_lighter = λ other is_tree. omega arith;
 }
 
--- the tree over `set` weighs what the table gives for this right set
+-- a tree over `set` that has this right set and the weight in the array
 pub record Through (w : Weighing) (bounds table : List ℕ) (set right : ℕ) : Type 0 where
   pub tree : PlanTree
   pub is_tree : IsTreeOver set tree
@@ -87,7 +87,7 @@ tree_through w bounds table set right split left_side right_side =
           ∙ ap (λ k. combined w (get_or bounds set 0) (get_or table (set - right) 0) k) right_side.weighs;
     }
 
-pub through_is_least : (w : Weighing) (bounds table : List ℕ) (set end : ℕ) (left right : PlanTree) → set ≤ end → IsTable w bounds table end → IsTreeOver set (node left right)
+pub through_is_least : (w : Weighing) (bounds table : List ℕ) (set end : ℕ) (left right : PlanTree) → set ≤ end → HasLeastWeights w bounds table end → IsTreeOver set (node left right)
     → weight_through w bounds table set (leaf_set right) ≤ weight_of w bounds (node left right)
 through_is_least w bounds table set end left right h is_table is_tree =
     let whole : leaf_set left + leaf_set right ≡ set = tree_set set (node left right) is_tree in
@@ -103,17 +103,17 @@ through_is_least w bounds table set end left right h is_table is_tree =
       ap (λ k. combined w (get_or bounds k 0) (weight_of w bounds left) (weight_of w bounds right)) whole,
     )
 
-pub left_in_table : (w : Weighing) (bounds table : List ℕ) (set end right : ℕ) → set ≤ end → IsTable w bounds table end → IsSplit set (set - right) right
+pub left_in_table : (w : Weighing) (bounds table : List ℕ) (set end right : ℕ) → set ≤ end → HasLeastWeights w bounds table end → IsSplit set (set - right) right
     → IsLeastWeight w bounds (set - right) (get_or table (set - right) 0)
 left_in_table w bounds table set end right h is_table split =
     is_table (set - right) split.some_left (omega (arith, split.some_right, split.some_left))
 
-pub right_in_table : (w : Weighing) (bounds table : List ℕ) (set end right : ℕ) → set ≤ end → IsTable w bounds table end → IsSplit set (set - right) right
+pub right_in_table : (w : Weighing) (bounds table : List ℕ) (set end right : ℕ) → set ≤ end → HasLeastWeights w bounds table end → IsSplit set (set - right) right
     → IsLeastWeight w bounds right (get_or table right 0)
 right_in_table w bounds table set end right h is_table split =
     is_table right split.some_right (omega (arith, split.some_left, split.some_right))
 
-pub least_of_tried : (w : Weighing) (bounds table : List ℕ) (set first least : ℕ) → IsFirstEntry set first → 0 < set - 2 ^ first → IsTable w bounds table set
+pub least_of_tried : (w : Weighing) (bounds table : List ℕ) (set first least : ℕ) → IsFirstEntry set first → 0 < set - 2 ^ first → HasLeastWeights w bounds table set
     → Tried w bounds table set (set - 2 ^ first) 0 least → IsLeastWeight w bounds set least
 least_of_tried w bounds table set first least is_first more is_table tried = elim tried.found [
   | inl heaviest ↦ (let its : (least ≤ weight_through w bounds table set (set - 2 ^ first)) × (weight_through w bounds table set (set - 2 ^ first) < 2 ^ 128) =

@@ -1,5 +1,5 @@
 -- The joins of a tree over all entries make a plan. There is one join fewer than entries, and each join has a higher number than the two nodes that
--- it joins. Together the joins name each node but the root exactly once.
+-- it joins. Together the joins name each node except the root exactly once.
 use Rattle.std.proofs.Common.{◌≡◌, ℕ, zero, suc, ◌+◌, ◌*◌, ◌-◌, ◌^◌, ◌<◌, ◌≤◌, eqb, leb, ltb, cond, List, [], ◌∷◌, ◌++◌, length, get_or, refl, ap, sym, ◌∙◌, subst, arith, inl, inr}
 use Rattle.std.specs.Int.{bit_at}
 use Rattle.std.specs.List.{AllByRecursion, count_by}
@@ -61,9 +61,9 @@ count_of_all n tree is_tree = inner_count_by_size n (full_set n) tree (omega (ar
 
 -- ---- each join has a higher number than the two nodes that it joins
 
-behind-append : (own next : ℕ) (xs ys : List Join) → HaveHigherNumbers own xs → own + length xs ≡ next → HaveHigherNumbers next ys → HaveHigherNumbers own (xs ++ ys)
-behind-append own next [] ys p is q = let same : next ≡ own = omega arith in subst (λ (k : ℕ). HaveHigherNumbers k ys) same q
-behind-append own next (x ∷ xs) ys p is q = (p.0, p.1, behind-append (own + 1) next xs ys p.2 (omega arith) q)
+all_but_first-append : (own next : ℕ) (xs ys : List Join) → HaveHigherNumbers own xs → own + length xs ≡ next → HaveHigherNumbers next ys → HaveHigherNumbers own (xs ++ ys)
+all_but_first-append own next [] ys p is q = let same : next ≡ own = omega arith in subst (λ (k : ℕ). HaveHigherNumbers k ys) same q
+all_but_first-append own next (x ∷ xs) ys p is q = (p.0, p.1, all_but_first-append (own + 1) next xs ys p.2 (omega arith) q)
 
 root_below : (n set next : ℕ) (tree : PlanTree) → set < 2 ^ n → n ≤ next → IsTreeOver set tree → root_number next tree < next + inner_count tree
 root_below n set next (leaf entry) fits h is_tree =
@@ -78,8 +78,8 @@ have_higher_numbers bounds n set next (node left right) fits h is_tree =
     let left_root : root_number next left < next + inner_count left = root_below n (leaf_set left) next left (omega arith) h is_tree.1 in
     let right_root : root_number (next + inner_count left) right < next + inner_count left + inner_count right =
     root_below n (leaf_set right) (next + inner_count left) right (omega arith) (omega arith) is_tree.2 in
-    behind-append next (next + inner_count left + inner_count right) (joins_from bounds next left ++ joins_from bounds (next + inner_count left) right) _
-    (behind-append next (next + inner_count left) (joins_from bounds next left) (joins_from bounds (next + inner_count left) right)
+    all_but_first-append next (next + inner_count left + inner_count right) (joins_from bounds next left ++ joins_from bounds (next + inner_count left) right) _
+    (all_but_first-append next (next + inner_count left) (joins_from bounds next left) (joins_from bounds (next + inner_count left) right)
     (have_higher_numbers bounds n (leaf_set left) next left (omega arith) h is_tree.1)
     (omega (arith, length-joins_from bounds next left))
     (have_higher_numbers bounds n (leaf_set right) (next + inner_count left) right (omega arith) (omega arith) is_tree.2))
@@ -96,11 +96,11 @@ have_higher_numbers bounds n set next (node left right) fits h is_tree =
 abbrev occurrences : ℕ → List ℕ → ℕ
 occurrences k xs = count_by (λ other. eqb other k) xs
 
--- this is 1 if the numbers are equal, otherwise 0
+-- 1 if the numbers are equal, otherwise 0
 abbrev if_equal : ℕ → ℕ → ℕ
 if_equal a b = cond (eqb a b) 1 0
 
--- this is 1 if first <= k < first + count, otherwise 0
+-- 1 if first <= k < first + count, otherwise 0
 abbrev inside : ℕ → ℕ → ℕ → ℕ
 inside first count k = cond (leb first k) (cond (ltb k (first + count)) 1 0) 0
 
@@ -159,7 +159,8 @@ times_in_node bounds next k left right =
       occurrences-two k (root_number next left) (root_number (next + inner_count left) right),
     )
 
--- two lists have the number k equally often: the nodes that joins name with the root, and the leaves with the inner nodes
+-- the number k is equally often in two lists. The first list has the nodes that joins name, and the root. The second has the leaves and the inner
+-- nodes
 named_with_root : (bounds : List ℕ) (set next k : ℕ) (tree : PlanTree) → IsTreeOver set tree
     → occurrences k (joined_nodes (joins_from bounds next tree)) + if_equal (root_number next tree) k ≡ bit_at set k + inside next (inner_count tree) k
 named_with_root bounds set next k (leaf entry) is_tree = elim (cases_eq k entry) [
@@ -201,7 +202,7 @@ named_once bounds n k tree is_tree below =
       | inr is_inner ↦ omega (arith, all, other, bit_at_ones_above n k is_inner, inside_yes n (inner_count tree) k is_inner (omega arith))
     ]
 
--- ---- the bounds of joins
+-- ---- a property of the bounds of all joins
 
 all-append : (P : Join → Type 0) (xs ys : List Join) → AllByRecursion P xs → AllByRecursion P ys → AllByRecursion P (xs ++ ys)
 all-append P [] ys p q = q

@@ -1,4 +1,4 @@
--- Two best trees are the same tree. Two refusals that have causes are the same refusal, if neither of them is for too little memory.
+-- There is only one best tree. Apart from the refusal for too little memory, there is only one refusal that has a cause.
 use Rattle.std.proofs.Common.{◌≡◌, ℕ, ◌-◌, ◌^◌, ◌≤◌, List, refl, ap, sym, ◌∙◌, subst, arith, inl, inr}
 use Rattle.std.specs.Prelude.{◌⊎◌}
 use Rattle.std.proofs.lemmas.Bool.{cases_order}
@@ -23,12 +23,12 @@ ordered set (node l r) (node l' r') p q = elim (cases_order (leaf_set l) (leaf_s
       elim (ordered (leaf_set l) l l' p.1 (subst (λ (k : ℕ). IsTreeOver k l') (sym same) q.1)) [
         | inr left_apart ↦ elim left_apart [
           | inl before ↦ inr (inl (inr (same, inl before)))
-          | inr behind ↦ inr (inr (inr (sym same, inl behind)))
+          | inr all_but_first ↦ inr (inr (inr (sym same, inl all_but_first)))
         ]
         | inl left_same ↦ elim (ordered (leaf_set r) r r' p.2 (subst (λ (k : ℕ). IsTreeOver k r') right_same q.2)) [
           | inr right_apart ↦ elim right_apart [
             | inl before ↦ inr (inl (inr (same, inr (left_same, before))))
-            | inr behind ↦ inr (inr (inr (sym same, inr (sym left_same, behind))))
+            | inr all_but_first ↦ inr (inr (inr (sym same, inr (sym left_same, all_but_first))))
           ]
           | inl equal ↦ inl (ap (λ t. node t r) left_same ∙ ap (λ t. node l' t) equal)
         ]
@@ -43,7 +43,7 @@ one_best bounds n a b p q =
       | inl same ↦ same
       | inr apart ↦ elim apart [
         | inl before ↦ absurd (q.none_earlier a p.is_tree (sym costs) (sym totals) before)
-        | inr behind ↦ absurd (p.none_earlier b q.is_tree costs totals behind)
+        | inr all_but_first ↦ absurd (p.none_earlier b q.is_tree costs totals all_but_first)
       ]
     ]
 

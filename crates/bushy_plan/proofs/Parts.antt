@@ -1,4 +1,4 @@
--- A part of a set of entries is a number whose bits are among the set's bits. A loop goes over all parts, from the greatest number down.
+-- A part of a set is a subset, as a number whose bits are among the set's bits. A loop goes over all parts, from the greatest number down.
 use Rattle.std.proofs.Common.{◌≡◌, ℕ, zero, suc, ◌+◌, ◌-◌, ◌/◌, ◌%◌, ◌<◌, ◌≤◌, min, ap, arith, inl, inr}
 use Rattle.std.specs.Int.{bit_at}
 use Rattle.std.specs.Prelude.{bit_and}

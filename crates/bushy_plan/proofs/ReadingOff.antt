@@ -9,19 +9,19 @@ use Rattle.bushy_plan.specs.declared.weight.Weighing.{Weighing}
 use Rattle.bushy_plan.specs.declared.weight.Weighing.TheVariants as weight
 use Rattle.bushy_plan.specs.BestTree.{IsTreeBefore}
 use Rattle.bushy_plan.specs.PlanTrees.{IsFirstEntry, IsSplit, IsTreeOver, PlanTree, leaf, node, leaf_set}
-use Rattle.bushy_plan.specs.Splits.{IsWithoutFirst, IsFirstLightest, IsFirstLightestSplit, IsLeastWeight, IsTable, combined, weight_of, weight_through}
+use Rattle.bushy_plan.specs.Splits.{IsWithoutFirst, IsFirstLightest, IsFirstLightestSplit, IsLeastWeight, HasLeastWeights, combined, weight_of, weight_through}
 use Rattle.bushy_plan.proofs.Parts.{IsPart, itself, common_part, none_between, part_le}
 use Rattle.bushy_plan.proofs.Splitting.{no_leaf, only_leaf, part_of_split, split_of_part, split_by_right, split_sum, tree_set}
 use Rattle.bushy_plan.proofs.Lightest.{Through, combined-beyond, combined-within, left_in_table, right_in_table, through_is_least, tree_through}
 
--- ---- the first lightest split
+-- ---- the search for the first lightest split
 
 record Attained (w : Weighing) (bounds table : List ℕ) (set : ℕ) : Type 0 where
   right : ℕ
   is_split : IsSplit set (set - right) right
   lightest : weight_through w bounds table set right ≡ get_or table set 0
 
-through_at_least : (w : Weighing) (bounds table : List ℕ) (set end right : ℕ) → set < end → IsTable w bounds table end → IsSplit set (set - right) right
+through_at_least : (w : Weighing) (bounds table : List ℕ) (set end right : ℕ) → set < end → HasLeastWeights w bounds table end → IsSplit set (set - right) right
     → get_or table set 0 ≤ weight_through w bounds table set right
 through_at_least w bounds table set end right h is_table split =
     let through : Through w bounds table set right =
@@ -29,7 +29,7 @@ through_at_least w bounds table set end right h is_table split =
     let some : 0 < set = omega (arith, split.some_left) in
     omega (arith, through.weighs, (is_table set some h).none_lighter through.tree through.is_tree)
 
-through_of_tree : (w : Weighing) (bounds table : List ℕ) (set end : ℕ) (left right : PlanTree) → set < end → IsTable w bounds table end → IsTreeOver set (node left right)
+through_of_tree : (w : Weighing) (bounds table : List ℕ) (set end : ℕ) (left right : PlanTree) → set < end → HasLeastWeights w bounds table end → IsTreeOver set (node left right)
     → weight_of w bounds (node left right) ≡ get_or table set 0 → weight_through w bounds table set (leaf_set right) ≡ get_or table set 0
 through_of_tree w bounds table set end left right h is_table is_tree weighs =
     omega (
@@ -39,7 +39,7 @@ through_of_tree w bounds table set end left right h is_table is_tree weighs =
       through_at_least w bounds table set end (leaf_set right) h is_table (split_by_right set (leaf_set left) (leaf_set right) is_tree.0),
     )
 
-attained : (w : Weighing) (bounds table : List ℕ) (set end first : ℕ) → IsFirstEntry set first → 0 < set - 2 ^ first → set < end → IsTable w bounds table end → Attained w bounds table set
+attained : (w : Weighing) (bounds table : List ℕ) (set end first : ℕ) → IsFirstEntry set first → 0 < set - 2 ^ first → set < end → HasLeastWeights w bounds table end → Attained w bounds table set
 attained w bounds table set end first is_first more h is_table = at least.tree least.is_tree least.weighs
   where
     least : IsLeastWeight w bounds set (get_or table set 0)
@@ -53,40 +53,40 @@ attained w bounds table set end first is_first more h is_table = at least.tree l
       lightest = through_of_tree w bounds table set end left right h is_table is_tree weighs;
     }
 
--- the right sets above `right` were looked at, and no split by one of them is as light as the table says
-pub record NotFoundYet (w : Weighing) (bounds table : List ℕ) (set behind right : ℕ) : Type 0 where
-  pub is_part : IsPart right behind
+-- the right sets above `right` were tried, and none of their splits is as light as the array says
+pub record NotFoundYet (w : Weighing) (bounds table : List ℕ) (set all_but_first right : ℕ) : Type 0 where
+  pub is_part : IsPart right all_but_first
   pub some : 0 < right
-  pub none_above : (other : ℕ) → IsPart other behind → right < other → weight_through w bounds table set other ≢ get_or table set 0
+  pub none_above : (other : ℕ) → IsPart other all_but_first → right < other → weight_through w bounds table set other ≢ get_or table set 0
 
-pub looked_none : (w : Weighing) (bounds table : List ℕ) (set behind : ℕ) → 0 < behind → NotFoundYet w bounds table set behind behind
-looked_none w bounds table set behind more = record {
-  is_part = itself behind;
+pub looked_none : (w : Weighing) (bounds table : List ℕ) (set all_but_first : ℕ) → 0 < all_but_first → NotFoundYet w bounds table set all_but_first all_but_first
+looked_none w bounds table set all_but_first more = record {
+  is_part = itself all_but_first;
   some = more;
-  none_above = λ other is_other h same. omega (arith, part_le other behind is_other);
+  none_above = λ other is_other h same. omega (arith, part_le other all_but_first is_other);
 }
 
-behind_part : (set behind right : ℕ) → (b : IsWithoutFirst set behind) → IsPart right behind → IsPart right (set - 2 ^ b.first)
-behind_part set behind right b is_part = subst (λ (k : ℕ). IsPart right k) b.others is_part
+behind_part : (set all_but_first right : ℕ) → (b : IsWithoutFirst set all_but_first) → IsPart right all_but_first → IsPart right (set - 2 ^ b.first)
+behind_part set all_but_first right b is_part = subst (λ (k : ℕ). IsPart right k) b.others is_part
 
-part_behind : (set behind right : ℕ) → (b : IsWithoutFirst set behind) → IsSplit set (set - right) right → IsPart right behind
-part_behind set behind right b split = subst (λ (k : ℕ). IsPart right k) (sym b.others) (part_of_split set b.first (set - right) right b.is_first split)
+part_behind : (set all_but_first right : ℕ) → (b : IsWithoutFirst set all_but_first) → IsSplit set (set - right) right → IsPart right all_but_first
+part_behind set all_but_first right b split = subst (λ (k : ℕ). IsPart right k) (sym b.others) (part_of_split set b.first (set - right) right b.is_first split)
 
-pub looked_more : (w : Weighing) (bounds table : List ℕ) (set end behind right : ℕ) → IsWithoutFirst set behind → 0 < behind → set < end → IsTable w bounds table end
-    → NotFoundYet w bounds table set behind right → weight_through w bounds table set right ≢ get_or table set 0 → NotFoundYet w bounds table set behind (bit_and (right - 1) behind)
-looked_more w bounds table set end behind right b more h is_table looked isnt = record {
-  is_part = common_part (right - 1) behind;
+pub looked_more : (w : Weighing) (bounds table : List ℕ) (set end all_but_first right : ℕ) → IsWithoutFirst set all_but_first → 0 < all_but_first → set < end → HasLeastWeights w bounds table end
+    → NotFoundYet w bounds table set all_but_first right → weight_through w bounds table set right ≢ get_or table set 0 → NotFoundYet w bounds table set all_but_first (bit_and (right - 1) all_but_first)
+looked_more w bounds table set end all_but_first right b more h is_table looked isnt = record {
+  is_part = common_part (right - 1) all_but_first;
   some = elim (cases_order goal.right right) [
     | inl same ↦ absurd (isnt (ap (weight_through w bounds table set) (sym same) ∙ goal.lightest))
     | inr apart ↦ elim apart [
-      | inl below ↦ omega (arith, none_between right behind goal.right looked.is_part its_part below, goal.is_split.some_right)
+      | inl below ↦ omega (arith, none_between right all_but_first goal.right looked.is_part its_part below, goal.is_split.some_right)
       | inr above ↦ absurd (looked.none_above goal.right its_part above goal.lightest)
     ]
   ];
   none_above = λ other is_other above same. elim (cases_order other right) [
     | inl equal ↦ isnt (ap (weight_through w bounds table set) (sym equal) ∙ same)
     | inr apart ↦ elim apart [
-      | inl below ↦ omega (arith, none_between right behind other looked.is_part is_other below)
+      | inl below ↦ omega (arith, none_between right all_but_first other looked.is_part is_other below)
       | inr further ↦ looked.none_above other is_other further same
     ]
   ];
@@ -95,22 +95,22 @@ looked_more w bounds table set end behind right b more h is_table looked isnt = 
     goal : Attained w bounds table set
     goal = attained w bounds table set end b.first b.is_first (omega (arith, b.others)) h is_table
 
-    its_part : IsPart goal.right behind
-    its_part = part_behind set behind goal.right b goal.is_split
+    its_part : IsPart goal.right all_but_first
+    its_part = part_behind set all_but_first goal.right b goal.is_split
 
-pub looked_all : (w : Weighing) (bounds table : List ℕ) (set behind right : ℕ) → IsWithoutFirst set behind → NotFoundYet w bounds table set behind right
+pub looked_all : (w : Weighing) (bounds table : List ℕ) (set all_but_first right : ℕ) → IsWithoutFirst set all_but_first → NotFoundYet w bounds table set all_but_first right
     → weight_through w bounds table set right ≡ get_or table set 0 → IsFirstLightestSplit w bounds table set right
-looked_all w bounds table set behind right b looked is = record {
-  is_split = split_of_part set b.first right b.is_first (behind_part set behind right b looked.is_part) looked.some;
+looked_all w bounds table set all_but_first right b looked is = record {
+  is_split = split_of_part set b.first right b.is_first (behind_part set all_but_first right b looked.is_part) looked.some;
   lightest = is;
-  first = λ other split above. looked.none_above other (part_behind set behind other b split) above;
+  first = λ other split above. looked.none_above other (part_behind set all_but_first other b split) above;
 }
 
-pub looked_within : (w : Weighing) (bounds table : List ℕ) (set behind right : ℕ) → IsWithoutFirst set behind → NotFoundYet w bounds table set behind right → right < set
-looked_within w bounds table set behind right b looked =
-    omega (arith, part_le right behind looked.is_part, b.others, power_within b.first set b.is_first.is_in, pow_pos b.first)
+pub looked_within : (w : Weighing) (bounds table : List ℕ) (set all_but_first right : ℕ) → IsWithoutFirst set all_but_first → NotFoundYet w bounds table set all_but_first right → right < set
+looked_within w bounds table set all_but_first right b looked =
+    omega (arith, part_le right all_but_first looked.is_part, b.others, power_within b.first set b.is_first.is_in, pow_pos b.first)
 
--- ---- the first lightest tree
+-- ---- the tree over the first lightest split is the first lightest tree
 
 pub first_of_one : (w : Weighing) (bounds : List ℕ) (set first : ℕ) → IsFirstEntry set first → set - 2 ^ first ≡ 0 → IsFirstLightest w bounds set (leaf first)
 first_of_one w bounds set first is_first none = record {
@@ -123,7 +123,7 @@ first_of_one w bounds set first is_first none = record {
     not_before (leaf entry) is_tree before = before
     not_before (node left right) is_tree before = before
 
--- the bound of the set is at most `most`, and this bound and the weights of both sides sum to the weight in the table
+-- the bound of the set is at most `most`. This bound and the weights of both sides sum to the weight in the array
 pub record Light (most : ℕ) (bounds table : List ℕ) (set right : ℕ) : Type 0 where
   pub bound : get_or bounds set 0 ≤ most
   pub sums : get_or bounds set 0 + get_or table (set - right) 0 + get_or table right 0 ≡ get_or table set 0
@@ -143,7 +143,7 @@ light_sides most bounds table set right is below =
     light_sums most (get_or bounds set 0) (get_or table (set - right) 0) (get_or table right 0) (get_or table set 0) is below in
     record { bound = sums.0; sums = sums.1; left = omega (arith, sums.1); right_side = omega (arith, sums.1) }
 
-weighs_table : (w : Weighing) (bounds table : List ℕ) (set end : ℕ) (tree : PlanTree) → 0 < set → set < end → IsTable w bounds table end → IsFirstLightest w bounds set tree
+weighs_table : (w : Weighing) (bounds table : List ℕ) (set end : ℕ) (tree : PlanTree) → 0 < set → set < end → HasLeastWeights w bounds table end → IsFirstLightest w bounds set tree
     → weight_of w bounds tree ≡ get_or table set 0
 weighs_table w bounds table set end tree some h is_table is_first =
     let least : IsLeastWeight w bounds set (get_or table set 0) = is_table set some h in
@@ -158,7 +158,7 @@ node_over set right_set left right split left_tree right_tree =
       subst (λ (k : ℕ). IsTreeOver k right) (sym right_is) right_tree,
     )
 
-pub first_of_sides : (most : ℕ) (bounds table : List ℕ) (set end right_set : ℕ) (left right : PlanTree) → set < end → IsTable (weight.SumOfBoundsUpTo most) bounds table end
+pub first_of_sides : (most : ℕ) (bounds table : List ℕ) (set end right_set : ℕ) (left right : PlanTree) → set < end → HasLeastWeights (weight.SumOfBoundsUpTo most) bounds table end
     → get_or table set 0 < 2 ^ 128 - 1 → IsFirstLightestSplit (weight.SumOfBoundsUpTo most) bounds table set right_set
     → IsFirstLightest (weight.SumOfBoundsUpTo most) bounds (set - right_set) left → IsFirstLightest (weight.SumOfBoundsUpTo most) bounds right_set right
     → IsFirstLightest (weight.SumOfBoundsUpTo most) bounds set (node left right)
@@ -199,8 +199,7 @@ first_of_sides most bounds table set end right_set left right h is_table is_ligh
     sums : Light most bounds table set right_set
     sums = light_sides most bounds table set right_set split.lightest is_light
 
-    -- `left` and `right` are the sides of the tree that is read off, and `left'` and `right'` those of another tree. So the two trees can be compared
-    -- side by side
+    -- the tree that is read off has the sides `left` and `right`, and another tree has `left'` and `right'`. Their sides can be compared
     sides_weigh : (left' right' : PlanTree) → IsTreeOver set (node left' right') → weight_of (weight.SumOfBoundsUpTo most) bounds (node left' right') ≡ get_or table set 0 → leaf_set left' ≡ set - right_set
         → IsTreeOver (set - right_set) left' × IsTreeOver right_set right'
         × (weight_of (weight.SumOfBoundsUpTo most) bounds left' ≡ weight_of (weight.SumOfBoundsUpTo most) bounds left) × (weight_of (weight.SumOfBoundsUpTo most) bounds right' ≡ weight_of (weight.SumOfBoundsUpTo most) bounds right)

@@ -110,7 +110,7 @@ with_over set last (node left right) tree fits is_tree is_with = elim is_with [
     first : (first : ℕ) × IsFirstEntry set first
     first = tree_first set (node left right) is_tree
 
--- ---- for any order that can compare every two trees, some tree is least
+-- ---- if an order can compare every two trees, some tree is least in it
 
 record IsTotalPreorder (R : PlanTree → PlanTree → Type 0) : Type 0 where
   either : (a b : PlanTree) → R a b ⊎ R b a
@@ -130,7 +130,7 @@ record LeastWith (R : PlanTree → PlanTree → Type 0) (last : ℕ) (rest : Pla
   is_with : IsWith last rest tree
   least : (other : PlanTree) → IsWith last rest other → R tree other
 
--- the last entry is joined to the root, or at its best place in the left tree, or at its best place in the right tree
+-- in the least tree the last entry is joined to the root, or at its best place in one of the two subtrees
 least_of_three : (R : PlanTree → PlanTree → Type 0) → IsTotalPreorder R → (last : ℕ) (left right : PlanTree) → LeastWith (λ a b. R (node a right) (node b right)) last left
     → LeastWith (λ a b. R (node left a) (node left b)) last right → LeastWith R last (node left right)
 least_of_three R order last left right l r = elim (order.either (node l.tree right) (node left r.tree)) [
@@ -203,7 +203,7 @@ least_of_all R order (suc (suc n)) some =
     least_next R order n
     (least_of_all (λ a b. R (grown R order (suc n) a) (grown R order (suc n) b)) (through R (λ t. grown R order (suc n) t) order) (suc n) (omega arith))
 
--- ---- the order by cost, then by sum, then by the left sets as they are read from the root on
+-- ---- the order of trees by cost, then by sum, then by the left sets, read from the root down
 
 abbrev left_sets : PlanTree → List ℕ
 left_sets (leaf entry) = []
@@ -265,7 +265,7 @@ not_after_behind (x ∷ a) c d h = elim h [
   | inr here ↦ not_after_behind a c d here.1
 ]
 
--- so a tree whose list of left sets is least is the first tree
+-- the tree whose list of left sets is least is the first tree
 before_placed : (n set : ℕ) (a b : PlanTree) → set < 2 ^ n → IsTreeOver set a → IsTreeOver set b → IsTreeBefore a b → HasLesserLeftSets b a → ⊥
 before_placed n set (leaf x) b fits p q before h = before
 before_placed n set (node l r) (leaf y) fits p q before h = before

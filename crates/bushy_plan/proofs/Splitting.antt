@@ -1,4 +1,4 @@
--- The right sets of a set's splits are the parts of the set without its first entry, except the empty one.
+-- The right sets of a set's splits are the nonempty subsets of the set without its first entry.
 use Rattle.std.proofs.Common.{◌≡◌, ℕ, ◌+◌, ◌-◌, ◌^◌, ◌<◌, ◌≤◌, ap, sym, ◌∙◌, subst, arith, inl, inr}
 use Rattle.std.specs.Int.{Width, bit_at, trailing_zeros}
 use mir.Val.{bits}

@@ -1,4 +1,4 @@
--- A test computes whether one tree is no worse than another. With it the small examples of best trees are proved.
+-- A test that computes whether one tree is no worse than another. It proves the small examples of best trees.
 use Rattle.std.proofs.Common.{◌≡◌, ℕ, ◌<◌, Bool, true, false, eqb, cond, List, refl, subst, eq-eqb, arith, inl, inr}
 use Rattle.std.specs.Prelude.{◌⊎◌}
 use Rattle.order_search.proofs.Tested.{both_true, first_test, first_from_test}
@@ -6,7 +6,7 @@ use Rattle.bushy_plan.specs.BestTree.{IsTreeBefore, IsBest, full_set, cost, tota
 use Rattle.bushy_plan.specs.PlanTrees.{IsTreeOver, PlanTree, leaf, node, leaf_set}
 use Rattle.bushy_plan.proofs.AllTrees.{at_tree, each_tree}
 
--- ---- the test
+-- ---- the definition of the test
 
 abbrev pub same_tree : PlanTree → PlanTree → Bool
 same_tree (leaf a) (leaf b) = eqb a b
@@ -18,7 +18,7 @@ same_itself : (tree : PlanTree) → same_tree tree tree ≡ true
 same_itself (leaf entry) = eq-eqb entry entry refl
 same_itself (node left right) = rw (same_itself left) (same_itself right)
 
--- this is false if the first tree comes before the second
+-- false if the first tree comes before the second, otherwise true
 abbrev pub not_before : PlanTree → PlanTree → Bool
 not_before (leaf a) other = true
 not_before (node left right) (leaf b) = true

@@ -1,4 +1,4 @@
--- Why there is no plan: the least cost of a tree is too high, as with orders.
+-- The causes of refusals: the least cost of a tree is too high.
 use Rattle.std.specs.Prelude.{ℕ, List}
 use Rattle.order_search.specs.Causes.{IsCauseOf}
 use Rattle.order_search.specs.declared.refusal.PlanError.{PlanError}

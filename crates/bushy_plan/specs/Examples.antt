@@ -1,4 +1,4 @@
--- Bounds of the sets of two and three entries, for worked examples.
+-- Bounds of the sets of two and three entries, for examples.
 use Rattle.std.specs.Prelude.{ℕ, List, [], ◌∷◌}
 
 abbrev pub one_pair : List ℕ

@@ -13,31 +13,31 @@ abbrev pub leaf_set : PlanTree → ℕ
 leaf_set (leaf entry) = 2 ^ entry
 leaf_set (node left right) = leaf_set left + leaf_set right
 
--- the entry `first` is in the set, and no entry before it is
+-- the entry `first` is in the set, and no entry with a lower number is
 pub record IsFirstEntry (set first : ℕ) : Type 0 where
   pub is_in : bit_at set first ≡ 1
   pub none_before : (entry : ℕ) → entry < first → bit_at set entry ≡ 0
 
--- each entry of the set is in one of two sets, which are not empty, and the set's first entry is in the left one
+-- a split of the set. Each entry of the set is in exactly one of the two sets. Neither is empty, and the left one has the set's first entry
 pub record IsSplit (set left right : ℕ) : Type 0 where
   pub apart : (entry : ℕ) → bit_at left entry + bit_at right entry ≡ bit_at set entry
   pub some_left : 0 < left
   pub some_right : 0 < right
   pub first_left : (first : ℕ) → IsFirstEntry set first → bit_at left first ≡ 1
 
--- the trees over a set: for one entry its leaf, and for more entries a split with a tree over each side
+-- the trees over a set: for one entry its leaf, and for several entries a split with a tree over each side
 abbrev pub IsTreeOver : ℕ → PlanTree → Type 0
 IsTreeOver set (leaf entry) = set ≡ 2 ^ entry
 IsTreeOver set (node left right) = IsSplit set (leaf_set left) (leaf_set right) × IsTreeOver (leaf_set left) left
     × IsTreeOver (leaf_set right) right
 
--- how many inner nodes a tree has
+-- the number of a tree's inner nodes
 abbrev pub inner_count : PlanTree → ℕ
 inner_count (leaf entry) = 0
 inner_count (node left right) = inner_count left + inner_count right + 1
 
--- The number of the root. The number of a leaf is its entry. Inner nodes are numbered from `next` on: first the inner nodes of the left subtree, then
--- those of the right subtree, then the root.
+-- the number of a tree's root. The number of a leaf is its entry. Inner nodes are numbered from `next`: first the inner nodes of the left subtree,
+-- then those of the right subtree, then the root
 abbrev pub root_number : ℕ → PlanTree → ℕ
 root_number next (leaf entry) = entry
 root_number next (node left right) = next + inner_count left + inner_count right

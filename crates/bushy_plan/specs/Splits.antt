@@ -7,11 +7,11 @@ use Rattle.bushy_plan.specs.PlanTrees.{PlanTree, leaf, node, IsFirstEntry, IsSpl
 use Rattle.bushy_plan.specs.declared.weight.Weighing.{Weighing}
 use Rattle.bushy_plan.specs.declared.weight.Weighing.TheVariants as weight
 
--- the entries of a set without its first one
-pub record IsWithoutFirst (set behind : ℕ) : Type 0 where
+-- `all_but_first` has the entries of the set except its first entry
+pub record IsWithoutFirst (set all_but_first : ℕ) : Type 0 where
   pub first : ℕ
   pub is_first : IsFirstEntry set first
-  pub others : behind ≡ set - 2 ^ first
+  pub others : all_but_first ≡ set - 2 ^ first
 
 -- the weight of a node, from its bound and the weights of its two sides. With `SumOfBoundsUpTo`, a bound above `most` gives the greatest weight
 abbrev pub combined : Weighing → ℕ → ℕ → ℕ → ℕ
@@ -24,18 +24,18 @@ weight_of w bounds (leaf entry) = 0
 weight_of w bounds (node left right) = combined w (slice_index bounds (leaf_set left
     + leaf_set right)) (weight_of w bounds left) (weight_of w bounds right)
 
--- a tree over the set has this weight, and no tree over the set is lighter
+-- some tree over the set has this weight, and no tree over the set is lighter
 pub record IsLeastWeight (w : Weighing) (bounds : List ℕ) (set least : ℕ) : Type 0 where
   pub tree : PlanTree
   pub is_tree : IsTreeOver set tree
   pub weighs : weight_of w bounds tree ≡ least
   pub none_lighter : (other : PlanTree) → IsTreeOver set other → least ≤ weight_of w bounds other
 
--- the table has the least weight of each set with a number below `end`. It says nothing of number 0, as no tree is over the empty set
-abbrev pub IsTable : Weighing → List ℕ → List ℕ → ℕ → Type 0
-IsTable w bounds table end = (set : ℕ) → 0 < set → set < end → IsLeastWeight w bounds set (slice_index table set)
+-- `table` has the least weight of each set whose number is below `end`. It may have any number for the empty set, over which there is no tree
+abbrev pub HasLeastWeights : Weighing → List ℕ → List ℕ → ℕ → Type 0
+HasLeastWeights w bounds table end = (set : ℕ) → 0 < set → set < end → IsLeastWeight w bounds set (slice_index table set)
 
--- the weight of the lightest tree over the set whose root has the right set `right`, by the table
+-- the weight of the lightest tree over the set whose root has the right set `right`, by the weights in `table`
 abbrev pub weight_through : Weighing → List ℕ → List ℕ → ℕ → ℕ → ℕ
 weight_through w bounds table set right = combined w (slice_index bounds set) (slice_index table (set - right)) (slice_index table right)
 
@@ -52,8 +52,8 @@ pub record IsFirstLightest (w : Weighing) (bounds : List ℕ) (set : ℕ) (tree 
   pub none_lighter : (other : PlanTree) → IsTreeOver set other → weight_of w bounds tree ≤ weight_of w bounds other
   pub none_earlier : (other : PlanTree) → IsTreeOver set other → weight_of w bounds other ≡ weight_of w bounds tree → ¬ IsTreeBefore other tree
 
--- the joins of the first of the lightest trees were appended, and the root of this tree has the number `root`. Inner nodes are numbered from `next`
--- on
+-- the joins of the first of the lightest trees were appended. The root of this tree has the number `root`, and its inner nodes are numbered from
+-- `next`
 pub record AppendsFirstLightest (w : Weighing) (bounds : List ℕ) (next set : ℕ) (old new : List Join) (root : ℕ) : Type 0 where
   pub tree : PlanTree
   pub is_first : IsFirstLightest w bounds set tree

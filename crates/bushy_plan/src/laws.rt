@@ -1,4 +1,4 @@
-//! What the definitions say, as laws. Each call does nothing.
+//! Laws of the definitions. Each call does nothing.
 ghost use Rattle.std.specs.Prelude.{◌≡◌, ◌≤◌, ◌⊎◌, [], ◌∷◌, ℕ, List};
 ghost use Rattle.limits.specs.Profile.{greatest_budget};
 ghost use Rattle.tree_plans.specs.Examples.{join};
@@ -9,14 +9,14 @@ ghost use Rattle.bushy_plan.specs.PlanTrees.{PlanTree, leaf_set, joins_from, lea
 ghost use Rattle.order_search.specs.declared.refusal.PlanError.{PlanError};
 ghost use Rattle.order_search.specs.declared.refusal.PlanError.TheVariants as error;
 
-/// For any number of entries from 1 on, and for any bounds, exactly one tree is best.
+/// For one or more entries, and for any bounds, exactly one tree is best.
 pub fn one_best_tree()
     ensures some { (bounds : List ℕ) (n : ℕ) → 1 ≤ n → (best : PlanTree) × IsBest bounds n best }
     ensures one { (bounds : List ℕ) (n : ℕ) (a b : PlanTree) → IsBest bounds n a → IsBest bounds n b → a ≡ b }
 {}
 
-/// If the best tree costs no more than the budget, only too little memory can be the cause of a refusal. Besides too little memory, at most one
-/// refusal has a cause.
+/// If the best tree costs at most the budget, only `NoMemory` is a possible refusal. In any case, at most one refusal other than `NoMemory` has a
+/// cause.
 pub fn one_answer()
     ensures accepted { (bounds : List ℕ) (n budget : ℕ) (best : PlanTree) (e : PlanError) → budget ≤ greatest_budget
         → IsBest bounds n best → cost bounds best ≤ budget → IsCause bounds n budget e → e ≡ error.NoMemory }
@@ -25,7 +25,7 @@ pub fn one_answer()
         → (e ≡ error.NoMemory) ⊎ ((f ≡ error.NoMemory) ⊎ (e ≡ f)) }
 {}
 
-/// What the definitions give for one, two and three entries.
+/// The definitions, computed for one, two and three entries.
 pub fn examples()
     ensures entries { leaf_set (node (leaf 0) (leaf 2)) ≡ 5 }
     ensures alone { cost one_pair (leaf 0) ≡ 6 }

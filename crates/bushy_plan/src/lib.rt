@@ -1,11 +1,11 @@
 //! Finds the best join tree of a query's entries, from a bound for every set of entries.
 //!
-//! In: a bound for each set of the FROM entries, at the number whose bits are the set, and the bound of each entry's scan. The cost of a tree is the
-//! greatest bound among its inner nodes. Out: the tree of least cost, as a plan. If the least cost is above the budget, the refusal tells the least
-//! cost. If the least cost doesn't fit into 128 bits, the refusal says that it doesn't fit.
+//! In: a bound for each set of the FROM entries, and the bound of each entry's scan. The bound of the set {0, 2} has the index 5, which is 101 in
+//! binary. The cost of a tree is the greatest bound among its inner nodes. Out: the tree of least cost, as a plan. If the least cost is above the
+//! budget, the result is a refusal with the least cost. If the least cost doesn't fit into 128 bits, the refusal says this.
 //!
-//! Callers cite `IsBestPlan` and `IsBest` for the tree, `IsTreePlan` of tree_plans for its shape, and `IsCause` for a refusal. The refusals are the
-//! same as in order_search.
+//! In contracts `IsBestPlan` and `IsBest` describe the tree, `IsTreePlan` of tree_plans its shape, and `IsCause` a refusal. The refusals are those of
+//! order_search.
 //!
 //! ```text
 //! let plan = choose_bushy(alloc, &bounds, &scans, budget)?;

@@ -1,7 +1,7 @@
-//! The search for the best join tree.
+//! Searches for the best join tree.
 ghost use Rattle.std.specs.Prelude.{◌≡◌, ◌-◌, ◌≤◌, ◌<◌, ◌^◌, ℕ, List, length, slice_index, IfErr, IfOk};
 ghost use Rattle.std.specs.List.{AllByRecursion};
-ghost use Rattle.limits.specs.Profile.{greatest_budget, most_entries, top_bound};
+ghost use Rattle.limits.specs.Profile.{greatest_budget, greatest_entries, most_entries, top_bound};
 ghost use Rattle.order_search.specs.Orders.{cost as left_deep_cost};
 ghost use Rattle.plans.specs.LeftDeep.{IsOrder};
 ghost use Rattle.tree_plans.specs.TreePlans.{IsTreePlan};
@@ -17,13 +17,13 @@ use order_search::PlanError;
 use std::alloc::Global;
 use tree_plans::{BushyPlan, Join};
 
-/// The best join tree of n entries, n from 1 to 12, from a bound for each of the 2^n sets. The cost of a tree is the greatest bound of its
-/// inner nodes. The best tree has the least cost, and among the trees of that cost the least sum of these bounds. Of several such trees the
-/// first is best: first by the number of the left set at the root, then by the left tree, then by the right one.
+/// The best join tree of n entries, n from 1 to `GREATEST_ENTRIES`, from a bound for each of the 2^n sets. The cost of a tree is the greatest bound
+/// of its inner nodes. The best tree has the least cost, and among the trees of that cost the least sum of these bounds. Of several trees with this
+/// cost and sum the first is best. Trees are ordered by the number of the left set at the root, then by the left tree, then by the right tree.
 ///
-/// All bounds and the budget are in rows. A bound of 2^128 - 1 means that number or more. The search fills two tables of 2^n numbers, in at most 3^n
-/// steps each, and only one of them is in memory at a time. The first table has the least cost for each set. The second has the least sum for each
-/// set, over those trees whose bounds are at most the least cost of a whole tree. The left part of a split has the set's first entry, so each split
+/// All bounds and the budget are in rows. A bound of 2^128 - 1 means that number or more. The search fills two arrays of 2^n numbers, in at most 3^n
+/// steps each. Only one of them is in memory at a time. The first array has the least cost for each set. The second has the least sum for each set,
+/// over trees whose bounds are at most the least cost of a tree over all entries. The left part of a split has the set's first entry, so each split
 /// is looked at once.
 ///
 /// The error is `Budget` or `PastBits` exactly if `IsCause` says so, and `NoMemory` if there is too little memory.
@@ -34,11 +34,11 @@ pub fn choose_bushy(
     budget: u64,
 ) -> Result<BushyPlan, PlanError>
     requires some { 1 ≤ length scans.now }
-    requires few { length scans.now ≤ most_entries }
+    requires few { length scans.now ≤ greatest_entries }
     requires bounds { length bounds.now ≡ 2 ^ length scans.now }
     requires budget { budget ≤ greatest_budget }
 
-    ensures plan { IfOk result (IsTreePlan (length scans.now)) }
+    ensures plan { length scans.now ≤ most_entries → IfOk result (IsTreePlan (length scans.now)) }
     ensures best { IfOk result (IsBestPlan bounds.now (length scans.now)) }
     ensures within { IfOk result (λ plan. plan.cost ≤ budget) }
     ensures joins { IfOk result (λ plan. AllByRecursion (λ join. join.bound ≤ budget) plan.joins) }
@@ -65,10 +65,10 @@ pub fn choose_bushy(
     })
 }
 
-// The least cost of a tree. One entry has no inner node, and its own bound is the cost.
+// The least cost of a tree. With one entry there is no inner node, and the entry's own bound is the cost.
 fn least_cost(alloc: Global, count: u8, bounds: &[u128]) -> Result<u128, NoMemory>
     requires some { 1 ≤ count }
-    requires count { count ≤ most_entries }
+    requires count { count ≤ greatest_entries }
     requires bounds { length bounds.now ≡ 2 ^ count }
     ensures { IfOk result (λ least. IsLeastCost bounds.now count least) }
 {
@@ -79,10 +79,10 @@ fn least_cost(alloc: Global, count: u8, bounds: &[u128]) -> Result<u128, NoMemor
     Ok(costs[bounds.len() - 1])
 }
 
-// The joins of the best tree: among the trees of least cost, the first of those that have the least sum.
+// The joins of the best tree: among the trees of least cost and least sum, the first.
 fn best_joins(alloc: Global, count: u8, bounds: &[u128], least: u128) -> Result<Vec<Join>, NoMemory>
     requires some { 1 ≤ count }
-    requires count { count ≤ most_entries }
+    requires count { count ≤ greatest_entries }
     requires bounds { length bounds.now ≡ 2 ^ count }
     requires least { IsLeastCost bounds.now count least }
     requires small { least ≤ greatest_budget }

@@ -1,4 +1,4 @@
-//! The splits of a set of entries into a left and a right set, as the search goes through them. A set is the number whose bits are its entries. This
+//! The splits of a set of entries into a left and a right set, in the order of the search. A set is the number whose bits are its entries. This
 //! number is also the index of the set's bound.
 ghost use Rattle.std.specs.Prelude.{◌<◌};
 ghost use Rattle.bushy_plan.specs.PlanTrees.{IsFirstEntry};
@@ -12,7 +12,7 @@ pub(crate) fn first_entry(set: usize) -> u8
     set.trailing_zeros() as u8
 }
 
-// The set without its first entry. The right set of a split is any part of it that isn't empty.
+// The set without its first entry. The right set of a split is any nonempty subset of it.
 pub(crate) fn without_first(set: usize) -> usize
     requires { 0 < set }
     ensures { IsWithoutFirst set result }

@@ -7,9 +7,9 @@ use limits::TOP_BOUND;
 // How the weight of a tree is made from the bounds of its inner nodes.
 #[derive(Clone, Copy)]
 pub(crate) enum Weighing {
-    /// The greatest bound.
+    /// The greatest of the bounds.
     Greatest,
-    /// The sum of the bounds, at most `TOP_BOUND`; or `TOP_BOUND` itself, if a bound is above this number.
+    /// The sum of the bounds, or `TOP_BOUND` if the sum is greater. If a bound is above the given number, the weight is `TOP_BOUND` too.
     SumOfBoundsUpTo(u128),
 }
 

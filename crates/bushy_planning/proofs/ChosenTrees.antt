@@ -1,7 +1,8 @@
--- The tree that was chosen over lists of rows is a plan, and no bound of this plan is too low.
+-- The chosen tree over lists of rows is a plan, and no bound of this plan is too low.
 use Rattle.std.proofs.Common.{◌≡◌, ◌⊎◌, inl, inr, ℕ, suc, ◌<◌, ◌≤◌, List, [], ◌∷◌, length, get_or, Ok, Err, Result, ap, sym, ◌∙◌, subst, arith}
 use Rattle.std.specs.Prelude.{IfOk}
 use Rattle.std.specs.List.{AllByRecursion}
+use Rattle.limits.specs.Profile.{most_entries}
 use Rattle.query_types.specs.declared.types.Query.{Query}
 use Rattle.sql_meaning.specs.Tables.{Tables, row_counts}
 use Rattle.tree_plans.specs.declared.bushy.BushyPlan.{BushyPlan}
@@ -27,10 +28,10 @@ each_small : (most : ℕ) (xs : List ℕ) → ((i : ℕ) → i < length xs → g
 each_small most [] small = tt
 each_small most (x ∷ xs) small = (small 0 (omega arith), each_small most xs (λ i low. small (suc i) (omega arith)))
 
--- ---- the answer is a plan with these bounds of scans
+-- ---- the result is a plan with these bounds of scans
 
 module _ (query : Query) (tables : Tables) (lists : List (List ℕ)) (sets scans : List ℕ) (budget : ℕ) (plan : BushyPlan) (bound : BoundLists query tables lists scans)
-    (some : 1 ≤ length query.from) (few : length query.from ≤ 12) (made : tree_answer sets scans budget ≡ Ok plan) where
+    (some : 1 ≤ length query.from) (few : length query.from ≤ most_entries) (made : tree_answer sets scans budget ≡ Ok plan) where
   promised : IsPromised sets scans budget (Ok plan)
   promised =
       let P : Result BushyPlan PlanError → Type 0 = IsPromised sets scans budget in

@@ -3,6 +3,7 @@ use Rattle.std.proofs.Common.{◌≡◌, ℕ, zero, suc, ◌+◌, ◌-◌, ◌^�
 use Rattle.std.specs.List.{AllByRecursion, IsDistinct}
 use Rattle.std.proofs.lemmas.List.{get_or-append-add, get_or-map, length-map}
 use Rattle.std.proofs.lemmas.Nat.{pow_pos}
+use Rattle.limits.specs.Profile.{greatest_entries}
 use Rattle.entry_sets.specs.Sets.{entries_of_set, set_of}
 use Rattle.level_bounds.specs.Orders.{IsOrderOfSet}
 use Rattle.level_bounds.proofs.SetNumbers.{order_of_set}
@@ -81,7 +82,7 @@ module _ (n : ℕ) (sets : List ℕ) (plan : BushyPlan) (is : IsTreePlan n plan)
     its_set : set_of (entries_at plan (n + k)) ≡ leaf_set subtree
     its_set = ap set_of its_entries ∙ set_of_leaves subtree
 
-    -- ---- the set of the node's entries
+    -- ---- the set of the node's entries, and the node's bound
 
     pub node_set_fits : set_of (entries_at plan (n + k)) < 2 ^ n
     node_set_fits = subst (λ (s : ℕ). s < 2 ^ n) (sym its_set) whole.fits
@@ -94,4 +95,4 @@ module _ (n : ℕ) (sets : List ℕ) (plan : BushyPlan) (is : IsTreePlan n plan)
         let different : IsDistinct eqb (entries_at plan (n + k)) × AllByRecursion (λ e. e < n) (entries_at plan (n + k)) =
         plan_once n plan (n + k) is (omega (arith, low, is.scans)) in
         order_of_set (entries_at plan (n + k))
-        (weaker (λ e. e < n) (λ e. e < 16) (λ e h. omega (arith, h, is.few)) (entries_at plan (n + k)) different.1) different.0
+        (weaker (λ e. e < n) (λ e. e < greatest_entries) (λ e h. omega (arith, h, is.few)) (entries_at plan (n + k)) different.1) different.0

@@ -1,5 +1,4 @@
--- `subtrees` lists the trees at a tree's inner nodes. Along this list the lemmas say of each node: it has the entries at its leaves, and the bound of
--- their set.
+-- `subtrees` lists the trees at a tree's inner nodes. Each node has the entries at the leaves of its tree, and the bound of the set of these entries.
 use Rattle.std.proofs.Common.{◌≡◌, ℕ, ◌+◌, ◌^◌, ◌<◌, List, [], ◌∷◌, ◌++◌, length, map, get_or, refl, ap, sym, ◌∙◌, subst, arith, append_assoc}
 use Rattle.std.specs.List.{AllByRecursion}
 use Rattle.std.proofs.lemmas.List.{append-nil, get_or_append_left, get_or_push, length-append, length-map, map-append}
@@ -17,7 +16,7 @@ abbrev pub leaves : PlanTree → List ℕ
 leaves (leaf entry) = entry ∷ []
 leaves (node left right) = leaves left ++ leaves right
 
--- the trees are in the order of the numbers of the inner nodes at their roots
+-- the trees at the inner nodes, in the order of the nodes' numbers
 abbrev pub subtrees : PlanTree → List PlanTree
 subtrees (leaf entry) = []
 subtrees (node left right) = subtrees left ++ subtrees right ++ node left right ∷ []
@@ -33,7 +32,7 @@ length-subtrees (node left right) =
       length-subtrees right,
     )
 
--- ---- bounds
+-- ---- the bounds of the nodes
 
 abbrev pub bound_of : List ℕ → PlanTree → ℕ
 bound_of bounds tree = get_or bounds (leaf_set tree) 0
@@ -56,7 +55,7 @@ bounds_are bounds next (node left right) =
     ∙ sym (map-append (bound_of bounds) (subtrees left) (subtrees right)))
     ∙ sym (map-append (bound_of bounds) (subtrees left ++ subtrees right) (node left right ∷ []))
 
--- ---- sets
+-- ---- the sets of the nodes' entries
 
 pub record IsWhole (n : ℕ) (tree : PlanTree) : Type 0 where
   pub over : IsTreeOver (leaf_set tree) tree
@@ -79,7 +78,7 @@ pub set_of_leaves : (tree : PlanTree) → set_of (leaves tree) ≡ leaf_set tree
 set_of_leaves (leaf entry) = omega arith
 set_of_leaves (node left right) = omega (arith, set_of_both (leaves left) (leaves right), set_of_leaves left, set_of_leaves right)
 
--- ---- entries
+-- ---- the entries of the nodes
 
 joins_both : (nodes : List (List ℕ)) (xs ys : List Join) → with_joins nodes (xs ++ ys) ≡ with_joins (with_joins nodes xs) ys
 joins_both nodes [] ys = refl

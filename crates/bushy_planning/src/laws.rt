@@ -12,9 +12,9 @@ ghost use Rattle.tree_rows.specs.Trees.{node_count};
 ghost use Rattle.bushy_join.specs.Trees.{node_rows, IsTreePlanOf};
 ghost use Rattle.planning.specs.Standing.{BoundLevels, BoundLists};
 
-/// Suppose that each set's bound is the top bound, or is at least the number of rows of each level over the lists of the set's entries. Suppose also
-/// that each scan's bound is at least the number of its listed rows, and at most the number of rows of its table. Then no bound of a best tree is too
-/// low, if its bounds are at most 4,000,000. No bound of `tree_answer` is too low either, if the budget is at most 4,000,000 rows.
+/// The premises: Each set's bound is the top bound, or at least the number of rows of each level over the lists of the set's entries. Each scan's
+/// bound is at least the number of its listed rows, and at most the number of rows of its table. Then no bound of a best tree is too low, if all its
+/// bounds are at most 4,000,000. No bound of `tree_answer` is too low either, if the budget is at most 4,000,000 rows.
 pub fn best_trees_are_never_under()
     ensures over_bounds { (query : Query) (tables : Tables) (lists : List (List ℕ)) (sets : List ℕ) (plan : BushyPlan)
         → BoundLevels query tables lists sets → BoundLists query tables lists plan.scans

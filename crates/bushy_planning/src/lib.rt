@@ -1,18 +1,16 @@
 //! Plans a query by the best join tree of its entries, with bounds of the tree's scans and nodes.
 //!
-//! This is the stage before joins over a tree, as planning is the stage before joins along an order. In: a query and the tables of its entries.
-//! The crate takes the bounds of all scans and of all sets of entries from planning, and chooses the tree that costs least by these bounds.
-//! Out: the plan, or why there is no plan.
+//! This stage comes before joins over a tree; the crate planning is the stage before joins along an order. In: a query and the tables of its entries.
+//! The bounds of all scans and of all sets of entries are computed by planning. This crate chooses the tree that costs least by these bounds. Out:
+//! the plan, or a refusal.
 //!
-//! Callers cite `tree_answer` of tree_answers for the answer, and `IsTreePlanOf` of bushy_join for a plan in which no bound is too low.
-//! `BoundLevels` and `BoundLists` of planning say which bounds of sets and of scans are never too low.
+//! In contracts `tree_answer` of tree_answers is the result, and `IsTreePlanOf` of bushy_join says that no bound of a plan is too low. `BoundLevels`
+//! and `BoundLists` of planning say that no bound of a set or scan is too low.
 //!
 //! ```text
-//! let plan = plan_bushy(alloc, &query, &db, accuracy, budget)?;
-//! let mut lists = reserve_leaves(alloc, &plan, &query, &db)?;
+//! let known = from_statistics(alloc, &query, &db, accuracy)?;
+//! let plan = plan_tree_from(alloc, &known, budget)?;
 //! let reserved = reserve_bushy(alloc, &plan)?;
-//! scan_all(&query, &db, lists.as_mut_slice());
-//! let done = execute_bushy(reserved, lists, &plan, &query, &db);
 //! ```
 #![tactic(auto)]
 
@@ -20,4 +18,4 @@ mod laws;
 mod plan;
 
 pub use laws::best_trees_are_never_under;
-pub use plan::{plan_bushy, plan_tree_from};
+pub use plan::plan_tree_from;

@@ -1,4 +1,4 @@
--- The lists of all nodes follow one another: first the lists of the 32 nodes of one leaf, then the lists of the 16 nodes of two leaves, and so on.
+-- The lists of all nodes are in one list. First come the lists of the 32 nodes of one leaf, then those of the 16 nodes of two leaves, and so on.
 -- The lemmas say at which index the list of a node is.
 use Rattle.std.proofs.Common.{◌≡◌, ℕ, zero, suc, ◌+◌, ◌*◌, ◌/◌, ◌<◌, ◌≤◌, Bool, false, cond, eqb, List, [], ◌∷◌, ◌++◌, map, length, length-append, append_assoc, take, get_or, None, Some, refl, ap, sym, ◌∙◌, subst, arith}
 use Rattle.std.specs.Prelude.{find, unwrap_or}

@@ -1,4 +1,4 @@
--- What statistics of rows promise: they give the lists that cond_stats makes on demand, and each list dominates the joined keys of the
+-- What statistics of rows promise. They give the lists that cond_stats makes on demand. Each list dominates the joined keys of the
 -- rows that it is a list of. A row is a filter value and a joined key. `at_most` says how values compare.
 use Rattle.std.specs.Prelude.{ℕ, ◌≡◌, ◌<◌, ◌&&◌, nat_le, Bool, List, Option, Some, IfSome}
 use Rattle.degree_sequences.specs.Domination.{DominatesKeys}
@@ -9,12 +9,12 @@ use Rattle.column_stats.specs.declared.stats.ColumnStats.{ColumnStats}
 use Rattle.column_stats.specs.Stats.{list_for_node, list_for_range, list_for_value}
 
 -- for each value, and for None, the statistics give the list that is made on demand
-abbrev pub AnswerValues : ℕ → List (ℕ × ℕ) → ColumnStats → Type 0
-AnswerValues accuracy rows stats = (value : Option ℕ) → list_for_value stats value ≡ list_of_value accuracy rows value
+abbrev pub GivesValueLists : ℕ → List (ℕ × ℕ) → ColumnStats → Type 0
+GivesValueLists accuracy rows stats = (value : Option ℕ) → list_for_value stats value ≡ list_of_value accuracy rows value
 
 -- for each range of leaves the statistics give the list that is made on demand
-abbrev pub AnswerRanges : (ℕ → ℕ → Bool) → ℕ → List (ℕ × ℕ) → ColumnStats → Type 0
-AnswerRanges at_most accuracy rows stats =
+abbrev pub GivesRangeLists : (ℕ → ℕ → Bool) → ℕ → List (ℕ × ℕ) → ColumnStats → Type 0
+GivesRangeLists at_most accuracy rows stats =
     (low high : Option ℕ) → IfSome low (λ leaf. leaf < 32) → IfSome high (λ leaf. leaf < 32)
     → list_for_range stats low high ≡ list_of_range at_most accuracy rows low high
 

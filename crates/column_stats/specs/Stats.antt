@@ -5,9 +5,9 @@ use Rattle.std.specs.Option.{option_map_or}
 use Rattle.schema_types.specs.declared.types.Kind.{Kind}
 use Rattle.csv_tables.specs.Cells.{value_of_cell}
 use Rattle.csv_tables.specs.Values.{Value}
-use Rattle.cond_stats.specs.Columns.{cell_le, value_le}
+use Rattle.cond_stats.specs.Columns.{cell_le, leaf_among}
 use Rattle.cond_stats.specs.Frequency.{frequent}
-use Rattle.cond_stats.specs.Leaves.{cuts, last_place, node_size}
+use Rattle.cond_stats.specs.Leaves.{cuts, node_size}
 use Rattle.cond_stats.specs.Lists.{compressed_degrees, keys_with, rest, whole}
 use Rattle.cond_stats.specs.Rows.{filter_values}
 use Rattle.column_stats.specs.declared.stats.ColumnStats.{ColumnStats}
@@ -49,10 +49,9 @@ list_for_range stats low high =
     let first = unwrap_or low 0 in
     list_for_node stats (node_size first (unwrap_or high 31)) first
 
--- the leaf of a value: the last leaf whose cut is at most the value, or 0 if there is no such cut. A cut of a text column is the number of a text in
--- `texts`
+-- the leaf of a value, by the cuts. A cut of a text column is the number of a text in `texts`
 abbrev pub leaf_by_cuts : List (List ℕ) → ColumnStats → Value → ℕ
-leaf_by_cuts texts stats value = last_place (λ cut. value_le (value_of_cell texts stats.kind cut) value) stats.cuts
+leaf_by_cuts texts stats value = leaf_among (value_of_cell texts stats.kind) stats.cuts value
 
 -- statistics of no rows: each list is empty, and there are no cuts and no nodes
 pub record AreOfNoRows (stats : ColumnStats) : Type 0 where
@@ -69,7 +68,7 @@ pub record AreOfRows (stats : ColumnStats) : Type 0 where
   pub cuts_many : length stats.cuts ≡ 32
   pub nodes_many : length stats.nodes ≡ 63
 
--- the frequent values are different, and the other parts are the parts of statistics of no rows, or of one or more rows
+-- The frequent values are different. The other parts satisfy `AreOfNoRows` or `AreOfRows`
 pub record IsValid (stats : ColumnStats) : Type 0 where
   pub different : IsDistinct nat_eq (map (λ found. found.cell) stats.frequent)
   pub parts : AreOfNoRows stats ⊎ AreOfRows stats

@@ -1,4 +1,4 @@
-//! What the definitions give for small columns, by computation.
+//! What the definitions give for small columns, as theorems that are proved by computation.
 ghost use Rattle.std.specs.Prelude.{◌≡◌, [], ◌∷◌, None, Some, pos, length, replicate};
 ghost use Rattle.std.specs.List.{range_with_len};
 ghost use Rattle.csv_tables.specs.Values.{Int};
@@ -10,14 +10,14 @@ pub fn six_rows()
     ensures value { list_for_value of_six (Some 1) ≡ 3 ∷ [] }
     ensures absent { list_for_value of_six None ≡ [] }
     ensures leaf { leaf_by_cuts [] of_six (Int (pos 2)) ≡ 26 }
-    // the least node that holds leaves 26 and 31 has 8 leaves, and with them the rows of 2 and 3
+    // the least node that holds leaves 26 and 31 has 8 leaves; the rows with 2 and with 3 lie in it
     ensures range { list_for_range of_six (Some 26) None ≡ 2 ∷ 1 ∷ [] }
     ensures all { list_for_range of_six None None ≡ 3 ∷ 3 ∷ [] }
     ensures nodes { length of_six.nodes ≡ 63 }
 {}
 
 /// The column 1 to 32: the least node that holds the leaves of 5 and 2 has 8 rows. It doesn't matter which end is the low one.
-pub fn crossed_ends()
+pub fn ends_swapped()
     ensures { list_for_range (of_itself (range_with_len 1 32)) (Some 4) (Some 1) ≡ replicate 8 1 }
 {}
 

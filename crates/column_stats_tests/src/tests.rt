@@ -2,10 +2,10 @@ ghost use Rattle.std.specs.Prelude.{IfOk};
 ghost use Rattle.column_stats.specs.Stats.{IsValid};
 
 use base_io::NoMemory;
-use column_stats::{ColumnStats, gather};
+use column_stats::ColumnStats;
 use csv_tables::Pool;
 use limits::Accuracy;
-use pair_tables::table_of_pair;
+use pair_tables::{for_equal, for_range, gather, leaf_int, leaf_text, table_of_pair};
 use piece_math::Pieces;
 use schema_types::Kind;
 use std::alloc::Global;
@@ -34,8 +34,8 @@ fn numbers(alloc: Global, last: u64) -> Result<Vec<u64>, NoMemory> {
     Ok(numbers)
 }
 
-// 32 values have four rows each, all with one joined key; 100 has the keys 5, 6 and 7, and 200 has the key 8 twice. This gives the shapes of
-// the lists of 0, 31 and 100, and of the rest list.
+// 32 values have four rows each, all with one joined key. The value 100 has the keys 5, 6 and 7, and the value 200 has the key 8 twice. The result
+// is the shapes of the lists of 0, 31 and 100, and of the rest list.
 fn rest_of_two(alloc: Global) -> Result<[(u128, usize); 4], NoMemory> {
     let mut filter = Vec::new(alloc);
     let mut joined = Vec::new(alloc);
@@ -47,26 +47,27 @@ fn rest_of_two(alloc: Global) -> Result<[(u128, usize); 4], NoMemory> {
     joined.extend_from_slice(&[5, 6, 7, 8, 8])?;
     let stats = statistics(alloc, filter.as_slice(), joined.as_slice())?;
     Ok([
-        shape(stats.for_equal(Some(0))),
-        shape(stats.for_equal(Some(31))),
-        shape(stats.for_equal(Some(100))),
+        shape(for_equal(&stats, Some(0))),
+        shape(for_equal(&stats, Some(31))),
+        shape(for_equal(&stats, Some(100))),
         shape(&stats.rest),
     ])
 }
 
-// For the column 1 to `last` with itself: how many values are frequent, and the shapes of the lists of `last` and of an absent value.
+// The column has 1 to `last`, and is the joined column too. The result is how many values are frequent, and the shapes of two lists. These are the
+// list of `last` and the list of an absent value.
 fn frequent_of(
     alloc: Global,
     last: u64,
 ) -> Result<(usize, (u128, usize), (u128, usize)), NoMemory> {
     let column = numbers(alloc, last)?;
     let stats = statistics(alloc, column.as_slice(), column.as_slice())?;
-    let of_last = shape(stats.for_equal(Some(last)));
-    let absent = shape(stats.for_equal(None));
+    let of_last = shape(for_equal(&stats, Some(last)));
+    let absent = shape(for_equal(&stats, None));
     Ok((stats.frequent.len(), of_last, absent))
 }
 
-// The leaves of three numbers, and the shape of the list from the leaf of the first number to that of the last one.
+// The leaves of three numbers, and the shape of the list from the first number's leaf to the last number's leaf.
 fn leaves_of(
     alloc: Global,
     column: &[u64],
@@ -74,20 +75,20 @@ fn leaves_of(
 ) -> Result<([u8; 3], (u128, usize)), NoMemory> {
     let stats = statistics(alloc, column, column)?;
     let [first, middle, last] = values;
-    let low = stats.leaf_int(first);
-    let high = stats.leaf_int(last);
-    let list = shape(stats.for_range(Some(low), Some(high)));
-    Ok(([low, stats.leaf_int(middle), high], list))
+    let low = leaf_int(&stats, first);
+    let high = leaf_int(&stats, last);
+    let list = shape(for_range(&stats, Some(low), Some(high)));
+    Ok(([low, leaf_int(&stats, middle), high], list))
 }
 
 // How many cuts and nodes there are without rows, and the shape of the list of a range.
 fn of_nothing(alloc: Global) -> Result<(usize, usize, (u128, usize)), NoMemory> {
     let stats = statistics(alloc, &[], &[])?;
-    let list = shape(stats.for_range(None, None));
+    let list = shape(for_range(&stats, None, None));
     Ok((stats.cuts.len(), stats.nodes.len(), list))
 }
 
-// A column and a pool in which "b" comes before "a": the leaves of "a", "b" and "c", and the shape of the list up to "a".
+// The leaves of "a", "b" and "c" in a column of texts, and the shape of the list up to "a". In the pool "b" comes before "a".
 fn leaves_of_texts(alloc: Global) -> Result<([u8; 3], (u128, usize)), NoMemory> {
     let mut pool = Pool::new(alloc);
     let b = u64::from(pool.intern("b")?);
@@ -98,12 +99,12 @@ fn leaves_of_texts(alloc: Global) -> Result<([u8; 3], (u128, usize)), NoMemory> 
     let filter = [b, a, b, a];
     let cells = table_of_pair(alloc, &pool, Kind::Text(1), &filter, &[1, 2, 3, 2])?;
     let stats = gather(alloc, &cells, &pool, 0, 1, Accuracy::of(1))?;
-    let low = stats.leaf_text(&pool, "a");
-    let list = shape(stats.for_range(None, Some(low)));
+    let low = leaf_text(&stats, &pool, "a");
+    let list = shape(for_range(&stats, None, Some(low)));
     let leaves = [
         low,
-        stats.leaf_text(&pool, "b"),
-        stats.leaf_text(&pool, "c"),
+        leaf_text(&stats, &pool, "b"),
+        leaf_text(&stats, &pool, "c"),
     ];
     Ok((leaves, list))
 }

@@ -10,8 +10,8 @@ use Rattle.std.proofs.lemmas.List.Sums.{position_or_len_is, count_by-le-length}
 use Rattle.degree_sequences.specs.Degrees.{degree, different}
 use Rattle.degree_sequences.proofs.Rearranged.{degrees_positive}
 use Rattle.cond_stats.specs.declared.groups.Group.{Group}
-use Rattle.cond_stats.specs.Frequency.{first_place, comes_before}
-use Rattle.cond_stats.specs.Order.{TellsOrder, AreInValueOrder}
+use Rattle.cond_stats.specs.Frequency.{first_row, comes_before}
+use Rattle.cond_stats.specs.Order.{KeepsOrderOf, AreInValueOrder}
 use Rattle.cond_stats.specs.Runs.{IsRun, AreRunsOfNumbers, AreGroups, value_of_group}
 use Rattle.cond_stats.specs.Windows.{IsWindow}
 use Rattle.cond_stats.proofs.InOrderFacts.{has_degree, place_of_degree, degree-different, value_at, as_many, places_within, there, number_at, place_found, same_value, same_number}
@@ -22,18 +22,18 @@ use Rattle.cond_stats.proofs.WindowKeys.{window_count}
 
 -- ---- the order of frequency as a number
 
-pub first_place_passes : (column : List ℕ) (v : ℕ) → 0 < degree column v → (first_place column v < length column) × (get_or column (first_place column v) 0 ≡ v)
+pub first_place_passes : (column : List ℕ) (v : ℕ) → 0 < degree column v → (first_row column v < length column) × (get_or column (first_row column v) 0 ≡ v)
 first_place_passes [] v some = absurd (omega arith)
 first_place_passes (x ∷ xs) v some = elim (cases_Bool (eqb x v)) [
   | inl e ↦ rw e (omega arith, eqb-true x v e)
   | inr e ↦ (let none : cond {A = ℕ} (eqb x v) 1 0 ≡ 0 = rw e refl in
       let rest = first_place_passes xs v (omega (arith, some, none, degree-cons x xs v)) in
-      rw e (omega (arith, rest.0), (let at : 1 + first_place xs v ≡ suc (first_place xs v) = omega arith in ap (λ j. get_or (x ∷ xs) j 0) at) ∙ rest.1))
+      rw e (omega (arith, rest.0), (let at : 1 + first_row xs v ≡ suc (first_row xs v) = omega arith in ap (λ j. get_or (x ∷ xs) j 0) at) ∙ rest.1))
 ]
 
--- one number made of a value's frequency and of its first row: of two values, the value with the smaller number comes first
+-- One number made of a value's frequency and its first row. A value with a smaller number comes first
 abbrev pub frequency_number : List ℕ → ℕ → ℕ
-frequency_number column v = (length column - degree column v) * (length column + 1) + first_place column v
+frequency_number column v = (length column - degree column v) * (length column + 1) + first_row column v
 
 lexicographic : (n a b c d : ℕ) → b ≤ n → d ≤ n → (a < c) ⊎ ((a ≡ c) × (b ≤ d)) → a * (n + 1) + b ≤ c * (n + 1) + d
 lexicographic n a b c d hb hd how = elim how [
@@ -47,7 +47,7 @@ above n a b c d hb hd how = elim how [
   | inr h ↦ (let row : a * (n + 1) ≡ c * (n + 1) = ap (λ m. m * (n + 1)) h.0 in omega (arith, row, h.1))
 ]
 
-pub tells_frequency : (column : List ℕ) → TellsOrder (comes_before column) column (frequency_number column)
+pub tells_frequency : (column : List ℕ) → KeepsOrderOf (comes_before column) column (frequency_number column)
 tells_frequency column = record {
   order = λ a b a_there b_there. by a b a_there b_there (cases_order (degree column a) (degree column b));
   same = λ a b a_there b_there same. apart a b a_there b_there same;
@@ -56,19 +56,19 @@ tells_frequency column = record {
     few : (a : ℕ) → degree column a ≤ length column
     few a = count_by-le-length (λ key. eqb key a) column
 
-    low : (a : ℕ) → 0 < degree column a → first_place column a ≤ length column
+    low : (a : ℕ) → 0 < degree column a → first_row column a ≤ length column
     low a some = omega (arith, (first_place_passes column a some).0)
 
     firsts : (a b : ℕ) → 0 < degree column a → 0 < degree column b → degree column a ≡ degree column b
-        → leb (first_place column a) (first_place column b) ≡ leb (frequency_number column a) (frequency_number column b)
-    firsts a b a_there b_there same = elim (cases_lt (first_place column b) (first_place column a)) [
-      | inl h ↦ lt-leb (first_place column a) (first_place column b) h
+        → leb (first_row column a) (first_row column b) ≡ leb (frequency_number column a) (frequency_number column b)
+    firsts a b a_there b_there same = elim (cases_lt (first_row column b) (first_row column a)) [
+      | inl h ↦ lt-leb (first_row column a) (first_row column b) h
           ∙ sym (lt-leb (frequency_number column a) (frequency_number column b)
-          (above (length column) (length column - degree column a) (first_place column a) (length column - degree column b) (first_place column b)
+          (above (length column) (length column - degree column a) (first_row column a) (length column - degree column b) (first_row column b)
           (low a a_there) (low b b_there) (inr (ap (λ d. length column - d) same, h))))
-      | inr h ↦ le-leb (first_place column a) (first_place column b) h
+      | inr h ↦ le-leb (first_row column a) (first_row column b) h
           ∙ sym (le-leb (frequency_number column a) (frequency_number column b)
-          (lexicographic (length column) (length column - degree column a) (first_place column a) (length column - degree column b) (first_place column b)
+          (lexicographic (length column) (length column - degree column a) (first_row column a) (length column - degree column b) (first_row column b)
           (low a a_there) (low b b_there) (inr (ap (λ d. length column - d) same, h))))
     ]
 
@@ -82,25 +82,25 @@ tells_frequency column = record {
         let no : ltb (degree column b) (degree column a) ≡ false = le-ltb (degree column b) (degree column a) (omega arith) in
         let other : eqb (degree column a) (degree column b) ≡ false = ne_eqb (degree column a) (degree column b) (λ same. omega arith) in
         rw (no, other) (sym (lt-leb (frequency_number column a) (frequency_number column b)
-        (above (length column) (length column - degree column a) (first_place column a) (length column - degree column b) (first_place column b)
+        (above (length column) (length column - degree column a) (first_row column a) (length column - degree column b) (first_row column b)
         (low a a_there) (low b b_there) (inl (omega (arith, few a, few b))))))
     by a b a_there b_there (inr (inr more)) =
         let yes : ltb (degree column b) (degree column a) ≡ true = lt-ltb (degree column b) (degree column a) more in
         rw yes (sym (le-leb (frequency_number column a) (frequency_number column b)
-        (lexicographic (length column) (length column - degree column a) (first_place column a) (length column - degree column b) (first_place column b)
+        (lexicographic (length column) (length column - degree column a) (first_row column a) (length column - degree column b) (first_row column b)
         (low a a_there) (low b b_there) (inl (omega (arith, few a, few b))))))
 
     apart : (a b : ℕ) → 0 < degree column a → 0 < degree column b → frequency_number column a ≡ frequency_number column b → a ≡ b
-    apart a b a_there b_there same = elim (cases_order (first_place column a) (first_place column b)) [
+    apart a b a_there b_there same = elim (cases_order (first_row column a) (first_row column b)) [
       | inl e ↦ sym (first_place_passes column a a_there).1 ∙ ap (λ i. get_or column i 0) e ∙ (first_place_passes column b b_there).1
       | inr differ ↦ elim (cases_order (length column - degree column a) (length column - degree column b)) [
         | inl rows ↦ elim differ [
-          | inl h ↦ absurd (omega (arith, same, above (length column) (length column - degree column b) (first_place column b) (length column - degree column a) (first_place column a) (low b b_there) (low a a_there) (inr (sym rows, h))))
-          | inr h ↦ absurd (omega (arith, same, above (length column) (length column - degree column a) (first_place column a) (length column - degree column b) (first_place column b) (low a a_there) (low b b_there) (inr (rows, h))))
+          | inl h ↦ absurd (omega (arith, same, above (length column) (length column - degree column b) (first_row column b) (length column - degree column a) (first_row column a) (low b b_there) (low a a_there) (inr (sym rows, h))))
+          | inr h ↦ absurd (omega (arith, same, above (length column) (length column - degree column a) (first_row column a) (length column - degree column b) (first_row column b) (low a a_there) (low b b_there) (inr (rows, h))))
         ]
         | inr other ↦ elim other [
-          | inl h ↦ absurd (omega (arith, same, above (length column) (length column - degree column b) (first_place column b) (length column - degree column a) (first_place column a) (low b b_there) (low a a_there) (inl h)))
-          | inr h ↦ absurd (omega (arith, same, above (length column) (length column - degree column a) (first_place column a) (length column - degree column b) (first_place column b) (low a a_there) (low b b_there) (inl h)))
+          | inl h ↦ absurd (omega (arith, same, above (length column) (length column - degree column b) (first_row column b) (length column - degree column a) (first_row column a) (low b b_there) (low a a_there) (inl h)))
+          | inr h ↦ absurd (omega (arith, same, above (length column) (length column - degree column a) (first_row column a) (length column - degree column b) (first_row column b) (low a a_there) (low b b_there) (inl h)))
         ]
       ]
     ]
@@ -135,7 +135,7 @@ module _ {at_most : ℕ → ℕ → Bool} {column numbers places : List ℕ} (or
   first_within : (run : Group) → IsRun numbers places run → run.first < length column
   first_within run is = subst (λ p. p < length column) (sym is.first) (places_within order run.start 0 (start_within run is))
 
-  pub first_of_run : (run : Group) → IsRun numbers places run → run.first ≡ first_place column (value_of_group column run)
+  pub first_of_run : (run : Group) → IsRun numbers places run → run.first ≡ first_row column (value_of_group column run)
   first_of_run run is = sym (position_or_len_is (λ other. eqb other (value_of_group column run)) column run.first 0
       (omega (arith, within))
       (λ q before. ne_eqb (get_or column q 0) (value_of_group column run) (λ same. earlier q before same))
@@ -245,7 +245,7 @@ module _ {at_most : ℕ → ℕ → Bool} {column numbers places : List ℕ} (or
           let h_is : IsRun numbers places h = each j no_group within in
           let n : ℕ = length column in
           let number : (r : Group) → IsRun numbers places r → frequency_number column (value_of_group column r) ≡ (n - r.count) * (n + 1) + r.first = λ r is.
-          ap (λ m. (n - m) * (n + 1) + first_place column (value_of_group column r)) (sym (count_of_run r is)) ∙ ap (λ m. (n - r.count) * (n + 1) + m) (sym (first_of_run r is)) in
+          ap (λ m. (n - m) * (n + 1) + first_row column (value_of_group column r)) (sym (count_of_run r is)) ∙ ap (λ m. (n - r.count) * (n + 1) + m) (sym (first_of_run r is)) in
           let pair : PairLe (n - g.count) g.first (n - h.count) h.first =
           by_pair n g.count g.first h.count h.first 0 0 (omega (arith, as_many order)) (omega (arith, g_is.ends, lengths, as_many order)) (omega (arith, h_is.ends, lengths, as_many order)) (up i j no_group low within) in
           omega (

@@ -1,4 +1,4 @@
--- `last_place` finds the index of the last element of a list that passes a test. In this way the leaf of a value is found among the cuts.
+-- `last_place` finds the index of the last element of a list that passes a test. The leaf of a value is found so among the cuts.
 use Rattle.std.proofs.Common.{◌≡◌, ℕ, zero, suc, ◌+◌, ◌<◌, ◌≤◌, Bool, true, false, cond, not, ltb, List, [], ◌∷◌, ◌++◌, length, get_or, take, length-take, refl, ap, sym, ◌∙◌, arith, inl, inr}
 use Rattle.std.specs.List.{list_any}
 use Rattle.std.proofs.lemmas.Bool.{cases_Bool, cases_lt, cond_both, false≢true, or_cases, lt-ltb, le-ltb, or_parts}

@@ -1,5 +1,5 @@
--- A window is a stretch of `places` that has exactly those rows whose value passes a test. So a key has the same degree among the keys of the window
--- as among the keys of all rows whose value passes.
+-- A window is a stretch of `places` that has exactly the rows whose value passes a test. So a key has the same degree in the window as among all rows
+-- whose value passes.
 use Rattle.std.proofs.Common.{◌≡◌, ℕ, zero, suc, ◌+◌, ◌<◌, ◌≤◌, Bool, true, false, cond, ◌&&◌, eqb, List, [], ◌∷◌, map, length, length-take, length-drop, take, drop, get_or, refl, ap, sym, ◌∙◌, arith, inl, inr}
 use Rattle.std.specs.List.{sum_by, count_by, range_with_len, zip}
 use Rattle.std.specs.List.Sorted.{IsPermutation}

@@ -4,7 +4,7 @@ use Rattle.std.specs.Ordering.{is_le}
 use Rattle.schema_types.specs.declared.types.Kind.{Kind}
 use Rattle.csv_tables.specs.Cells.{value_of_cell}
 use Rattle.csv_tables.specs.Values.{Value, value_cmp}
-use Rattle.cond_stats.specs.Leaves.{last_leaf_where}
+use Rattle.cond_stats.specs.Leaves.{cuts, last_place}
 use Rattle.cond_stats.specs.Lists.{list_of_range}
 use Rattle.cond_stats.specs.Rows.{filter_values}
 
@@ -16,9 +16,14 @@ value_le a b = is_le (value_cmp a b)
 abbrev pub cell_le : List (List ℕ) → Kind → ℕ → ℕ → Bool
 cell_le texts kind cell other = value_le (value_of_cell texts kind cell) (value_of_cell texts kind other)
 
+-- the leaf of a value: the last leaf whose cut is at most the value, or 0 if there is no such cut. Each cut is given by a number, of which `value_at`
+-- tells the value
+abbrev pub leaf_among : (ℕ → Value) → List ℕ → Value → ℕ
+leaf_among value_at numbers value = last_place (λ cut. value_le (value_at cut) value) numbers
+
 -- the leaf of a value in a column of cells
 abbrev pub leaf_of_value : List (List ℕ) → Kind → List ℕ → Value → ℕ
-leaf_of_value texts kind column value = last_leaf_where (cell_le texts kind) column (λ cut. value_le (value_of_cell texts kind cut) value)
+leaf_of_value texts kind column value = leaf_among (value_of_cell texts kind) (cuts (cell_le texts kind) column) value
 
 -- the list of the range from a low value to a high one; either may be missing
 abbrev pub list_between : List (List ℕ) → Kind → ℕ → List (ℕ × ℕ) → Option Value → Option Value → List ℕ

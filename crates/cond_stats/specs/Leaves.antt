@@ -15,7 +15,7 @@ abbrev pub in_order : (ℕ → ℕ → Bool) → List ℕ → List ℕ
 in_order at_most [] = []
 in_order at_most (value ∷ values) = put_in_order at_most value (in_order at_most values)
 
--- the values at which the leaves begin: of n values in ascending order, counted from 0, those at n * i / 32 for i from 0 to 31.
+-- The values at which the leaves begin. Of n values in ascending order, they are at the indexes n * i / 32, for i from 0 to 31.
 -- A column without rows has no cuts
 unfoldable pub cuts : (ℕ → ℕ → Bool) → List ℕ → List ℕ
 cuts at_most [] = []

@@ -1,5 +1,5 @@
--- The lists of a filter column for a joined column. They are compressed degree lists of the joined keys of all rows, of the rows with one
--- filter value, and of the rows whose filter value lies in a range.
+-- The lists of a filter column for a joined column. They are compressed degree lists of joined keys. There are lists for all rows, for the rows
+-- with one filter value, and for the rows whose filter value lies in a range.
 use Rattle.std.specs.Prelude.{ℕ, ◌==◌, max, Bool, if◌then◌else◌, List, [], ◌∷◌, map, Option, None, Some, unwrap_or}
 use Rattle.std.specs.List.{list_any}
 use Rattle.degree_sequences.specs.ByRank.{rank_maximum}

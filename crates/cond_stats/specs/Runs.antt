@@ -22,14 +22,14 @@ pub record AreRunsOfNumbers (numbers places : List ℕ) (runs : List Group) : Ty
   pub all : map (λ run. slice_index numbers run.start) runs ≡ different numbers
   pub ascend : (i j : ℕ) (none : Group) → i < j → j < length runs → (slice_index_or runs i none).start < (slice_index_or runs j none).start
 
--- `places` lists the row numbers in ascending order of the rows' numbers. Of rows with equal numbers the earlier row comes first. `runs` has the runs
--- of equal numbers
+-- `places` lists the row numbers in ascending order of the rows' numbers. If two rows have equal numbers, the earlier row comes first. `runs` has the
+-- runs of equal numbers
 pub record AreSortedInRuns (numbers places : List ℕ) (runs : List Group) : Type 0 where
   pub sorted : AreSorted numbers (numbers_at numbers places) places
   pub runs_are : AreRunsOfNumbers (numbers_at numbers places) places runs
 
--- `places` lists the column's row numbers in ascending order of the rows' values. Of rows with equal values the earlier row comes first. `runs` has
--- the runs of the values
+-- `places` lists the column's row numbers in ascending order of the rows' values. If two rows have equal values, the earlier row comes first. `runs`
+-- has the runs of equal values
 pub record AreInRuns (at_most : ℕ → ℕ → Bool) (column places : List ℕ) (runs : List Group) : Type 0 where
   pub numbers : List ℕ
   pub order : AreInValueOrder at_most column numbers places

@@ -7,8 +7,8 @@ use Rattle.cond_stats.specs.declared.groups.Group.{Group}
 use Rattle.cond_stats.specs.Leaves.{cuts}
 use Rattle.cond_stats.specs.Runs.{AreGroups, AreStarts}
 
--- `places` lists the row numbers, each once. Rows of one value are together in this list (`groups`), and the rows of a leaf come before those of the
--- next leaf (`starts`). `its_cuts` has the column's cuts
+-- `places` lists the row numbers, each once. `groups` says where the rows of each value are: they are together. `starts` says where the rows of each
+-- leaf begin: they come before the rows of the next leaf. `its_cuts` has the column's cuts
 pub record IsColumnByLeaves (at_most : ℕ → ℕ → Bool) (column places : List ℕ) (groups : List Group) (its_cuts starts : List ℕ) : Type 0 where
   pub rows : length column < 2 ^ 32
   pub moved : IsPermutation (range_with_len 0 (length column)) places

@@ -1,4 +1,4 @@
--- The order of the texts of a column of text cells.
+-- How the texts of a column's cells compare.
 use Rattle.std.specs.Prelude.{ℕ, ◌≡◌, ◌<◌, ◌≤◌, Bool, true, List, [], All, length, slice_index, slice_index_or, position, unwrap_or, nat_eq}
 use Rattle.std.specs.Cmp.Lexicographic.{slice_cmp}
 use Rattle.std.specs.List.Sorted.{IsPermutation}

@@ -73,8 +73,8 @@ impl<'a> FilterColumn<'a> {
         })
     }
 
-    /// The list of a value, which is given by its cell: the list of the value's rows if it is frequent, otherwise the rest list. `None` stands for a
-    /// text that the pool doesn't have.
+    /// The list of a value, which is given by its cell. It is the list of the value's rows if the value is frequent, otherwise the rest list. `None`
+    /// stands for a text that the pool doesn't have.
     pub fn list_of_value(
         &self,
         joined: &[u64],
@@ -121,7 +121,7 @@ impl<'a> FilterColumn<'a> {
         leaf_of_int(self.kind, self.cuts.as_slice(), cell_of(value))
     }
 
-    /// The leaf of a text, which need not be in the pool: the last leaf whose cut is at most the text, or 0 if there is no such cut.
+    /// The leaf of a text, which need not be in the pool. It is the last leaf whose cut is at most the text, or 0 if there is no such cut.
     pub fn leaf_of_text(&self, text: &str) -> u8
         ensures leaf { result ≡ leaf_of_value self.now.texts self.now.kind self.now.cells (Text text.now) }
         ensures below { result < 32 }

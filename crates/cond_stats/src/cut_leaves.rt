@@ -40,8 +40,8 @@ fn is_at_most_text(kind: Kind, pool: &Pool, cell: u64, text: &str) -> bool
     }
 }
 
-/// The leaf of a number, which is given as its cell: the last leaf whose cut is at most the number, or 0 if there is no such cut. There are at most
-/// 32 cuts. If the cuts are texts, the leaf is 0.
+/// The leaf of a number, which is given as its cell. It is the last leaf whose cut is at most the number, or 0 if there is no such cut. There are at
+/// most 32 cuts. If the cuts are texts, the leaf is 0.
 pub fn leaf_of_int(kind: Kind, cuts: &[u64], number: u64) -> u8
     requires { length cuts.now ≤ 32 }
     ensures { (texts : List (List ℕ)) → result ≡ last_place

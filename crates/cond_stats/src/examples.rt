@@ -15,8 +15,9 @@ pub fn values()
     ensures thirty_third { let column = range_with_len 1 33 in is_frequent (zip column column) 33 ≡ false }
 {}
 
-/// 32 values have four rows each, all with one joined key; 100 has the keys 5, 6 and 7, and 200 has the key 8 twice. So 100 and 200 aren't
-/// frequent, and have the degree lists 1, 1, 1 and 2. Their rank-wise maximum is 2, 1, 1. It is cut to three rows, as 100 has: 2, 1.
+/// 32 values have four rows each, all with one joined key. The value 100 has the keys 5, 6 and 7, and the value 200 has the key 8 twice. So 100 and
+/// 200 aren't frequent. Their degree lists are (1, 1, 1) and (2), with the rank-wise maximum (2, 1, 1). It is cut to three rows, as many as 100 has.
+/// So the rest list is (2, 1).
 pub fn rest_list()
     ensures remain { let column = flat_map (λ v. replicate 4 v) (range_with_len 0 32)
         ++ (100 ∷ 100 ∷ 100 ∷ 200 ∷ 200 ∷ []) in remaining column ≡ 100 ∷ 200 ∷ [] }
@@ -25,7 +26,7 @@ pub fn rest_list()
         rest 1 (zip column joined) ≡ 2 ∷ 1 ∷ [] }
 {}
 
-/// Leaves in the columns 1 to 32 and 1, 1, 1, 2, 2, 3, and without rows.
+/// Leaves of three columns: one with the values 1 to 32, one with 1, 1, 1, 2, 2, 3, and one without rows.
 pub fn leaves()
     ensures cuts { let column = range_with_len 1 32 in cuts nat_le column ≡ column }
     ensures five { leaf_of nat_le (range_with_len 1 32) 5 ≡ 4 }

@@ -14,7 +14,7 @@ pub(crate) struct Group {
     pub count: u32,
 }
 
-/// Sorts runs by frequency, the most frequent value first. Of equally frequent values the one that occurs first comes first.
+/// Sorts runs by frequency, the most frequent value first. If two values are equally frequent, the value that occurs first comes first.
 pub(crate) fn by_frequency(runs: Vec<Group>) -> Vec<Group>
     ensures { (at_most : ℕ → ℕ → Bool) (column places : List ℕ) → length column < 2 ^ 32 → AreInRuns at_most column places runs.items
         → AreGroups column places result.items }

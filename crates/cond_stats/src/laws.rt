@@ -33,7 +33,7 @@ pub fn lists_sum()
     ensures frequent { (accuracy : ℕ) (rows : List (ℕ × ℕ)) (value : ℕ)
         → sum (list_of_value accuracy rows (Some value)) ≡
         (if is_frequent rows value then degree (filter_values rows) value else sum (rest accuracy rows)) }
-    // of the values that have no list of their own, the rest list sums to the number of rows of the most frequent one
+    // the rest list sums to the number of rows of the most frequent value among those without a list of their own
     ensures rest { (accuracy : ℕ) (rows : List (ℕ × ℕ))
         → sum (rest accuracy rows) ≡ greatest (map (degree (filter_values rows)) (remaining (filter_values rows))) }
     ensures node { (at_most : ℕ → ℕ → Bool) (accuracy : ℕ) (rows : List (ℕ × ℕ)) (size leaf : ℕ)

@@ -1,13 +1,13 @@
 //! Conditional statistics: lists that dominate the joined keys of the rows that a condition on a filter column leaves (SafeBound, SIGMOD 2023,
 //! conditional degree sequences). The filter column and the joined column are of one table.
 //!
-//! This is the stage after a table is read. In: columns of cells. Out: compressed degree lists of all rows, of the rows with one filter value,
-//! and of the rows whose filter value lies in a range. A `FilterColumn` sorts the filter column once, and makes a list when a caller asks
-//! for it.
+//! This is the stage after a table is read. In: columns of cells. Out: compressed degree lists. There are lists for all rows, for the rows with one
+//! filter value, and for the rows whose filter value lies in a range. A `FilterColumn` sorts the filter column once, and makes a list when a caller
+//! asks for it.
 //!
-//! Callers cite `compressed_degrees`, `list_of_value`, `rest`, `list_of_range` and `list_of_node` (in `specs/Lists.antt`) for the lists.
+//! In contracts `compressed_degrees`, `list_of_value`, `rest`, `list_of_range` and `list_of_node` (in `specs/Lists.antt`) are the lists.
 //! `frequent` has the values that have lists of their own, and `cuts` the values at which leaves begin. `leaf_of_value`, `list_between` and
-//! `is_between` (in `specs/Columns.antt`) are about the ends of a range. `laws` says what the lists dominate and sum to. Callers see a
+//! `is_between` (in `specs/Columns.antt`) are about the ends of a range. `laws` says what the lists dominate and sum to. Contracts see a
 //! `FilterColumn` as a `CellColumn`.
 //!
 //! ```text

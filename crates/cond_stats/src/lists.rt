@@ -70,7 +70,7 @@ fn degrees_of(
     falling(alloc, keys.as_slice())
 }
 
-/// The rest list of these groups: the rank-wise maximum of their degree lists, cut to as many rows as the largest group has, and compressed.
+/// The rest list of these groups. It is the rank-wise maximum of their degree lists, cut to as many rows as the largest group has, and compressed.
 pub(crate) fn rest_list(
     alloc: Global,
     joined: &[u64],

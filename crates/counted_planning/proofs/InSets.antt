@@ -56,7 +56,7 @@ module _ (counted : CountsMade) (query : Query) (tables : Tables) (lists : List 
       → get_or (counted_bounds_of_sets counted query tables lists) subset 0 ≡ saturated (length (level_over (conjuncts_of query tables) (list_at lists) order))
   exact_at subset order fits o all constants = at subset fits ∙ exact counted query tables lists subset order o all constants
 
-  -- the bound is at most the budget, so it is below the top bound and isn't saturated
+  -- the level's bound is at most the budget, so it is below the top bound and isn't saturated
   pub level_exact : (budget k : ℕ) (plan : Plan) → length query.from ≤ most_entries → budget ≤ most_budget
       → plan_answer (counted_bounds_of_sets counted query tables lists) (list_sizes query lists) budget ≡ Ok plan → k < length query.from
       → AllPartsAreCounted counted query tables (set_of (take (k + 1) plan.order)) → all_hold (conjuncts_of query tables) [] (row_in [] []) ≡ true

@@ -17,8 +17,8 @@ ghost use Rattle.reduced_scans.specs.Rounds.{reduced_of};
 ghost use Rattle.planning.specs.ListedBounds.{set_bounds_over};
 ghost use Rattle.planning.specs.Standing.{BoundLevels};
 
-/// Under whatever conjuncts sets are counted, no level over the lists has more rows than its set's bound, unless this bound is the top bound,
-/// 2^128 - 1. So no bound of a plan over lists of scanned rows is too low.
+/// Whichever conjuncts are counted, no level over the lists has more rows than its set's bound. A bound of 2^128 - 1, the top bound, promises
+/// nothing. So no bound of a plan over lists of scanned rows is too low.
 pub fn counts_are_never_under()
     ensures sets { (counted : CountsMade) (query : Query) (tables : Tables) (lists : List (List ℕ))
         → BoundLevels query tables lists (counted_bounds_of_sets counted query tables lists) }
@@ -28,9 +28,9 @@ pub fn counts_are_never_under()
         → IsPlanOf query tables lists plan }
 {}
 
-/// Suppose that each part of a set is counted under all of its conjuncts, and that each conjunct without entries holds. Then the bound of the set
-/// is the number of rows of each level over its entries, or 2^128 - 1 if this number is larger. A level of a plan whose set is counted in this way
-/// has exactly as many rows as the plan says.
+/// Suppose that each part of a set is counted under all of its conjuncts, and that each constant conjunct, such as 1 = 1, holds. Then the bound of
+/// the set is the number of rows of each level over its entries, or 2^128 - 1 if this number is larger. If the set of a plan's level is counted in
+/// this way, the level has exactly as many rows as the plan says.
 pub fn counts_are_exact()
     ensures sets { (counted : CountsMade) (query : Query) (tables : Tables) (lists : List (List ℕ)) (subset : ℕ) (order : List ℕ)
         → subset < 2 ^ length query.from → IsOrderOfSet (entries_of_set subset) order → AllPartsAreCounted counted query tables subset
@@ -45,8 +45,8 @@ pub fn counts_are_exact()
         → slice_index plan.levels k ≡ length (list_levels query tables lists plan.order (k + 1)) }
 {}
 
-/// Under whatever conjuncts sets are counted, no bound is above the bound from degree sequences of the same lists, at any accuracy. The second
-/// clause is about the reduced scans.
+/// Whichever conjuncts are counted, no bound is above the bound from degree sequences of the same lists, at any accuracy. The second clause is about
+/// the reduced scans.
 pub fn counts_are_not_above_degree_sequences()
     ensures over_lists { (counted : CountsMade) (query : Query) (tables : Tables) (lists : List (List ℕ)) (accuracy subset : ℕ)
         → AreOfScans query tables lists → subset < 2 ^ length query.from

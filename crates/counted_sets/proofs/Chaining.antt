@@ -1,4 +1,5 @@
--- `last_before` gives the last of the first n uses with a key. The lemmas say that it has the key, and that no later one of these uses has it.
+-- `last_before` gives the last of the first n uses with a key. These lemmas say that this use has the key, and that no later use of the first n has
+-- it.
 use Rattle.std.proofs.Common.{◌≡◌, ℕ, zero, suc, ◌<◌, ◌≤◌, [], ◌∷◌, length, refl, ap, sym, ◌∙◌, subst, arith, inl, inr}
 use Rattle.std.specs.Prelude.{◌⊎◌}
 use Rattle.std.proofs.lemmas.Bool.{cases_eq, eq-eqb, ne_eqb}

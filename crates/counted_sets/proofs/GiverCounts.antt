@@ -1,4 +1,4 @@
--- `giver_count` counts the uses of kept items that give a slot. The lemmas say how this number changes when an item is removed.
+-- `giver_count` is the number of uses of kept items that give a slot. These lemmas say how it changes when an item is removed.
 use Rattle.std.proofs.Common.{◌≡◌, ℕ, zero, suc, ◌+◌, ◌<◌, ◌≤◌, Bool, true, false, List, [], ◌∷◌, length, get_or, set, refl, ap, sym, ◌∙◌, subst, arith, inl, inr}
 use Rattle.std.specs.Prelude.{◌⊎◌, ◌==◌, ◌&&◌, if◌then◌else◌}
 use Rattle.std.specs.List.{Contains}
@@ -95,9 +95,9 @@ supply_last uses slot item n = supply_gap uses slot item n (last_before (item_at
 set_other : (marks : List Bool) (item i : ℕ) → (i ≡ item → ⊥) → marked (set marks item false) i ≡ marked marks i
 set_other marks item i apart = get_or-set_other marks item i false false apart
 
--- one use adds this number to the supply
-abbrev share : Bool → List Use → ℕ → ℕ → ℕ
-share kept uses slot n = if kept && ((use_at uses n).gives == slot) then 1 else 0
+-- the number that one use adds to the slot's count
+abbrev count_of_use : Bool → List Use → ℕ → ℕ → ℕ
+count_of_use kept uses slot n = if kept && ((use_at uses n).gives == slot) then 1 else 0
 
 pub giver_count-set : (uses : List Use) (marks : List Bool) (slot item n : ℕ) → item < length marks → marked marks item ≡ true
     → giver_count (marked marks) uses slot n ≡ giver_count (marked (set marks item false)) uses slot n + giver_count (λ i. i == item) uses slot n
@@ -115,7 +115,7 @@ giver_count-set uses marks slot item (suc n) within stands =
         )
         | inr apart ↦ omega (arith, so_far, supply_other (marked marks) uses slot n apart, supply_other (marked (set marks item false)) uses slot n apart, supply_other (λ i. i == item) uses slot n apart)
       ]
-      | inr other ↦ (let alike : share (marked marks (item_at uses n)) uses slot n ≡ share (marked (set marks item false) (item_at uses n)) uses slot n =
-          ap (λ b. share b uses slot n) (sym (set_other marks item (item_at uses n) other)) in
+      | inr other ↦ (let alike : count_of_use (marked marks (item_at uses n)) uses slot n ≡ count_of_use (marked (set marks item false) (item_at uses n)) uses slot n =
+          ap (λ b. count_of_use b uses slot n) (sym (set_other marks item (item_at uses n) other)) in
           omega (arith, so_far, alike, supply_gone (λ i. i == item) uses slot n (ne_eqb (item_at uses n) item other)))
     ]

@@ -1,4 +1,4 @@
--- Items are removed one by one. The counts of uses that give a slot stay right, and no consistent set loses an item.
+-- Items are removed one by one. The counts of slots stay right, and no item of a consistent set is removed.
 use Rattle.std.proofs.Common.{◌≡◌, ℕ, zero, suc, ◌+◌, ◌-◌, ◌<◌, ◌≤◌, Bool, true, false, List, [], ◌∷◌, ◌++◌, length, get_or, set, refl, ap, sym, ◌∙◌, subst, arith, inl, inr}
 use Rattle.std.specs.Prelude.{◌⊎◌, ◌==◌, replicate}
 use Rattle.std.specs.List.{Contains}
@@ -12,7 +12,7 @@ use Rattle.counted_sets.specs.Counts.{giver_count, item_at, need_at, use_at, Nee
 use Rattle.counted_sets.proofs.Chaining.{last_has, last_within, none_after}
 use Rattle.counted_sets.proofs.GiverCounts.{given-giver_count, place_of, stands_there, giver_count-given, giver_count-set, supply_last, supply_one, supply_other}
 
--- ---- for each use of `item`, along the item's chain, one count is lowered by one
+-- ---- the loop that lowers one count for each use of `item`, along the item's chain
 
 pub record AreTaken (uses : List Use) (item : ℕ) (before counts : List ℕ) (at : ℕ) : Type 0 where
   pub within : at ≤ length uses
@@ -72,7 +72,7 @@ taken_one uses item (suc place) slot next keys lasts befores before counts chain
           ]);
     }
 
--- each link leads to a lower index, so a walk along a chain ends
+-- each link leads to a lower index, so the loop along a chain ends
 pub back_before : (key_of : ℕ → ℕ) (at places next keys : ℕ) (lasts befores : List ℕ) → AreUseChains key_of keys places lasts befores → 0 < at → at ≤ places → next ≡ get_or befores (at - 1) 0 → next < at
 back_before key_of zero places next keys lasts befores chains some within link = absurd (omega arith)
 back_before key_of (suc place) places next keys lasts befores chains some within link =
@@ -80,7 +80,7 @@ back_before key_of (suc place) places next keys lasts befores chains some within
     let last : next ≡ last_before key_of (key_of place) place = link ∙ ap (λ p. get_or befores p 0) e ∙ chains.before place (omega arith) in
     omega (arith, last, last_within key_of (key_of place) place)
 
--- ---- removing one item
+-- ---- the state after one item is removed
 
 pub enough_left : (items slots : ℕ) (uses : List Use) (marks : List Bool) (counts : List ℕ) (work : Rows ℕ) (item : ℕ) → CountsAreRight items slots uses marks counts work → item < items → marked marks item ≡ true
     → (slot : ℕ) → slot < length counts → giver_count (λ i. i == item) uses slot (length uses) ≤ get_or counts slot 0
@@ -101,7 +101,7 @@ removed items slots uses marks counts new_counts work new_work item counted h st
 pub not_marked : (marks : List Bool) (item : ℕ) → marked marks item ≡ false → set marks item false ≡ marks
 not_marked marks item gone = ap (set marks item) (sym gone) ∙ set-get_or marks item false
 
--- ---- why no consistent set loses an item
+-- ---- no item of a consistent set is removed
 
 -- if no marked item gives `slot`, a consistent set of marked items has no item that needs `slot`
 not_in_consistent_set : (items : ℕ) (uses : List Use) (marks : List Bool) (slot : ℕ) → giver_count (marked marks) uses slot (length uses) ≡ 0 → (other : ℕ → Bool) → IsConsistent items uses other
@@ -135,7 +135,7 @@ safe_one items uses old marks slot k none h needs so_far = record {
   ];
 }
 
--- ---- every item that needs `slot` is removed, along the slot's chain
+-- ---- the loop that removes every item that needs `slot`, along the slot's chain
 
 pub record AreGoneFrom (uses : List Use) (slot at : ℕ) (marks : List Bool) : Type 0 where
   pub within : at ≤ length uses
@@ -180,7 +180,7 @@ gone_still items uses old new slot safe gone k h needs = elim (cases_Bool (marke
   | inr goes ↦ goes
 ]
 
--- ---- the whole reduction: no marked item needs one of the slots that are listed before index `at`
+-- ---- the main loop: no marked item needs one of the slots that are listed before index `at`
 
 pub record Reducing (items slots : ℕ) (uses : List Use) (marks : List Bool) (counts : List ℕ) (work : Rows ℕ) (at : ℕ) : Type 0 where
   pub within : at ≤ length work.items

@@ -1,4 +1,4 @@
--- Definitions for the contracts and proofs of the reduction. No public contract names them.
+-- Definitions for the contracts and proofs of the reduction. No public contract uses them.
 use Rattle.std.specs.Prelude.{◌≡◌, ℕ, zero, suc, ◌+◌, ◌<◌, ◌≤◌, ◌==◌, ◌&&◌, List, [], ◌∷◌, length, slice_index, slice_index_or, Bool, true, false, if◌then◌else◌}
 use Rattle.std.specs.List.{Contains}
 use Rattle.row_buf.specs.Rows.{Rows}
@@ -15,12 +15,12 @@ item_at uses k = (use_at uses k).item
 abbrev pub need_at : List Use → ℕ → ℕ
 need_at uses k = (use_at uses k).needs
 
--- how many of the first n uses are of a kept item and give the slot
+-- among the first n uses, the number of uses of kept items that give the slot
 abbrev pub giver_count : (ℕ → Bool) → List Use → ℕ → ℕ → ℕ
 giver_count kept uses slot zero = 0
 giver_count kept uses slot (suc n) = (if kept (item_at uses n) && ((use_at uses n).gives == slot) then 1 else 0) + giver_count kept uses slot n
 
--- how many of the counts are above 0
+-- the number of counts above 0
 abbrev pub positives : List ℕ → ℕ
 positives [] = 0
 positives (zero ∷ counts) = positives counts
@@ -43,14 +43,14 @@ pub record Extends (old new : List ℕ) : Type 0 where
   pub longer : length old ≤ length new
   pub same : (p : ℕ) → p < length old → slice_index new p ≡ slice_index old p
 
--- the count of a slot is how many uses of marked items give it, and the slots of count 0 are listed
+-- the count of each slot is the number of uses of marked items that give it. The slots with the count 0 are listed
 pub record CountsAreRight (items slots : ℕ) (uses : List Use) (marks : List Bool) (counts : List ℕ) (work : Rows ℕ) : Type 0 where
   pub item_count : length marks ≡ items
   pub slot_count : length counts ≡ slots
   pub counted : (slot : ℕ) → slot < slots → slice_index counts slot ≡ giver_count (marked marks) uses slot (length uses)
   pub listed : IsWorkOf counts work
 
--- no item is newly marked; and if all items of a consistent set were marked, all of them still are
+-- no item is newly marked. If all items of a consistent set were marked, they are still marked
 pub record IsSafe (items : ℕ) (uses : List Use) (old new : List Bool) : Type 0 where
   pub fewer : (item : ℕ) → marked new item ≡ true → marked old item ≡ true
   pub safe : (other : ℕ → Bool) → IsConsistent items uses other → ((item : ℕ) → other item ≡ true → marked old item ≡ true)

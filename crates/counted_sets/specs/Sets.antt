@@ -1,4 +1,4 @@
--- Consistent sets of items: each slot that an item of the set needs is given by an item of the set. A use says that an item gives one slot and
+-- Consistent sets of items: each slot that an item of the set needs is given by an item of the set. A use belongs to an item; it gives one slot and
 -- needs another one.
 use Rattle.std.specs.Prelude.{◌≡◌, ℕ, ◌<◌, List, slice_index_or, Bool, true, false}
 use Rattle.std.specs.List.{Contains}
@@ -8,7 +8,7 @@ use Rattle.counted_sets.specs.declared.uses.Use.{Use}
 abbrev pub marked : List Bool → ℕ → Bool
 marked marks item = slice_index_or marks item false
 
--- a use of a kept item gives the slot
+-- some use of a kept item gives the slot
 abbrev pub IsGiven : List Use → (ℕ → Bool) → ℕ → Type 0
 IsGiven uses kept slot = (giver : Use) × Contains uses giver × (kept giver.item ≡ true) × (giver.gives ≡ slot)
 

@@ -1,12 +1,12 @@
--- Uses with the same key, linked from the last use back to the first. A use is given by its index, which is called its place here.
+-- Uses with the same key, linked from the last use back to the first. The place of a use is its index in the list of uses.
 use Rattle.std.specs.Prelude.{◌≡◌, ℕ, zero, suc, ◌<◌, ◌==◌, if◌then◌else◌, List, length, slice_index}
 
--- the last of the first n uses that has the key, by its index counted from 1, or 0 if no use has the key
+-- among the first n uses, the last use that has the key, by its index counted from 1. It is 0 if no use has the key
 abbrev pub last_before : (ℕ → ℕ) → ℕ → ℕ → ℕ
 last_before key_of key zero = 0
 last_before key_of key (suc n) = if key_of n == key then suc n else last_before key_of key n
 
--- `lasts` has for each key the last use that has it, and `befores` has for each use the use before it with the same key
+-- `lasts` has for each key the last use that has it. `befores` has for each use the use before it with the same key
 pub record AreUseChains (key_of : ℕ → ℕ) (keys places : ℕ) (lasts befores : List ℕ) : Type 0 where
   pub key_count : length lasts ≡ keys
   pub place_count : length befores ≡ places

@@ -1,4 +1,4 @@
-//! Links uses that have the same item, or that need the same slot, from the last use back to the first.
+//! Links the uses of each item, or the uses that need each slot, from the last use back to the first.
 ghost use Rattle.std.specs.Prelude.{◌≡◌, ◌+◌, ◌^◌, ◌<◌, ◌≤◌, All, IfOk, ℕ, length, slice_index};
 ghost use Rattle.counted_sets.specs.UseChains.{AreUseChains, last_before};
 ghost use Rattle.counted_sets.specs.Counts.{item_at, need_at};
@@ -9,8 +9,8 @@ use base_io::NoMemory;
 use row_buf::RowBuf;
 use std::alloc::Global;
 
-/// `lasts` has for each key the last use with this key. `befores` has for each use the use before it with the same key. Both lists have uses by their
-/// indexes, counted from 1, and 0 means no use. A key is an item or a slot. The chains take 4 bytes for each key and for each use.
+/// A key is an item or a slot. `lasts` has for each key the last use with this key. `befores` has for each use the use before it with the same key.
+/// In both lists a use is given by its index, counted from 1, and 0 means no use. The chains take 4 bytes for each key and for each use.
 #[derive(Drop)]
 pub(crate) struct UseChains {
     lasts: RowBuf<u32>,
@@ -18,7 +18,7 @@ pub(crate) struct UseChains {
 }
 
 impl UseChains {
-    // Empty chains with room for this many keys and uses (`places`).
+    // Empty chains with room for `keys` keys and `places` uses.
     fn new(alloc: Global, keys: u32, places: u64) -> Result<UseChains, NoMemory>
         ensures chains { IfOk result (λ chains. (key_of : ℕ → ℕ) → AreUseChains key_of keys 0 chains.lasts.items chains.befores.items) }
         ensures spare { IfOk result (λ chains. chains.befores.spare ≡ places) }

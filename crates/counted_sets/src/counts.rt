@@ -1,4 +1,4 @@
-//! Counts how many uses give each slot, and lists the slots whose count is 0. A use says that an item gives one slot and needs another one.
+//! Counts how many uses give each slot, and lists the slots whose count is 0. A use belongs to an item; it gives one slot and needs another one.
 ghost use Rattle.std.specs.Prelude.{◌≡◌, ◌==◌, ◌+◌, ◌-◌, ◌^◌, ◌<◌, ◌≤◌, ℕ, All, IfOk, length, slice_index, slice_set, true};
 ghost use Rattle.counted_sets.specs.UseChains.{AreUseChains};
 ghost use Rattle.counted_sets.specs.Counts.{EmptySlotsAreListed, Extends, IsWorkOf, item_at, giver_count};
@@ -9,7 +9,7 @@ use base_io::NoMemory;
 use row_buf::RowBuf;
 use std::alloc::Global;
 
-/// How many uses give each slot.
+/// The number of uses that give each slot.
 pub(crate) fn count_all(alloc: Global, slots: u32, uses: &[Use]) -> Result<RowBuf<u32>, NoMemory>
     requires slots { All (λ u. u.gives < slots) uses.now }
     requires few { length uses.now < 2 ^ 32 }

@@ -1,4 +1,4 @@
-//! Removes items as long as a slot that they need has the count 0.
+//! Removes items that need a slot with the count 0, until no such item is left.
 ghost use Rattle.std.specs.Prelude.{◌≡◌, ◌^◌, ◌<◌, All, IfOk, false, length, slice_index, slice_set};
 ghost use Rattle.counted_sets.specs.UseChains.{AreUseChains};
 ghost use Rattle.counted_sets.specs.Counts.{NeedersAreUnmarked, Extends, CountsAreRight, IsSafe, item_at, need_at};
@@ -11,7 +11,7 @@ use base_io::NoMemory;
 use row_buf::RowBuf;
 use std::alloc::Global;
 
-// Removes an item: it loses its mark, and the slots that it gives are counted down. An item without a mark was removed before.
+// Removes an item: its mark is cleared, and the counts of the slots that it gives are lowered. An item without a mark was removed before.
 fn remove(
     uses: &[Use],
     of_item: &UseChains,
@@ -74,7 +74,7 @@ fn remove_needing(
     }
 }
 
-/// Marks the items that stay. An item goes if it needs a slot that no remaining item gives; this is repeated until nothing changes.
+/// Marks the items that stay. An item is removed if it needs a slot that no remaining item gives; this is repeated until nothing changes.
 pub fn reduce(alloc: Global, items: u32, slots: u32, uses: &[Use]) -> Result<RowBuf<bool>, NoMemory>
     requires uses { All (IsUseOf items slots) uses.now }
     requires few { length uses.now < 2 ^ 32 }

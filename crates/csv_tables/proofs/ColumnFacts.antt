@@ -1,4 +1,4 @@
--- Columns grow by a row, cell by cell.
+-- Steps of the loop that adds the cells of a row to the columns.
 use Rattle.std.proofs.Common.{◌≡◌, ℕ, zero, suc, ◌+◌, ◌<◌, List, [], ◌∷◌, ◌++◌, length, take, drop, get_or, set, refl, sym, ap, ◌∙◌, arith, add-one}
 use Rattle.csv_tables.specs.Reads.{add_row}
 

@@ -1,4 +1,4 @@
--- Digits of a field, read one after another.
+-- Steps of the loop that reads the digits of a field.
 use Rattle.std.proofs.Common.{◌≡◌, ℕ, ◌+◌, ◌-◌, ◌*◌, ◌^◌, ◌<◌, ◌≤◌, true, false, List, [], ◌∷◌, length, drop, get_or, Option, None, Some, refl, ap, ◌∙◌, arith, length-drop, lit≤, ◌||◌}
 use Rattle.std.specs.Prelude.{◌==◌, nat_le, option_map, pos, neg_ℤ, IfSome}
 use Rattle.std.specs.Str.{all_ascii_digits}
@@ -10,7 +10,7 @@ use Rattle.plain_records.specs.Offsets.{FieldSoFar}
 use Rattle.plain_records.specs.Plain.{ends_field, first_field}
 use Rattle.plain_records.proofs.OffsetFacts.{field_begins, field_byte, field_more, field_of}
 use Rattle.csv_tables.specs.Fields.{DigitsSoFar, IsShort}
-use Rattle.csv_tables.specs.Numbers.{decimal_after, greatest_magnitude, is_minus, is_numeral, number_of, signed, magnitude_of, without_sign}
+use Rattle.csv_tables.specs.Numbers.{decimal_after, greatest_magnitude, begins_with_minus, is_numeral, number_of, signed, magnitude_of, without_sign}
 use Rattle.csv_tables.proofs.NumberFacts.{few_digits, ten_more}
 
 -- the byte is one of the ten digits
@@ -81,7 +81,7 @@ size_short digits size most s l =
     rw (numeral, spelled, few) refl
 
 -- digits have no sign
-no_minus : (digits : List ℕ) → all_ascii_digits digits ≡ true → is_minus digits ≡ false
+no_minus : (digits : List ℕ) → all_ascii_digits digits ≡ true → begins_with_minus digits ≡ false
 no_minus [] e = refl
 no_minus (c ∷ cs) e =
     let ten = is_ten c (and_parts (is_ascii_digit c) (all_ascii_digits cs) e).0 in
@@ -97,14 +97,14 @@ no_sign (c ∷ cs) e =
 -- digits without a sign spell a number that isn't negative
 number_short : (digits : List ℕ) (size : ℕ) → IsShort digits size → number_of digits ≡ Some (pos size)
 number_short digits size s =
-    let minus : is_minus digits ≡ false = no_minus digits s.digits_are in
+    let minus : begins_with_minus digits ≡ false = no_minus digits s.digits_are in
     let sign : without_sign digits ≡ digits = no_sign digits s.digits_are in
     let most : 10 ^ 18 ≤ greatest_magnitude false = lit≤ tt in
     ap (λ b. option_map (signed b) (magnitude_of (greatest_magnitude b) (without_sign digits))) minus
     ∙ ap (λ ds. option_map (signed false) (magnitude_of (greatest_magnitude false) ds)) sign
     ∙ ap (option_map (signed false)) (size_short digits size (greatest_magnitude false) s most)
 
--- digits behind a minus sign spell a negative number, or 0
+-- digits after a minus sign spell a negative number, or 0
 number_negative : (field digits : List ℕ) (size : ℕ) → field ≡ 45 ∷ digits → IsShort digits size → number_of field ≡ Some (neg_ℤ (pos size))
 number_negative field digits size e s =
     let most : 10 ^ 18 ≤ greatest_magnitude true = lit≤ tt in
@@ -125,7 +125,7 @@ pub below_zero_is : (field digits : List ℕ) (size : Option ℕ) → field ≡ 
 below_zero_is field digits None e h = tt
 below_zero_is field digits (Some s) e h = number_negative field digits s e h
 
--- a field that begins with a minus sign goes on behind this sign
+-- a field that begins with a minus sign goes on after this sign
 pub begins_with : (bytes : List ℕ) (start : ℕ) → start < length bytes → get_or bytes start 0 ≡ 45 → first_field (drop start bytes) ≡ 45 ∷ first_field (drop (start + 1) bytes)
 begins_with bytes start l e =
     let goes_on : ends_field (get_or bytes start 0) ≡ false = ap ends_field e in

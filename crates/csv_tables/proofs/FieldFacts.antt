@@ -1,4 +1,4 @@
--- The fields of a text are texts. A text is a list of bytes in UTF-8, and a character beyond ASCII goes into the current field with all its bytes.
+-- The fields of UTF-8 bytes are UTF-8. A character beyond ASCII goes into the current field with all its bytes.
 use Rattle.std.proofs.Common.{◌≡◌, ◌⊎◌, inl, inr, ℕ, suc, ◌+◌, ◌≤◌, List, [], ◌∷◌, ◌++◌, length, Option, None, Some, Bool, true, false, ◌&&◌, refl, sym, ap, ◌∙◌, subst, arith, cond, append_assoc, append-nil, if◌then◌else◌, ltb}
 use Rattle.std.proofs.lemmas.Bool.{cases_lt, eqb-true, le-ltb, and_parts}
 use Rattle.std.specs.Prelude.{◌==◌, IsUtf8}
@@ -22,7 +22,7 @@ AreHigh [] = Unit {0}
 AreHigh (b ∷ bs) = (128 ≤ b) × AreHigh bs
 
 -- in state `s` the byte `b` beyond ASCII goes into the field, and after it every further byte beyond ASCII does
-record Joins (s : State) (b : ℕ) : Type 0 where
+record TakesHighByte (s : State) (b : ℕ) : Type 0 where
   next : State
   steps : step default_config s b ≡ (next, act.Copy)
   stays : (c : ℕ) → 128 ≤ c → step default_config next c ≡ (next, act.Copy)
@@ -37,7 +37,7 @@ in_field_stays c h =
 in_quoted_stays : (c : ℕ) → 128 ≤ c → step default_config st.InQuoted c ≡ (st.InQuoted, act.Copy)
 in_quoted_stays c h = let quote : (c == 34) ≡ false = grind (arith, h) in rw quote refl
 
-joins : (s : State) (b : ℕ) → 128 ≤ b → (s ≡ st.InComment) ⊎ Joins s b
+joins : (s : State) (b : ℕ) → 128 ≤ b → (s ≡ st.InComment) ⊎ TakesHighByte s b
 joins st.StartRecord b h =
     let comma : (b == 44) ≡ false = grind (arith, h) in
     let cr : (b == 13) ≡ false = grind (arith, h) in
@@ -80,8 +80,8 @@ skips fields field (b ∷ bs) rest h =
     let lf : (b == 10) ≡ false = grind (arith, h.0) in
     rw lf (skips fields field bs rest h.1)
 
--- after the bytes `bs` of a character beyond ASCII, the field has all of them at its end, or has stayed as it was
-record Took (s : State) (fields : List (List ℕ)) (field bs rest : List ℕ) : Type 0 where
+-- after the bytes `bs` of a character beyond ASCII, the field has gained all of them, or it is as before
+record TookCharacter (s : State) (fields : List (List ℕ)) (field bs rest : List ℕ) : Type 0 where
   state : State
   now : List ℕ
   is : (now ≡ field) ⊎ (now ≡ field ++ bs)
@@ -92,7 +92,7 @@ one_step : (s n : State) (fields : List (List ℕ)) (field : List ℕ) (b : ℕ)
 unfolding next_record
 one_step s n fields field b rest e = rw e refl
 
-took : (s : State) (fields : List (List ℕ)) (field : List ℕ) (b : ℕ) (bs rest : List ℕ) → 128 ≤ b → AreHigh bs → Took s fields field (b ∷ bs) rest
+took : (s : State) (fields : List (List ℕ)) (field : List ℕ) (b : ℕ) (bs rest : List ℕ) → 128 ≤ b → AreHigh bs → TookCharacter s fields field (b ∷ bs) rest
 took s fields field b bs rest h hs = elim (joins s b h) [
   | inl e ↦ record { state = st.InComment; now = field; is = inl refl; goes = rw e (skips fields field (b ∷ bs) rest (h, hs)) }
   | inr j ↦ record {

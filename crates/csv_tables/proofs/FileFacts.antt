@@ -1,4 +1,4 @@
--- A file is read in stages. What the stages give decides the file's rows or its refusal.
+-- The rows of a file or its refusal, from the results of the stages in which the file is read.
 use Rattle.std.proofs.Common.{◌≡◌, ℕ, ◌<◌, List, [], ◌∷◌, length, Result, Ok, Err, false, refl, ap, ◌∙◌, arith}
 use Rattle.std.specs.Prelude.{IsUtf8}
 use Rattle.std.specs.Str.{is_utf8}

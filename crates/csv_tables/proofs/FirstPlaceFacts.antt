@@ -1,4 +1,4 @@
--- A loop numbers rows one after another: each row gets the index of the first row that is like it.
+-- Steps of the loop that gives each row the index of the first row that is like it.
 use Rattle.std.proofs.Common.{◌≡◌, inl, inr, ℕ, ◌+◌, ◌<◌, ◌≤◌, Bool, true, false, ◌&&◌, List, [], ◌∷◌, ◌++◌, length, get_or, set, take, Option, None, Some, refl, sym, ap, ◌∙◌, subst, arith, get_or-set_other, get_or-set_same, length-set}
 use Rattle.std.specs.Prelude.{nat_eq, unwrap_or, if◌then◌else◌}
 use Rattle.std.specs.List.{list_all}
@@ -23,7 +23,7 @@ eqb_symm a b = grind arith
 same_symm : (a b : ℕ × ℕ) → same_pair a b ≡ same_pair b a
 same_symm a b = ap (λ x. x && nat_eq a.1 b.1) (eqb_symm a.0 b.0) ∙ ap (λ y. nat_eq b.0 a.0 && y) (eqb_symm a.1 b.1)
 
--- for the pair `q`, the first row before `at` with this pair is kept. If no row before `at` has the pair, no row is kept
+-- the last argument is the first row before `at` with the pair `q`. It is None if no row before `at` has the pair
 abbrev pub IsKept : List ℕ → List ℕ → ℕ → ℕ × ℕ → Option ℕ → Type 0
 IsKept old cells at q None = (j : ℕ) → j < at → same_pair q (get_or old j 0, get_or cells j 0) ≡ false
 IsKept old cells at q (Some v) = IsFirst (λ i j. same_pair q (get_or old j 0, get_or cells j 0)) at v × (v < at)

@@ -1,4 +1,4 @@
--- A loop over a header's fields finds the place of a column. The lemmas are about the steps of this loop.
+-- Steps of the loop over a header's fields that finds the place of a column.
 use Rattle.std.proofs.Common.{ℕ, ◌≡◌, ◌+◌, ◌<◌, List, [], ◌∷◌, ◌++◌, length, drop, Option, None, Some, true, false, refl, ap, sym, ◌∙◌, get_or}
 use Rattle.std.specs.Option.{is_some}
 use Rattle.std.specs.Str.{str_eq_ignore_ascii_case}

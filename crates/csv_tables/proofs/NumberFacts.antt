@@ -1,4 +1,4 @@
--- Digits are read one after another. The lemmas are about the number that the digits read so far spell.
+-- Steps of loops that read digits: the number that the digits so far spell.
 use Rattle.std.proofs.Common.{ℕ, ◌≡◌, ◌+◌, ◌-◌, ◌*◌, ◌^◌, ◌<◌, ◌≤◌, List, [], ◌∷◌, None, Bool, true, false, refl, arith}
 use Rattle.std.proofs.Math.Nat.{pow-le-pow_right}
 use Rattle.std.proofs.lemmas.Grind.{pow_more}

@@ -1,4 +1,4 @@
--- Texts in UTF-8 have the order of their characters' code points.
+-- The bytes of UTF-8 texts compare as the code points of their characters.
 use Rattle.std.proofs.Common.{◌≡◌, ℕ, ◌+◌, ◌*◌, ◌/◌, ◌%◌, ◌<◌, ◌≤◌, true, false, List, [], ◌∷◌, ◌++◌, refl, sym, ap, ◌∙◌, arith, ltb, inl, inr}
 use Rattle.std.specs.Prelude.{IsUtf8, nat_lt, ◌==◌}
 use Rattle.std.specs.Cmp.Lexicographic.{slice_cmp}

@@ -73,7 +73,7 @@ unquoted_by : (whole rest : List ℕ) (b : Bool) → has_quote whole ≡ false �
 unquoted_by whole rest true h r = r
 unquoted_by whole rest false h r = h
 
--- if the bytes have no quotation mark, the bytes behind the byte order mark have no quotation mark either
+-- if the bytes have no quotation mark, the bytes after the byte order mark have no quotation mark either
 pub no_quote_behind : (bytes : List ℕ) → has_quote bytes ≡ false → has_quote (strip_bom bytes) ≡ false
 unfolding strip_bom
 no_quote_behind [] h = h
@@ -84,7 +84,7 @@ no_quote_behind (a ∷ b ∷ c ∷ rest) h =
     let two = or_parts (is_quote b) (has_quote (c ∷ rest)) one.1 in
     unquoted_by (a ∷ b ∷ c ∷ rest) rest _ h (or_parts (is_quote c) (has_quote rest) two.1).1
 
--- the records behind a header's line, where the line begins at `start`
+-- the records after a header's line, where the line begins at `start`
 pub behind_first : (bytes : List ℕ) (mark start next : ℕ) → drop mark bytes ≡ strip_bom bytes → plain_records (drop mark bytes) ≡ plain_records (drop start bytes)
     → (start < length bytes → ends_line (get_or bytes start 0) ≡ false) → drop next bytes ≡ after_line (drop start bytes)
     → (header : Record) (records : List Record) → plain_records (strip_bom bytes) ≡ header ∷ records → plain_records (drop next bytes) ≡ records

@@ -1,4 +1,4 @@
--- A pool keeps its texts as the keys of a set. What is true of the keys is stated here for the texts as bytes.
+-- A pool keeps its texts as the keys of a set. The lemmas turn facts about the keys into facts about the texts as bytes.
 use Rattle.std.proofs.Common.{◌≡◌, ℕ, zero, suc, ◌+◌, Bool, true, false, ◌||◌, cond, List, [], ◌∷◌, ◌++◌, map, Some, refl, sym, ap, ◌∙◌, if◌then◌else◌, get_or}
 use Rattle.std.specs.Prelude.{String, position, slice_get, not, string_bytes, option_map}
 use Rattle.std.specs.List.{list_any, position_or_len, AllByRecursion, IsDistinct}

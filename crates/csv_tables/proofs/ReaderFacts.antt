@@ -4,7 +4,7 @@ use Rattle.csv.specs.Machine.{next_record}
 use Rattle.csv.specs.Reading.{default_config, pending_of, took_first, NextIs, ReadRecord, ReadsNext}
 use Rattle.csv.specs.declared.parser.State.{State}
 use Rattle.csv.proofs.ReadFacts.{rows-end}
-use Rattle.csv_tables.specs.Records.{remaining, records_in, unread, IsReading, Source}
+use Rattle.csv_tables.specs.Records.{unread_records, records_in, unread, IsReading, MemoryReader}
 use Rattle.csv.specs.Records.{AllText}
 use Rattle.csv_tables.proofs.FieldFacts.{text_read}
 use Rattle.csv_tables.proofs.RecordFacts.{first_found, none_found, Found}
@@ -18,13 +18,13 @@ first_of_known : (s s2 : State) (before after : Option (List ℕ)) (xs ys : List
     → Found default_config s xs fields s2 ys → records_in s before ≡ fields ∷ records_in s2 after
 first_of_known s s2 before after xs ys fields e f found = rw (e, f) found.first
 
-pub record Gave (old new : Source) (fields : List (List ℕ)) : Type 0 where
+pub record Gave (old new : MemoryReader) (fields : List (List ℕ)) : Type 0 where
   pub reading : IsReading new
-  pub first : remaining old ≡ fields ∷ remaining new
+  pub first : unread_records old ≡ fields ∷ unread_records new
   pub text : AllText fields
   pub few : length fields ≤ 67108865
 
-pub gave_first : (old new : Source) (fields : List (List ℕ)) → IsReading old → took_first new ≡ true
+pub gave_first : (old new : MemoryReader) (fields : List (List ℕ)) → IsReading old → took_first new ≡ true
     → ReadRecord (λ bytes. Some bytes.now) old new true fields → Gave old new fields
 gave_first old new fields was took r =
     let k = read_known old.state new.state was.bytes (pending_of (Some new.rdr.now) new) fields (rw (was.config, was.known) at r.0) in
@@ -41,7 +41,7 @@ gave_first old new fields was took r =
       few = omega arith;
     }
 
-pub gave_none : (old new : Source) (fields : List (List ℕ)) → IsReading old → ReadRecord (λ bytes. Some bytes.now) old new false fields → remaining old ≡ []
+pub gave_none : (old new : MemoryReader) (fields : List (List ℕ)) → IsReading old → ReadRecord (λ bytes. Some bytes.now) old new false fields → unread_records old ≡ []
 gave_none old new fields was r =
     ap (records_in old.state) was.known
     ∙ none_found default_config old.state was.bytes (rows-end (λ bytes. Some bytes.now) old new fields default_config was.bytes was.config was.known r)

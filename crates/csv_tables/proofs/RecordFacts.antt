@@ -1,4 +1,4 @@
--- Each record takes one byte or more. So all records of some bytes are read in as many rounds as there are bytes, and one more.
+-- Each record takes at least one byte. So the number of bytes plus one is enough rounds to read all records.
 use Rattle.std.proofs.Common.{◌≡◌, ◌⊎◌, inl, inr, ℕ, zero, suc, ◌+◌, ◌≤◌, ◌<◌, List, [], ◌∷◌, length, Option, None, Some, Bool, true, false, refl, ap, arith, length-append, ◌&&◌, if◌then◌else◌}
 use Rattle.std.specs.Prelude.{◌==◌}
 use Rattle.csv.specs.Machine.{Read, next_record, step, is_end, ends_at_end, in_field, start_field, start_record, after_end, ends_with, is_byte, line_feed, carriage_return, fields_after, field_after}
@@ -11,7 +11,7 @@ use Rattle.csv.specs.declared.parser.Terminator.{Terminator}
 use Rattle.csv.specs.declared.parser.Terminator.TheVariants as term
 use Rattle.csv.specs.declared.parser.State.TheVariants as st
 
--- if a step ends a record, no record is begun in the state after it, so the end of the text ends no record there
+-- if a step ends a record, no record is begun in the state after it. So the end of the bytes ends no record there
 record EndsCleanly (r : State × Action) : Type 0 where
   closes : is_end r.1 ≡ true → ends_at_end r.0 ≡ false
 

@@ -1,4 +1,4 @@
--- The values of a record are read one after another. The lemmas are about the steps of this loop.
+-- Steps of the loop that reads the values of a record.
 use Rattle.std.proofs.Common.{◌≡◌, ℕ, ◌+◌, ◌<◌, ◌≤◌, List, [], ◌∷◌, ◌++◌, length, get_or, take, drop, Some, refl, sym, ap, ◌∙◌, subst, arith}
 use Rattle.std.proofs.lemmas.List.{drop_more, take_more, map-append}
 use Rattle.schema_types.specs.declared.types.Column.{Column}

@@ -1,4 +1,4 @@
--- The fields of a record, read one after another.
+-- Steps of the loop that reads the fields of a record.
 use Rattle.std.proofs.Common.{◌≡◌, ℕ, ◌+◌, ◌-◌, ◌<◌, ◌≤◌, min, List, [], ◌∷◌, ◌++◌, length, take, drop, get_or, set, false, refl, sym, ap, ◌∙◌, subst, arith, append_assoc, length-append}
 use Rattle.std.specs.Prelude.{All, IfSome, IsUtf8, Some}
 use Rattle.std.proofs.lemmas.List.{append-nil, drop_min, length-map, length-take-le, map-append, take_all, take_more_set, length-set}
@@ -43,7 +43,7 @@ spans_more : (bytes : List ℕ) (place : ℕ) (fields : List Field) (field : Fie
 spans_more bytes place fields field l all one =
     subst (All (IsSpan bytes)) (sym (take_more_set fields place field l)) (All-push (IsSpan bytes) (take place fields) field all one)
 
--- a field with a comma behind it
+-- a field with a comma after it
 pub fields_more : (bytes : List ℕ) (start at place : ℕ) (fields : List Field) (field : Field) → FieldsSoFar bytes start at place fields → IsUtf8 bytes → IsFieldAt bytes at field
     → field.end < length bytes → get_or bytes field.end 0 ≡ 44 → place < length fields → FieldsSoFar bytes start (field.end + 1) (place + 1) (set fields place field)
 fields_more bytes start at place fields field s text f l e within =

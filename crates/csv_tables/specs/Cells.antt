@@ -1,4 +1,4 @@
--- The rows that cells stand for.
+-- The values of cells, and the rows of a table's cells.
 use Rattle.std.specs.Prelude.{ℕ, zero, suc, ◌≡◌, ◌<◌, ◌^◌, List, [], ◌∷◌, ◌++◌, length, map, All, slice_index, slice_index_or, ⊤}
 use Rattle.schema_types.specs.declared.types.Kind.{Kind}
 use Rattle.schema_types.specs.declared.types.Kind.TheVariants as kind
@@ -30,7 +30,7 @@ rows_of_columns texts kinds columns (suc rows) =
 abbrev pub rows_of_cells : List (List ℕ) → Cells → List Row
 rows_of_cells texts cells = rows_of_columns texts cells.kinds cells.columns cells.rows
 
--- a cell of this kind: in a column of numbers it is below 2^64, in a column of texts it is the number of a text in the pool
+-- a cell of this kind: for a number it is below 2^64, and for a text it is the number of a text in the pool
 abbrev pub IsCell : List (List ℕ) → Kind → ℕ → Type 0
 IsCell texts kind.Int cell = cell < 2 ^ 64
 IsCell texts (kind.Text most) cell = cell < length texts

@@ -7,7 +7,7 @@ use Rattle.csv_tables.specs.declared.fields.Field.{Field}
 use Rattle.csv_tables.specs.Numbers.{decimal_after, number_of}
 use Rattle.csv_tables.specs.Records.{Record}
 
--- a field that was read up to `end`. From `first` on these bytes are digits, and they spell `size`
+-- a field was read up to `end`. Its bytes from `first` on are digits, which spell `size`
 pub record DigitsSoFar (bytes : List ℕ) (first end size : ℕ) : Type 0 where
   pub field : FieldSoFar bytes first end
   pub digits : all_ascii_digits (first_field (drop first bytes)) ≡ all_ascii_digits (first_field (drop end bytes))
@@ -42,7 +42,7 @@ pub record IsSpan (bytes : List ℕ) (field : Field) : Type 0 where
 abbrev pub record_of : List ℕ → List Field → Record
 record_of bytes fields = map (text_of bytes) fields
 
--- `next` is the offset behind the line that begins at `start`
+-- `next` is the offset after the line that begins at `start`
 pub record IsBehind (bytes : List ℕ) (start next : ℕ) : Type 0 where
   pub rest : drop next bytes ≡ after_line (drop start bytes)
   pub within : next ≤ length bytes

@@ -29,14 +29,14 @@ rows_under_header columns records =
     column_places 0 columns (header_of records)
     >>= (λ places. rows_of_records columns places (length (header_of records)) 1 (after_header records))
 
--- the rows of a table in the records of its file, with a check of keys
+-- the rows of a table, from the records of its file, with a check of keys
 unfoldable pub rows_in_records : Table → List Record → Result (List Row) TableError
 rows_in_records table records = rows_under_header table.columns records >>= rows_with_keys table.keys
 
--- the rows of a table in its file, each with its values in declared order, or the first refusal. A file is refused for bytes that aren't UTF-8;
--- for a column that the header doesn't name exactly once; for a record after the header that is the 4,000,001st, has another width than the
--- header, or has a field outside its column's type; for a key whose values repeat. A byte order mark at the front is dropped. Header fields that
--- name no column are ignored
+-- the rows of a table in its file, each with its values in declared order, or the first refusal. A file is refused if its bytes aren't UTF-8, or if
+-- its header has no field or several fields for a declared column. The 4,000,001st record after the header is refused. So is a record with another
+-- number of fields than the header, and a field outside its column's type. Repeated values of a key are refused too. A byte order mark at the front
+-- is dropped. Header fields that name no column are ignored
 unfoldable pub rows_of_file : Table → List ℕ → Result (List Row) TableError
 rows_of_file table bytes =
     refuse_if (not (is_utf8 bytes)) (error.Utf8 (utf8_valid_len bytes)) (rows_in_records table (records_of (strip_bom bytes)))

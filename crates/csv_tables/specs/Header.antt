@@ -1,4 +1,4 @@
--- The places of the declared columns in a file's header. Further fields of the header are passed over.
+-- The places of the declared columns in a file's header. Other fields of the header are ignored.
 use Rattle.std.specs.Prelude.{ℕ, ◌+◌, if◌then◌else◌, List, [], ◌∷◌, Option, None, Some, Result, Ok}
 use Rattle.std.specs.Str.{str_eq_ignore_ascii_case}
 use Rattle.schema_types.specs.declared.types.Column.{Column}
@@ -7,13 +7,13 @@ use Rattle.csv_tables.specs.declared.types.TableError.TheVariants as error
 use Rattle.csv_tables.specs.Records.{Record}
 use Rattle.csv_tables.specs.Steps.{or_refuse, then_all}
 
--- the places of the fields that equal this name, ignoring ASCII case; the first field has the place `at`
+-- the places of the fields that equal this name, ignoring ASCII case. The first field has the place `at`
 abbrev pub places_from : ℕ → List ℕ → Record → List ℕ
 places_from at name [] = []
 places_from at name (field ∷ fields) =
     if str_eq_ignore_ascii_case field name then at ∷ places_from (at + 1) name fields else places_from (at + 1) name fields
 
--- a list's item, if the list has exactly one
+-- the only item of a list with exactly one
 abbrev pub only : {X : Type 0} → List X → Option X
 only [] = None
 only (x ∷ []) = Some x
@@ -23,7 +23,7 @@ only (x ∷ y ∷ rest) = None
 abbrev pub column_place : List ℕ → Record → Option ℕ
 column_place name header = only (places_from 0 name header)
 
--- the places of the columns, which are numbered from `number`; the first column that no field or several fields name is refused
+-- the place of each column. The first column has the number `number`. The first column that isn't named by exactly one field is refused
 abbrev pub column_places : ℕ → List Column → Record → Result (List ℕ) TableError
 column_places number [] header = Ok []
 column_places number (column ∷ columns) header =

@@ -19,8 +19,8 @@ abbrev pub repeat_or : Option Repeat → Option ℕ → ℕ → Option Repeat
 repeat_or rest None later = rest
 repeat_or rest (Some place) later = Some (record { later = later; earlier = place + 1 })
 
--- the first of the later lists of values that equals an earlier list, and the first list that is equal to it, both by number. Numbers are counted
--- from 1, and the lists in `seen` come before the later lists
+-- the lists of values in `seen` come before the later lists. The result is the first later list that equals an earlier one, and the first list that
+-- is equal to it. Both are given by number, from 1
 abbrev pub repeat_after : List (List Value) → List (List Value) → Option Repeat
 repeat_after seen [] = None
 repeat_after seen (values ∷ rest) =
@@ -34,7 +34,7 @@ abbrev pub or_rows : List Row → Option Repeat → Result (List Row) TableError
 or_rows rows None next = next
 or_rows rows (Some repeat) next = Err (error.Key repeat.later repeat.earlier)
 
--- the rows, if no key's values repeat in them; else the refusal of the first key, in declared order, whose values repeat
+-- the rows, if no values of a key repeat. Otherwise the refusal of the first key, in declared order, whose values repeat
 abbrev pub rows_with_keys : List (List ℕ) → List Row → Result (List Row) TableError
 rows_with_keys [] rows = Ok rows
 rows_with_keys (key ∷ keys) rows = or_rows rows (first_repeat key rows) (rows_with_keys keys rows)

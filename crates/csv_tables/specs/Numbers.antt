@@ -1,12 +1,12 @@
--- Which number a field spells, and which cell holds it.
+-- The number that a field spells, and the cell that holds it.
 use Rattle.std.specs.Prelude.{ℕ, ℤ, pos, neg_ℤ, ◌+◌, ◌-◌, ◌*◌, ◌^◌, ◌==◌, ◌&&◌, ◌||◌, nat_le, Bool, true, false, if◌then◌else◌, List, [], ◌∷◌, Option, None, Some, option_map}
 use Rattle.std.specs.Str.{all_ascii_digits}
 use Rattle.std.specs.Int.{w64, cast_unsigned, cast_signed}
 
 -- the field begins with a minus sign
-abbrev pub is_minus : List ℕ → Bool
-is_minus [] = false
-is_minus (c ∷ cs) = c == 45
+abbrev pub begins_with_minus : List ℕ → Bool
+begins_with_minus [] = false
+begins_with_minus (c ∷ cs) = c == 45
 
 -- the field without the + or - at its front, if it has one
 abbrev pub without_sign : List ℕ → List ℕ
@@ -40,7 +40,7 @@ signed false size = pos size
 
 -- the number that a field spells: an optional sign, then digits, in the signed range of 64 bits
 abbrev pub number_of : List ℕ → Option ℤ
-number_of field = option_map (signed (is_minus field)) (magnitude_of (greatest_magnitude (is_minus field)) (without_sign field))
+number_of field = option_map (signed (begins_with_minus field)) (magnitude_of (greatest_magnitude (begins_with_minus field)) (without_sign field))
 
 -- the cell of a number: its 64 bits in two's complement
 abbrev pub bits_of : ℤ → ℕ

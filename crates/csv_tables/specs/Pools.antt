@@ -7,7 +7,7 @@ use Rattle.std.specs.Str.{bytes_eq}
 abbrev pub with_text : List (List ℕ) → List ℕ → List (List ℕ)
 with_text texts text = if list_any (bytes_eq text) texts then texts else texts ++ text ∷ []
 
--- no text is there twice
+-- no two texts are equal
 abbrev pub TextsAreDifferent : List (List ℕ) → Type 0
 TextsAreDifferent texts = AllPairs (λ a b. a ≢ b) texts
 

@@ -15,7 +15,7 @@ pub record IsCellOf (texts : List (List ℕ)) (kind : Kind) (value : Value) (cel
   pub value_is : value_of_cell texts kind cell ≡ value
   pub is_cell : IsCell texts kind cell
 
--- each cell has the kind and the value that have the same index
+-- each cell has the kind and the value at its index
 abbrev pub AreCellsOfRow : List (List ℕ) → List Kind → Row → List ℕ → Type 0
 AreCellsOfRow texts [] [] [] = ⊤
 AreCellsOfRow texts [] [] (cell ∷ cells) = ⊥
@@ -24,19 +24,19 @@ AreCellsOfRow texts (kind ∷ kinds) [] cells = ⊥
 AreCellsOfRow texts (kind ∷ kinds) (value ∷ values) [] = ⊥
 AreCellsOfRow texts (kind ∷ kinds) (value ∷ values) (cell ∷ cells) = IsCellOf texts kind value cell × AreCellsOfRow texts kinds values cells
 
--- the specification gives a row, and these are its cells
+-- `stated` is a row, and these are its cells
 pub record HoldsRow (stated : Result Row TableError) (texts : List (List ℕ)) (kinds : List Kind) (cells : List ℕ) : Type 0 where
   pub row : Row
   pub is_row : stated ≡ Ok row
   pub cells_of_row : AreCellsOfRow texts kinds row cells
 
--- the columns, each with its cell of one more row at the end
+-- the columns after a row is added: each has one more cell at its end
 abbrev pub add_row : List (List ℕ) → List ℕ → List (List ℕ)
 add_row [] cells = []
 add_row (column ∷ columns) [] = column ∷ columns
 add_row (column ∷ columns) (cell ∷ cells) = (column ++ cell ∷ []) ∷ add_row columns cells
 
--- the specification gives rows, and these are their columns
+-- `stated` are rows, and these are their columns
 pub record HoldsColumns (stated : Result (List Row) TableError) (texts : List (List ℕ)) (kinds : List Kind) (columns : List (List ℕ))
     (rows : ℕ) : Type 0 where
   pub rows_are : stated ≡ Ok (rows_of_columns texts kinds columns rows)

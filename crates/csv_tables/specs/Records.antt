@@ -1,4 +1,4 @@
--- The records of a file's bytes, and the records that a reader has yet to give.
+-- The records of a file's bytes, and the records that a reader hasn't given yet.
 use Rattle.std.specs.Prelude.{ℕ, ◌≡◌, ◌≤◌, ◌+◌, false, List, [], length, Option, None, Some, IsUtf8}
 use Rattle.std.proofs.Common.{Bor}
 use Rattle.limits.specs.Profile.{most_file}
@@ -12,31 +12,31 @@ use Rattle.csv.specs.declared.reader.Trim.TheVariants as trim
 abbrev pub Record : Type 0
 Record = List (List ℕ)
 
--- the records of bytes, as the kit's crate csv has them (`records` of its specs; no file of this repository repeats this definition). Commas part
--- fields. CR, LF, or both end a record, and so does the text's end. An empty line is no record. A double quote counts only at the front of a
+-- the records of bytes, as the kit's crate csv has them (`records` of its specs; no file of this repository repeats this definition). Commas separate
+-- fields. CR, LF, or both end a record, and so does the end of the bytes. An empty line is no record. A double quote counts only at the front of a
 -- field. Up to the closing quote, commas and line ends belong to the field, and two quotes in a row mean one quote. The bytes between the closing
--- quote and the next comma belong to the field too. A field whose quote is never closed goes on to the text's end
+-- quote and the next comma belong to the field too. A field whose quote is never closed goes on to the end of the bytes
 abbrev pub records_of : List ℕ → List Record
 records_of bytes = records default_config bytes
 
 -- a reader of bytes in memory
-abbrev pub Source : Type 0
-Source = Reader (Bor (List ℕ))
+abbrev pub MemoryReader : Type 0
+MemoryReader = Reader (Bor (List ℕ))
 
--- the bytes that a reader has yet to read, if it has not failed
-abbrev pub unread : Source → Option (List ℕ)
+-- the bytes that a reader hasn't read yet, if it has not failed
+abbrev pub unread : MemoryReader → Option (List ℕ)
 unread reader = source_of (λ bytes. Some bytes.now) reader
 
 abbrev pub records_in : State → Option (List ℕ) → List Record
 records_in state None = []
 records_in state (Some bytes) = records_from default_config (length bytes + 1) state bytes
 
--- the records that a reader has yet to give
-abbrev pub remaining : Source → List Record
-remaining reader = records_in (reader_state reader) (unread reader)
+-- the records that a reader hasn't given yet
+abbrev pub unread_records : MemoryReader → List Record
+unread_records reader = records_in (reader_state reader) (unread reader)
 
 -- the reader is between two records, has at most 64 MiB of text left, and gives each field untrimmed
-pub record IsReading (reader : Source) : Type 0 where
+pub record IsReading (reader : MemoryReader) : Type 0 where
   pub config : reader_config reader ≡ default_config
   pub trim : reader_trim reader ≡ trim.None
   pub ready : Ready reader

@@ -1,9 +1,9 @@
--- Which errors may be given when a file is read.
+-- The errors that may be given when a file is read.
 use Rattle.std.specs.Prelude.{◌≡◌, Result, Err, ⊤}
 use Rattle.csv_tables.specs.declared.types.TableError.{TableError}
 use Rattle.csv_tables.specs.declared.types.TableError.TheVariants as error
 
--- the error is too little memory, or exactly the refusal that the specification gives
+-- the error is NoMemory, or exactly the refusal that the specification gives
 abbrev pub IsRefusalOrNoMemory : {A : Type 0} → Result A TableError → TableError → Type 0
 IsRefusalOrNoMemory stated error.NoMemory = ⊤
 IsRefusalOrNoMemory stated (error.Utf8 at) = stated ≡ Err (error.Utf8 at)

@@ -17,7 +17,7 @@ abbrev pub refuse_if : {A : Type 0} → Bool → TableError → Result A TableEr
 refuse_if true e next = Err e
 refuse_if false e next = next
 
--- the item in front of the list's items, or the first refusal
+-- the list with the item put in front, or the first refusal
 abbrev pub then_all : {A : Type 0} → Result A TableError → Result (List A) TableError → Result (List A) TableError
 then_all (Ok x) (Ok xs) = Ok (x ∷ xs)
 then_all (Ok x) (Err e) = Err e

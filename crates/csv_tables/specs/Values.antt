@@ -1,4 +1,4 @@
--- The values of a table, and which value a field spells.
+-- The values of a table, and the value that a field spells.
 use Rattle.std.specs.Prelude.{ℕ, ℤ, nat_le, Bool, false, if◌then◌else◌, List, length, Option, None, Some, option_map}
 use Rattle.std.specs.Cmp.Lexicographic.{slice_cmp}
 use Rattle.std.specs.Ordering.{int_cmp, int_eq, nat_cmp}

@@ -7,7 +7,7 @@ ghost use Rattle.csv_tables.specs.Numbers.{bits_of, number_of};
 ghost use Rattle.csv_tables.specs.Records.{records_of};
 ghost use Rattle.csv_tables.specs.Values.{Int, value_of_field};
 
-/// The examples are this contract's clauses, proved by computation. The function does nothing.
+/// Examples, proved by computation. The call does nothing.
 pub fn examples()
     ensures plus { number_of (codes "+007") ≡ Some (pos 7) }
     ensures least { number_of (codes "-9223372036854775808") ≡ Some (neg_ℤ (pos (2 ^ 63))) }

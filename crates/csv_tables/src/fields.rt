@@ -22,7 +22,7 @@ impl Field {
     };
 }
 
-// Digits that were read: the number that they spell, and the byte offset behind them.
+// Digits that were read: the number that they spell, and the byte offset after them.
 #[derive(Clone, Copy)]
 struct Digits {
     size: u64,
@@ -172,7 +172,7 @@ fn is_comma(bytes: &[u8], place: usize) -> bool
     place < bytes.len() && bytes[place] == b','
 }
 
-/// Reads the fields of the record that begins at `start`, and returns the offset behind the record. The result is `None` if the record has fewer or
+/// Reads the fields of the record that begins at `start`, and returns the offset after the record. The result is `None` if the record has fewer or
 /// more fields than the header.
 pub(crate) fn read_fields(
     bytes: &[u8],

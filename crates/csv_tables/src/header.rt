@@ -1,4 +1,4 @@
-//! The places of the declared columns in a file's header.
+//! Finds the declared columns in a file's header.
 ghost use Rattle.std.specs.Prelude.{◌≡◌, ◌<◌, ◌≤◌, All, Err, IfErr, IfOk, IsErrOf, Ok, length};
 ghost use Rattle.std.specs.Str.{str_eq_ignore_ascii_case};
 ghost use Rattle.csv.specs.Records.{fields_of};
@@ -37,8 +37,7 @@ fn place_of(name: &[u8], header: &ByteRecord) -> Option<usize>
     found
 }
 
-/// The places of the columns in a header. It refuses the first column that no field names, or that
-/// several fields name.
+/// The place of each column in the header. The first column that isn't named by exactly one field is refused.
 pub(crate) fn places_of(
     alloc: Global,
     columns: &[Column],

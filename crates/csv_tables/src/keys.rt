@@ -17,7 +17,7 @@ use schema_types::Table;
 use std::alloc::Global;
 use std::collections::HashMap;
 
-// The row index that `seen` has for `pair`. If `seen` doesn't have the pair yet, it gets the pair with the index `at`, which is then the result.
+// The row index that `seen` has for `pair`. A new pair is inserted with the index `at`, which is then the result.
 fn first_or_insert(
     seen: &mut HashMap<(u32, u64), u32>,
     pair: (u32, u64),
@@ -34,7 +34,7 @@ fn first_or_insert(
     Ok(at)
 }
 
-// Before, `first_places` has a number for each row. Afterwards it has for each row the index of the first row with the same number and the same cell.
+// `first_places` has a number for each row. The call replaces this number by the index of the first row with the same number and the same cell.
 fn number_pairs(alloc: Global, first_places: &mut [u32], cells: &[u64]) -> Result<(), NoMemory>
     requires long { length first_places.old ≡ length cells.now }
     requires few { length cells.now ≤ most_rows }
@@ -48,7 +48,7 @@ fn number_pairs(alloc: Global, first_places: &mut [u32], cells: &[u64]) -> Resul
     Ok(())
 }
 
-// The first row whose number isn't its own index, and the row that this number names. Both are given as numbers of records, counted from 1.
+// The first row whose number isn't its own index. Its number is the index of the earlier row. Both rows are given as record numbers, from 1.
 fn repeat_in(first_places: &[u32]) -> Option<Repeat>
     requires few { length first_places.now ≤ most_rows }
     requires below { (i : ℕ) → i < length first_places.now → slice_index first_places.now i ≤ i }
@@ -103,7 +103,7 @@ fn repeat_of_key(
     requires few { rows ≤ most_rows }
     ensures { IfOk result (IsRepeat columns.now key.now rows) }
 {
-    // Keys mostly ascend in their file. Then no table of seen values is needed.
+    // Keys mostly ascend in their file. Then no hash map of seen values is needed.
     if has_ascending(key, columns, rows) {
         return Ok(None);
     }

@@ -7,7 +7,7 @@ const SHORT: usize = 18;
 
 // The number that one to eighteen digits spell. It is None if a byte isn't a digit, or if the number is above `most`.
 #[tactic(auto, using(crate::proofs::NumberFacts::short_steps))]
-fn short_size(digits: &[u8], most: u64) -> Option<u64>
+fn short_value(digits: &[u8], most: u64) -> Option<u64>
     requires some { 0 < length digits.now }
     requires few { length digits.now ≤ 18 }
     ensures { result ≡ spelled_size most digits.now }
@@ -26,7 +26,7 @@ fn short_size(digits: &[u8], most: u64) -> Option<u64>
 }
 
 // The number that one or more digits spell. It is None if a byte isn't a digit, or if the number is above `most`.
-fn long_size(digits: &[u8], most: u64) -> Option<u64>
+fn long_value(digits: &[u8], most: u64) -> Option<u64>
     requires some { 0 < length digits.now }
     requires most { most ≤ 2 ^ 63 }
     ensures { result ≡ spelled_size most digits.now }
@@ -54,9 +54,9 @@ fn magnitude_of(digits: &[u8], most: u64) -> Option<u64>
         return None;
     }
     if digits.len() <= SHORT {
-        short_size(digits, most)
+        short_value(digits, most)
     } else {
-        long_size(digits, most)
+        long_value(digits, most)
     }
 }
 

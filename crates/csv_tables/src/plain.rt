@@ -23,7 +23,7 @@ use plain_records::{line_at, skip_line_ends};
 use schema_types::{Column, Kind};
 use std::alloc::Global;
 
-// How many bytes the byte order mark at the front takes, or 0 if there is no such mark.
+// The length of the byte order mark at the front, or 0 if there is no mark.
 fn mark_of(bytes: &[u8]) -> usize
     ensures within { result ≤ length bytes.now }
     ensures rest { drop result bytes.now ≡ strip_bom bytes.now }
@@ -35,8 +35,8 @@ fn mark_of(bytes: &[u8]) -> usize
     }
 }
 
-/// The byte offset behind the line of a file's first record, which is the header.
-pub(crate) fn behind_header(bytes: &[u8]) -> usize
+/// The byte offset after the line of the header, which is a file's first record.
+pub(crate) fn offset_after_header(bytes: &[u8]) -> usize
     requires { IsUtf8 bytes.now }
     ensures within { result ≤ length bytes.now }
     ensures text { IsUtf8 (drop result bytes.now) }
@@ -47,7 +47,7 @@ pub(crate) fn behind_header(bytes: &[u8]) -> usize
     line_at(bytes, start).next
 }
 
-// The cell of the value of this kind that a field spells.
+// The cell of a field's value. The result is None if the field spells no value of this kind.
 fn cell_of_span(
     pool: &mut Pool,
     kind: Kind,
@@ -70,7 +70,7 @@ fn cell_of_span(
     }
 }
 
-// The cell of the value of this kind that the field at index `place` spells. Past the last field, it is the cell that an empty field spells.
+// The cell of the field at index `place`, as in `cell_of_span`. Past the last field an empty field is taken.
 fn cell_at(
     pool: &mut Pool,
     kind: Kind,
@@ -126,7 +126,7 @@ fn read_values(
     Ok(())
 }
 
-// Puts the cells of the row of the record that begins at `start` into `cells`, and returns the byte offset behind the record.
+// Reads the record that begins at `start`. Puts its cells into `cells`, one for each column, and returns the byte offset after the record.
 fn read_record_at(
     columns: &[Column],
     places: &[usize],

@@ -5,7 +5,7 @@ ghost use Rattle.limits.specs.Profile.{most_rows};
 ghost use Rattle.csv.specs.Records.{fields_of, AllText};
 ghost use Rattle.csv_tables.specs.Cells.{value_of_cell, IsCell};
 ghost use Rattle.csv_tables.specs.Pools.{PoolBeginsWith};
-ghost use Rattle.csv_tables.specs.Records.{remaining, IsReading};
+ghost use Rattle.csv_tables.specs.Records.{unread_records, IsReading};
 ghost use Rattle.csv_tables.specs.Refused.{IsRefusalOrNoMemory};
 ghost use Rattle.csv_tables.specs.Rows.{row_of_record, rows_of_records, values_of_record};
 ghost use Rattle.csv_tables.specs.Values.{value_of_field};
@@ -29,7 +29,7 @@ fn is_short(text: &str, most: u32) -> bool
     text.chars().count() <= most as usize
 }
 
-// The cell of a text. It answers None if the text has more than `most` characters.
+// The cell of a text. The result is None if the text has more than `most` characters.
 fn cell_of_text(pool: &mut Pool, most: u32, field: &[u8]) -> Result<Option<u64>, NoMemory>
     requires text { IsUtf8 field.now }
     requires room { length pool.old < 4294967295 }
@@ -46,7 +46,7 @@ fn cell_of_text(pool: &mut Pool, most: u32, field: &[u8]) -> Result<Option<u64>,
     Ok(Some(pool.intern(text)? as u64))
 }
 
-/// The cell of the value of this kind that a field spells. It answers None if the field spells no value of this kind.
+/// The cell of a field's value. The result is None if the field spells no value of this kind.
 pub(crate) fn cell_of_field(
     pool: &mut Pool,
     kind: Kind,
@@ -68,7 +68,7 @@ pub(crate) fn cell_of_field(
     }
 }
 
-// The field at a place of a record. It is empty if the record has no such place.
+// The field at a place of a record. It is empty if the record has fewer fields.
 fn field_of(row: &ByteRecord, place: usize) -> &[u8]
     requires { AllText (fields_of row.now) }
     ensures field { result.now ≡ slice_index_or (fields_of row.now) place [] }
@@ -186,10 +186,10 @@ pub(crate) fn read_rows(
     requires columns { length columns.now ≤ 64 }
     requires room { length pool.old ≤ 4000000000 }
     ensures ok { IfOk result
-        (λ found. HoldsColumns (rows_of_records columns.now places.now width 1 (remaining reader.old)) pool.new
+        (λ found. HoldsColumns (rows_of_records columns.now places.now width 1 (unread_records reader.old)) pool.new
         (kinds_of columns.now) found.0.items found.1) }
     ensures limit { IfOk result (λ found. found.1 ≤ most_rows) }
-    ensures refused { IfErr result (IsRefusalOrNoMemory (rows_of_records columns.now places.now width 1 (remaining reader.old))) }
+    ensures refused { IfErr result (IsRefusalOrNoMemory (rows_of_records columns.now places.now width 1 (unread_records reader.old))) }
     ensures begins { PoolBeginsWith pool.old pool.new }
     ensures few { length pool.new ≤ length pool.old + 256000000 }
 {

@@ -16,7 +16,7 @@ ghost use Rattle.csv_tables.specs.Refused.{IsRefusalOrNoMemory};
 
 use crate::header::places_of;
 use crate::keys::check_keys;
-use crate::plain::{behind_header, read_plain_rows};
+use crate::plain::{offset_after_header, read_plain_rows};
 use crate::pool::Pool;
 use crate::records::{next_record, open_records};
 use crate::rows::read_rows;
@@ -58,8 +58,8 @@ fn kinds(alloc: Global, columns: &[Column]) -> Result<Seq<Kind>, NoMemory>
 // Files whose header has more fields are read by the crate `csv`, so that little memory is reserved for a hostile header.
 const MOST_FIELDS: usize = 4096;
 
-// For how many rows the columns of a file need room. It is `None` if the file has a quotation mark, or its header too many fields. A row takes at
-// least one byte for each field of the header.
+// The number of rows for which columns reserve room. It is `None` if the file has a quotation mark, or if its header has too many fields. A row takes
+// at least one byte for each field of the header.
 fn room_of(bytes: &[u8], width: usize) -> Option<usize>
     ensures { IfSome result (λ _. has_quote bytes.now ≡ false) }
 {
@@ -100,7 +100,7 @@ fn read_columns(
     let width = row.len();
     let places = places_of(alloc, columns, &row)?;
     if let Some(room) = room_of(bytes, width) {
-        let start = behind_header(bytes);
+        let start = offset_after_header(bytes);
         return read_plain_rows(alloc, bytes, start, columns, &places, width, room, pool);
     }
     read_rows(alloc, &mut reader, &mut row, columns, &places, width, pool)
@@ -109,7 +109,7 @@ fn read_columns(
 /// Reads the cells of a table from its file of at most 64 MiB. The crate `csv` says which records the file has,
 /// close to RFC 4180. The texts of the file are put into the pool.
 ///
-/// Whatever it answers, the pool still begins with its old texts, in their places.
+/// Whatever the result is, the pool still begins with its old texts, in their places.
 pub fn read_table(
     alloc: Global,
     table: &Table,
@@ -120,7 +120,7 @@ pub fn read_table(
     requires few { length bytes.now ≤ most_file }
     requires room { length pool.old ≤ 4000000000 }
 
-    // The rows of the cells are the rows of the file. An error is the file's refusal, or says that memory was too little.
+    // The rows of the cells are the rows of the file. An error is the file's refusal, or NoMemory.
     ensures rows { IfOk result (λ cells. rows_of_file table.now bytes.now ≡ Ok (rows_of_cells pool.new cells)) }
     ensures cells { IfOk result (AreCellsOf table.now pool.new) }
     ensures refused { IfErr result (IsRefusalOrNoMemory (rows_of_file table.now bytes.now)) }

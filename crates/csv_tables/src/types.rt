@@ -7,8 +7,8 @@ use base_io::{NoMemory, Seq};
 use schema_types::Kind;
 use std::alloc::AllocFailed;
 
-/// A table's cells, column by column, each column with one cell for each of `rows` records. A cell
-/// of a number is its 64 bits in two's complement, a cell of a text is its number in the pool.
+/// A table's cells, column by column, each column with one cell for each of `rows` records. A cell of a number is its 64 bits in two's complement. A
+/// cell of a text is its number in the pool.
 #[derive(Debug, Drop)]
 pub struct Cells {
     pub kinds: Seq<Kind>,

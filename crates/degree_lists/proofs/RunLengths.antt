@@ -7,7 +7,7 @@ use Rattle.std.proofs.lemmas.Bool.{ne_eqb, cases_lt}
 use Rattle.degree_sequences.specs.Degrees.{degree, different}
 use Rattle.degree_lists.proofs.OneMoreKey.{run_added}
 
--- `lengths` has the lengths of all runs among the first `i - run` keys; the next `run` keys are equal to the key at index i
+-- `lengths` has the lengths of all runs among the first `i - run` keys. The next `run` keys are equal to the key at index i
 pub record AreLengths (sorted lengths : List ℕ) (run i : ℕ) : Type 0 where
   pub within : run ≤ i
   pub more : 0 < run → i < length sorted

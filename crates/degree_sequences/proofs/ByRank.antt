@@ -1,4 +1,5 @@
--- Laws of the rank-wise product, sum and maximum: what their elements are, that these are in descending order, and that products are monotone.
+-- Laws of the rank-wise product, sum and maximum. They say what the elements are, that the result is in descending order, and that products are
+-- monotone.
 use Rattle.std.proofs.Common.{List, [], arith, get_or, length, max, refl, suc, sum, sym, zero, ℕ, ◌*◌, ◌+◌, ◌∷◌, ◌≡◌, ◌≤◌}
 use Rattle.std.proofs.Math.Nat.{mul-le-mul, mul-zero, mul_comm, zero-mul}
 use Rattle.std.specs.List.{AllByRecursion, AllZip}

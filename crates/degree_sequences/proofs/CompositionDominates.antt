@@ -60,7 +60,7 @@ child_dominates n c k d A apart =
     let m : ℕ = length B in
     let short : m ≤ length A = omega (arith, length-filter (λ i. ltb i n) A, count_by-le-length (λ i. ltb i n) A) in
     let law : DominatesWeights (rank_product (cut_with_zeros c.column m) c.class) (λ a. degree K a * k.weight a) =
-    rank_product_dominates (cut_with_zeros c.column m) c.class (degree K) k.weight d.class_falls (keys_of_rows_dominated c.column k.keys d.column B apart_B below) d.class in
+    rank_product_dominates (cut_with_zeros c.column m) c.class (degree K) k.weight d.class_is_descending (keys_of_rows_dominated c.column k.keys d.column B apart_B below) d.class in
     omega (
       arith,
       sum_by-filter (λ i. ltb i n) (λ i. k.weight (key i)) A,
@@ -89,7 +89,7 @@ rows_dominated total n fits (c ∷ cs) (k ∷ ks) all A apart =
     omega (
       arith,
       sum_by-same (λ i. cond (ltb i n) (k.weight (get_or k.keys i 0) * weight_of_row ks i) 0) (λ i. v i * w i) both A,
-      rank_product_dominates (spreads cs total) (spread c.column c.class) v w (IsDescending-spread c.column c.class all.0.class_falls)
+      rank_product_dominates (spreads cs total) (spread c.column c.class) v w (IsDescending-spread c.column c.class all.0.class_is_descending)
           (rows_dominated total n fits cs ks all.1) (child_dominates n c k all.0) A apart,
     )
   where

@@ -67,8 +67,8 @@ digits_suffice k pos (suc d) =
     regroup a x y = ap (λ z. z * (x * y)) (mul_comm a 2) ∙ mul_assoc 2 a (x * y) ∙ ap (λ z. 2 * z) (sym (mul_assoc a x y) ∙ ap (λ z. z * y) (mul_comm a x) ∙ mul_assoc x a y) ∙ sym (mul_assoc 2 x (a * y))
 
 -- a head h has room for d further heads if h * k^d is below (k + 1)^d. Each new head has room for one head fewer
-pub spends : (k v h d : ℕ) → (k + 1) * v < k * h → h * k ^ suc d < (k + 1) ^ suc d → v * k ^ d < (k + 1) ^ d
-spends k v h d less room = elim (cases_lt (v * k ^ d) ((k + 1) ^ d)) [
+pub one_head_fewer : (k v h d : ℕ) → (k + 1) * v < k * h → h * k ^ suc d < (k + 1) ^ suc d → v * k ^ d < (k + 1) ^ d
+one_head_fewer k v h d less room = elim (cases_lt (v * k ^ d) ((k + 1) ^ d)) [
   | inl enough ↦ enough
   | inr over ↦ absurd (
       let x : ℕ = k ^ d in
@@ -125,7 +125,7 @@ few_from k kpos f pos (suc n) m d h = elim (cases_lt m (sum f)) [
           | inr far ↦ omega (
             arith,
             runs-any (slope k f m) (slope k f (m + slope k f m)) (compressed_from k f n (m + slope k f m)),
-            ih d (spends k (slope k f (m + slope k f m)) (slope k f m) d far h),
+            ih d (one_head_fewer k (slope k f (m + slope k f m)) (slope k f m) d far h),
           )
         ])
 

@@ -115,11 +115,11 @@ rank_product_dominates s t v w fall dom_v dom_w A apart =
     let W : ℕ → ℕ = λ r. get_or (map w B) r 0 in
     let at_s : ℕ → ℕ = λ r. get_or s r 0 in
     let at_t : ℕ → ℕ = λ r. get_or t r 0 in
-    let class_falls : IsDescending (map v B) = rw (map-by_weight v A) (IsDescending-sorted_descending (map v A)) in
+    let class_is_descending : IsDescending (map v B) = rw (map-by_weight v A) (IsDescending-sorted_descending (map v A)) in
     let whole : sum_by (λ a. v a * w a) A ≡ sum_below (λ r. V r * W r) n =
     sym (sum_by-by_weight v (λ a. v a * w a) A) ∙ sum_by-product v w B ∙ ap (sum_below (λ r. V r * W r)) (length-by_weight v A) in
     let one : sum_below (λ r. V r * W r) n ≤ V 0 * 0 + sum_below (λ r. V r * at_t r) n =
-    sum_below-mul-le n V W at_t 0 class_falls (λ r h. omega (arith, sum_below-list (map w B) r, sum_below-list t r, first-le t w dom_w B apart_B r)) in
+    sum_below-mul-le n V W at_t 0 class_is_descending (λ r h. omega (arith, sum_below-list (map w B) r, sum_below-list t r, first-le t w dom_w B apart_B r)) in
     let turn : sum_below (λ r. V r * at_t r) n ≡ sum_below (λ r. at_t r * V r) n = sum_below-same (λ r. V r * at_t r) (λ r. at_t r * V r) n (λ r h. mul_comm (V r) (at_t r)) in
     let two : sum_below (λ r. at_t r * V r) n ≤ at_t 0 * 0 + sum_below (λ r. at_t r * at_s r) n =
     sum_below-mul-le n at_t V at_s 0 fall (λ r h. omega (arith, sum_below-list (map v B) r, sum_below-list s r, first-le s v dom_v B apart_B r)) in

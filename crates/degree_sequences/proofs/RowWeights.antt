@@ -15,7 +15,7 @@ use Rattle.degree_sequences.specs.ComparedChildren.{ChildIsAbove, ColumnIsDescen
 use Rattle.degree_sequences.specs.Rank.{rank}
 use Rattle.degree_sequences.specs.RunningSums.{HasHigherSums, running_sum}
 
--- for each child, its class list is spread over its column: element r is repeated as often as element r of the column says
+-- the class list of each child, spread over its column: element r is repeated as often as element r of the column says
 abbrev pub spreads : List ChildLists → ℕ → List ℕ
 spreads [] n = replicate n 1
 spreads (c ∷ cs) n = rank_product (spreads cs n) (spread c.column c.class)
@@ -25,7 +25,7 @@ IsDescending-ones n = IsDescending-from_sums (replicate n 1) (λ r. omega (arith
 
 pub IsDescending-spreads : (total n : ℕ) (cs : List ChildLists) → AllByRecursion (IsChildOf total) cs → IsDescending (spreads cs n)
 IsDescending-spreads total n [] all = IsDescending-ones n
-IsDescending-spreads total n (c ∷ cs) all = IsDescending-rank_product (spreads cs n) (spread c.column c.class) (IsDescending-spreads total n cs all.1) (IsDescending-spread c.column c.class all.0.class_falls)
+IsDescending-spreads total n (c ∷ cs) all = IsDescending-rank_product (spreads cs n) (spread c.column c.class) (IsDescending-spreads total n cs all.1) (IsDescending-spread c.column c.class all.0.class_is_descending)
 
 pub get_or-row_weights : (cs : List ChildLists) (total k : ℕ) → k < total → get_or (row_weights cs total) k 0 ≡ weight_by_rank cs (suc k)
 get_or-row_weights cs total k h =
@@ -73,9 +73,9 @@ spreads-above total total' h [] (d ∷ ds) ok ok' fall all = absurd all
 spreads-above total total' h (c ∷ cs) [] ok ok' fall all = absurd all
 spreads-above total total' h (c ∷ cs) (d ∷ ds) ok ok' fall all =
     rank_product-above (spreads cs total) (spread c.column c.class) (spreads ds total') (spread d.column d.class)
-    (IsDescending-spread c.column c.class ok.0.class_falls) (IsDescending-spreads total' total' ds ok'.1)
+    (IsDescending-spread c.column c.class ok.0.class_is_descending) (IsDescending-spreads total' total' ds ok'.1)
     (spreads-above total total' h cs ds ok.1 ok'.1 fall.1 all.1)
-    (spread-above c.column c.class d.column d.class ok.0.class_falls fall.0 all.0.column all.0.class)
+    (spread-above c.column c.class d.column d.class ok.0.class_is_descending fall.0 all.0.column all.0.class)
 
 pub composed-above : (g h : List ℕ) (cs ds : List ChildLists) → AllByRecursion (IsChildOf (sum g)) cs → AllByRecursion (IsChildOf (sum h)) ds
     → AllByRecursion ColumnIsDescending ds → HasHigherSums g h → AllZip ChildIsAbove cs ds → HasHigherSums (composed g cs) (composed h ds)

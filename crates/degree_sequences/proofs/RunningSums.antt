@@ -1,4 +1,4 @@
--- These are laws of running sums: how they grow, and what they are for trimmed lists, for the rest of a list and for block sums.
+-- Laws of running sums: how they grow, and the running sums of trimmed lists, of the rest of a list and of block sums.
 use Rattle.std.proofs.Common.{List, [], ap, arith, drop, get_or, length, min, refl, replicate, suc, sum, sym, zero, zero-add, ℕ, ◌+◌, ◌<◌, ◌∙◌, ◌∷◌, ◌≡◌, ◌≤◌}
 use Rattle.std.proofs.Math.Nat.{suc-add}
 use Rattle.std.proofs.lemmas.List.Sums.{sum_by-cons}

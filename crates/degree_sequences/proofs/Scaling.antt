@@ -1,4 +1,4 @@
--- If lists are near other lists (`SumsAreWithin`), their composition is near the composition of the other lists.
+-- If children's lists are near the exact lists (`SumsAreWithin`), their composition is near the exact composition.
 use Rattle.std.proofs.Common.{List, [], ap, arith, get_or, length, map, min, refl, replicate, suc, sum, sym, zero, ℕ, ◌*◌, ◌++◌, ◌+◌, ◌-◌, ◌∙◌, ◌∷◌, ◌≡◌, ◌≤◌}
 use Rattle.std.proofs.Math.Nat.{mul-add, mul-le-mul_left, mul-suc, mul-zero, mul_assoc, mul_comm}
 use Rattle.std.proofs.lemmas.List.{append-nil}
@@ -51,7 +51,7 @@ rank_product-near b c d e s t s' t' ft fs' near_s near_t r =
       running_sum-scale (b * d) (rank_product s' t') r,
     )
 
--- each element repeated c times. By this, lists that are spread over different numbers of rows can be compared
+-- each element repeated c times. This makes lists comparable that are spread over different numbers of rows
 abbrev pub stretched : ℕ → List ℕ → List ℕ
 stretched c [] = []
 stretched c (x ∷ u) = replicate c x ++ stretched c u
@@ -148,10 +148,10 @@ spreads-near a n k h (m ∷ ms) near ok ok' fall r =
     let t : List ℕ = spread m.exact.column m.exact.class in
     let both : (scales ms * m.scale) * running_sum (rank_product (stretched a s') (stretched a t')) r ≤ (factors ms * m.factor) * running_sum (rank_product (stretched (a + 1) s) (stretched (a + 1) t)) r =
     rank_product-near (scales ms) (factors ms) m.scale m.factor (stretched (a + 1) s) (stretched (a + 1) t) (stretched a s') (stretched a t')
-    (IsDescending-stretched (a + 1) t (IsDescending-spread m.exact.column m.exact.class ok'.0.class_falls))
+    (IsDescending-stretched (a + 1) t (IsDescending-spread m.exact.column m.exact.class ok'.0.class_is_descending))
     (IsDescending-stretched a s' (IsDescending-spreads n n (nears ms) ok.1))
     (spreads-near a n k h ms near.1 ok.1 ok'.1 fall.1)
-    (spread-near a (a + 1) m.scale m.factor m.near.column m.near.class m.exact.column m.exact.class ok'.0.class_falls fall.0 near.0.column near.0.class) r in
+    (spread-near a (a + 1) m.scale m.factor m.near.column m.near.class m.exact.column m.exact.class ok'.0.class_is_descending fall.0 near.0.column near.0.class) r in
     rw (mul_comm m.scale (scales ms), mul_comm m.factor (factors ms), sym (rank_product-stretched a s' t'), sym (rank_product-stretched (a + 1) s t)) both
 
 pub composed-near : (a : ℕ) (g f : List ℕ) (ms : List MatchedChild) → SumsAreWithin a (a + 1) g f → AllByRecursion (IsNear a) ms

@@ -1,4 +1,4 @@
--- A list is cut at a sum (`cut_with_zeros`), and the elements of a list are spread over rows (`spread`). The lemmas are about the running sums of both.
+-- Running sums of a list that is cut at a sum (`cut_with_zeros`), and of a list whose elements are spread over rows (`spread`).
 use Rattle.std.proofs.Common.{List, [], ap, arith, false, get_or, inl, inr, leb, length, length-append, max, min, refl, replicate, suc, sum, sym, true, zero, ℕ, ◌*◌, ◌++◌, ◌+◌, ◌-◌, ◌<◌, ◌∙◌, ◌∷◌, ◌≡◌, ◌≤◌}
 use Rattle.std.proofs.Math.Nat.{suc-mul, zero-mul}
 use Rattle.std.proofs.lemmas.Bool.{cases_lt, le-leb, lt-leb}

@@ -22,7 +22,8 @@ sum_below-list s zero = refl
 sum_below-list [] (suc n) = rw zero-add (sum_below-zero n)
 sum_below-list (x ∷ s) (suc n) = ap (λ k. x + k) (sum_below-list s n)
 
--- summation by parts: if sums of b are at most sums of c (plus d), this stays true when both are weighted by a non-increasing function
+-- Summation by parts. Suppose that the sums of b are at most the sums of c, plus d. Then this stays true if b and c are weighted by a
+-- non-increasing function
 pub sum_below-mul-le : (n : ℕ) (a b c : ℕ → ℕ) (d : ℕ) → ((r : ℕ) → a (suc r) ≤ a r) → ((r : ℕ) → r ≤ n → sum_below b r ≤ d + sum_below c r)
     → sum_below (λ r. a r * b r) n ≤ a 0 * d + sum_below (λ r. a r * c r) n
 sum_below-mul-le zero a b c d fall le = omega arith

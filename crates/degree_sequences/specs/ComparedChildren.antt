@@ -7,14 +7,14 @@ use Rattle.degree_sequences.specs.Composition.{ChildLists}
 
 -- a child of a table with `total` rows: its class list is in descending order, and its column sums to `total`
 pub record IsChildOf (total : ℕ) (child : ChildLists) : Type 0 where
-  pub class_falls : IsDescending child.class
+  pub class_is_descending : IsDescending child.class
   pub column_sum : sum child.column ≡ total
 
 -- the column of a child is in descending order
 abbrev pub ColumnIsDescending : ChildLists → Type 0
 ColumnIsDescending child = IsDescending child.column
 
--- each of the child's two lists is above (`HasHigherSums`) the same list of the other child
+-- each of the child's two lists has running sums at least as high as the same list of the other child (`HasHigherSums`)
 pub record ChildIsAbove (child other : ChildLists) : Type 0 where
   pub column : HasHigherSums child.column other.column
   pub class : HasHigherSums child.class other.class
@@ -30,7 +30,7 @@ pub record MatchedChild : Type 0 where
   pub scale : ℕ
   pub factor : ℕ
 
--- a child is near its exact child: the columns as the accuracy says, the class lists as the child's own two numbers say
+-- a child is near its exact child. The accuracy says how near the columns are; the child's `scale` and `factor` say how near the class lists are
 pub record IsNear (accuracy : ℕ) (child : MatchedChild) : Type 0 where
   pub column : SumsAreWithin accuracy (accuracy + 1) child.near.column child.exact.column
   pub class : SumsAreWithin child.scale child.factor child.near.class child.exact.class

@@ -10,7 +10,7 @@ pub record ChildLists : Type 0 where
   pub column : List ℕ
   pub class : List ℕ
 
--- the weight of row t (counted from 1): the product, over the children, of the child's class weight at the row's rank in its column
+-- the weight of row t, counted from 1. It is a product over the children: each child gives its class weight at the row's rank in its column
 abbrev pub weight_by_rank : List ChildLists → ℕ → ℕ
 weight_by_rank [] t = 1
 weight_by_rank (child ∷ children) t = slice_index child.class (rank child.column t - 1) * weight_by_rank children t
@@ -24,7 +24,7 @@ abbrev pub block_sums : List ℕ → List ℕ → List ℕ
 block_sums [] weights = []
 block_sums (count ∷ g) weights = running_sum weights count ∷ block_sums g (drop count weights)
 
--- the composition: element r is the sum of the weights of the rows of rank r in the parent column. Zeros at the end are dropped
+-- The composition. Element r sums the weights of the rows that have rank r in the parent column. Zeros at the end are dropped
 abbrev pub composed : List ℕ → List ChildLists → List ℕ
 composed parent children = trimmed (block_sums parent (row_weights children (sum parent)))
 

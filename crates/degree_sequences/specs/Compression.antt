@@ -1,6 +1,6 @@
 -- Compression by heads: a list of few runs that stays near a list in descending order and has the same sum.
--- At accuracy K it exceeds the list by at most one K-th at each rank. A head is used for all elements that follow it, up to
--- the first one below K / (K + 1) of it: this element is the next head.
+-- At accuracy K it exceeds the list by at most one K-th at each rank. Heads are some of the list's elements, the first one among them. The next
+-- head is the first element below K / (K + 1) times the head before it.
 use Rattle.std.specs.Prelude.{ℕ, zero, suc, ◌+◌, ◌-◌, ◌*◌, min, nat_lt, if◌then◌else◌, List, [], ◌∷◌, length, slice_index}
 use Rattle.std.specs.List.{sum}
 use Rattle.degree_sequences.specs.Rank.{rank}
@@ -9,7 +9,7 @@ use Rattle.degree_sequences.specs.Rank.{rank}
 abbrev pub next_head : ℕ → ℕ → ℕ → ℕ
 next_head accuracy head x = if nat_lt ((accuracy + 1) * x) (accuracy * head) then x else head
 
--- the head that is used for each element
+-- for each element the head at or before it
 abbrev pub heads_from : ℕ → ℕ → List ℕ → List ℕ
 heads_from accuracy head [] = []
 heads_from accuracy head (x ∷ s) = next_head accuracy head x ∷ heads_from accuracy (next_head accuracy head x) s
@@ -22,7 +22,7 @@ heads accuracy f = heads_from accuracy (slice_index f 0) f
 abbrev pub slope : ℕ → List ℕ → ℕ → ℕ
 slope accuracy f m = slice_index (heads accuracy f) (rank f (suc m) - 1)
 
--- up to `count` further elements, after elements whose sum is m: each is the slope at the sum so far, or the rest of f's sum if the rest is less
+-- up to `count` further elements, after elements whose sum is m. Each is the slope at the sum so far, or the rest of f's sum if the rest is less
 abbrev pub compressed_from : ℕ → List ℕ → ℕ → ℕ → List ℕ
 compressed_from accuracy f zero m = []
 compressed_from accuracy f (suc count) m =

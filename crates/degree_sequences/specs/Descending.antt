@@ -1,4 +1,4 @@
--- Natural numbers in descending order; neighbours may be equal. Ranks count from 1, and past its end a list is 0.
+-- Natural numbers in descending order; neighbours may be equal. Ranks count from 1. Past the end of a list an element counts as 0.
 use Rattle.std.specs.Prelude.{ℕ, zero, suc, ◌≤◌, List, [], ◌∷◌, slice_index}
 
 -- each element is at most the element before it

@@ -10,11 +10,11 @@ pub record ChildKeys : Type 0 where
   pub keys : List ℕ
   pub weight : ℕ → ℕ
 
--- the lists of a child dominate its keys and their class weights; its class list is in descending order, and each row has a key
+-- The lists of a child dominate its keys and their class weights. Its class list is in descending order, and each row has a key
 pub record DominatesChild (rows : ℕ) (lists : ChildLists) (child : ChildKeys) : Type 0 where
   pub column : DominatesKeys lists.column child.keys
   pub class : DominatesWeights lists.class child.weight
-  pub class_falls : IsDescending lists.class
+  pub class_is_descending : IsDescending lists.class
   pub key_per_row : length child.keys ≡ rows
 
 -- the weight of row i, counted from 0: the product over the children of the class weights of the row's keys

@@ -13,7 +13,7 @@ running_sum (x ∷ s) (suc r) = x + running_sum s r
 abbrev pub HasHigherSums : List ℕ → List ℕ → Type 0
 HasHigherSums s t = (r : ℕ) → running_sum t r ≤ running_sum s r
 
--- the list of n elements whose running sums are `sums 1`, `sums 2` and so on, if `sums 0` is 0 and `sums` never decreases
+-- The list of n elements whose running sums are `sums 1`, `sums 2` and so on. This needs that `sums 0` is 0 and `sums` never decreases
 abbrev pub with_running_sums : (ℕ → ℕ) → ℕ → List ℕ
 with_running_sums sums n = map (λ r. sums (suc r) - sums r) (range_with_len 0 n)
 

@@ -28,7 +28,7 @@ pub fn degree_lists()
     ensures from_weights { (s keys : List ℕ) → DominatesWeights s (degree keys) → DominatesKeys s keys }
 {}
 
-/// The rank of row t is the least rank whose running sum is at least t, if the list's sum is at least t.
+/// If the list's sum is at least t, the rank of row t is the least rank whose running sum is at least t.
 pub fn ranks()
     ensures reaches { (s : List ℕ) (t : ℕ) → t ≤ sum s → t ≤ running_sum s (rank s t) }
     ensures least { (s : List ℕ) (t r : ℕ) → 0 < t → r < rank s t → running_sum s r < t }
@@ -50,8 +50,8 @@ pub fn operations()
     ensures maximum_falls { (s t : List ℕ) → IsDescending s → IsDescending t → IsDescending (rank_maximum s t) }
 {}
 
-/// A compressed list has the same sum as its list, running sums that are no lower, elements that are at most a little
-/// higher, and few runs. Compression by heads and its accuracy are this project's own.
+/// A compressed list has the same sum as its list, and running sums that are no lower. Its elements are at most a little
+/// higher, and it has few runs. Compression by heads and its accuracy are this project's own.
 pub fn compressions()
     // each element is the slope at the sum of the elements before it, or the rest of f's sum if the rest is less
     ensures element { (accuracy : ℕ) (f : List ℕ) (r : ℕ) → r < length (compressed accuracy f)

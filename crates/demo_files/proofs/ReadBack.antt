@@ -13,13 +13,13 @@ use Rattle.csv.proofs.ReadFacts.{run-copies}
 use Rattle.demo_files.specs.Files.{file_text, record_text}
 
 -- each byte is 48 or more, so it is no comma, quote, CR or LF: it ends no field and no record
-abbrev pub AreLater : List ℕ → Type 0
-AreLater [] = Unit {0}
-AreLater (b ∷ bs) = (48 ≤ b) × AreLater bs
+abbrev pub AreAtLeast48 : List ℕ → Type 0
+AreAtLeast48 [] = Unit {0}
+AreAtLeast48 (b ∷ bs) = (48 ≤ b) × AreAtLeast48 bs
 
 abbrev pub IsField : List ℕ → Type 0
 IsField [] = ⊥
-IsField (b ∷ bs) = (48 ≤ b) × AreLater bs
+IsField (b ∷ bs) = (48 ≤ b) × AreAtLeast48 bs
 
 abbrev pub AreFields : List (List ℕ) → Type 0
 AreFields [] = Unit {0}
@@ -59,7 +59,7 @@ at_record b h =
     let quote : (b == 34) ≡ false = grind (arith, h) in
     rw (comma, cr, lf, quote) refl
 
-runs : (bs : List ℕ) → AreLater bs → Runs default_config st.InField bs
+runs : (bs : List ℕ) → AreAtLeast48 bs → Runs default_config st.InField bs
 unfolding Runs
 runs [] h = tt
 runs (b ∷ bs) h = (in_field b h.0, runs bs h.1)

@@ -1,4 +1,4 @@
--- One more record of a table appends the record's text to the text of the table's file.
+-- Adding a record to a table appends the record's text to the text of the table's file.
 use Rattle.std.proofs.Common.{◌≡◌, ℕ, ◌+◌, List, [], ◌∷◌, ◌++◌, map, decimal, sym, ap, ◌∙◌, append-nil, arith}
 use Rattle.std.specs.List.{flat_map, range_with_len}
 use Rattle.std.proofs.lemmas.Grind.{flat_map-append}

@@ -1,4 +1,4 @@
--- The fields of the records are names and numerals. A file has them as they are, without quotes, so it is read back as its records.
+-- The fields of the records are names and numerals, which need no quotes. So reading a file gives its records back.
 use Rattle.std.proofs.Common.{◌≡◌, inl, inr, ℕ, suc, zero, ◌+◌, ◌*◌, ◌%◌, ◌^◌, ◌<◌, List, [], ◌∷◌, length, map, decimal, refl, sym, subst, arith, rules}
 use Rattle.std.specs.Prelude.{◌==◌}
 use Rattle.std.specs.Fmt.{digits}
@@ -10,16 +10,16 @@ use Rattle.csv.specs.Reading.{default_config, records, strip_bom}
 use Rattle.demo_files.specs.Files.{customer_records, file_text, item_records, order_records, product_records, record_text, table_records}
 use Rattle.demo_files.specs.Shop.{customer, customers, customer_columns, item, items, item_columns, product_of_item}
 use Rattle.demo_files.specs.Shop.{order, orders, order_columns, product, products, product_columns}
-use Rattle.demo_files.proofs.ReadBack.{AreLater, AreRecords, IsField, IsRecord, read_back}
+use Rattle.demo_files.proofs.ReadBack.{AreAtLeast48, AreRecords, IsField, IsRecord, read_back}
 
 abbrev IsReadBack : List (List (List ℕ)) → Type 0
 IsReadBack rs = records default_config (strip_bom (file_text rs)) ≡ rs
 
-from_zero : (ds : List ℕ) → AreLater (map (λ d. 48 + d) ds)
+from_zero : (ds : List ℕ) → AreAtLeast48 (map (λ d. 48 + d) ds)
 from_zero [] = tt
 from_zero (d ∷ ds) = (omega arith, from_zero ds)
 
-filled : (x : List ℕ) → 0 < length x → AreLater x → IsField x
+filled : (x : List ℕ) → 0 < length x → AreAtLeast48 x → IsField x
 filled [] some h = absurd (omega (arith, some))
 filled (b ∷ bs) some h = h
 
@@ -31,7 +31,7 @@ numeral : (n : ℕ) → n < 2 ^ 64 → IsField (decimal n)
 numeral zero small = nought
 numeral (suc n) small =
     filled (decimal (suc n)) (decimal_nonempty (suc n) small)
-    (subst AreLater (sym (decimal-digits_of (suc n) (omega arith) small)) (from_zero (digits_of 10 (suc n))))
+    (subst AreAtLeast48 (sym (decimal-digits_of (suc n) (omega arith) small)) (from_zero (digits_of 10 (suc n))))
 
 rows : (numbers : ℕ → List ℕ) (a n : ℕ) → ((i : ℕ) → i < a + n → IsRecord (map decimal (numbers i)))
     → AreRecords (map (λ i. map decimal (numbers i)) (range_with_len a n))

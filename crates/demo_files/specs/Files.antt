@@ -30,7 +30,7 @@ record_text fields = join_with_byte 44 fields ++ codes "\r\n"
 unfoldable pub file_text : List (List (List ℕ)) → List ℕ
 file_text records = flat_map record_text records
 
--- the files of the shop with this number, each under its name
+-- the files for this shop number, each with its name
 abbrev pub demo_files : ℕ → Files
 demo_files number =
     (codes "schema.sql", schema_text)

@@ -1,5 +1,4 @@
--- The tables of the shop: their columns, how many records each has, and the numbers of each record, in the order of
--- the columns. Records are counted from 0.
+-- The tables of the shop: columns, number of records, and the numbers in each record. Records are counted from 0.
 use Rattle.std.specs.Prelude.{ℕ, ◌+◌, ◌*◌, ◌/◌, ◌%◌, ◌==◌, if◌then◌else◌, List, [], ◌∷◌, codes}
 
 abbrev pub products : ℕ
@@ -36,7 +35,7 @@ item number i = (3 * i + number) % orders ∷ product_of_item i ∷ []
 abbrev pub order_columns : List (List ℕ)
 order_columns = codes "ID" ∷ codes "CUSTOMER" ∷ codes "DAYNO" ∷ []
 
--- order i is of customer 7 * i + the shop's number, modulo the number of customers; its day is i modulo 100
+-- order i belongs to customer 7 * i + the shop's number, modulo the number of customers. Its day is i modulo 100
 abbrev pub order : ℕ → ℕ → List ℕ
 order number i = i ∷ (7 * i + number) % customers ∷ i % 100 ∷ []
 

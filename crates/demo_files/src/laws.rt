@@ -7,7 +7,7 @@ ghost use Rattle.demo_files.specs.Files.{demo_files, file_text};
 ghost use Rattle.demo_files.specs.Shop.{customer, customer_columns, item, item_columns, order, order_columns, product, product_columns};
 ghost use Rattle.demo_files.specs.Texts.{query_text, schema_text};
 
-/// How the files begin, and their last records, proved by computation.
+/// The first and the last records of the files, proved by computation.
 pub fn examples()
     ensures first_products { file_text (table_records product_columns product 2) ≡ codes "ID,KIND\r\n0,0\r\n1,1\r\n" }
     ensures first_items { file_text (table_records item_columns (item 7) 3) ≡ codes "ORDER_ID,PRODUCT\r\n7,0\r\n10,0\r\n13,1\r\n" }
@@ -17,7 +17,7 @@ pub fn examples()
     ensures last_item { item 7 399999 ≡ 4 ∷ 19999 ∷ [] }
     ensures last_order { order 7 199999 ≡ 199999 ∷ 0 ∷ 99 ∷ [] }
     ensures last_customer { customer 7 49999 ≡ 49999 ∷ 6 ∷ [] }
-    // The two items of a pair.
+    // The two items of pair 10. The first has product 0, one of the ten that sell often. The second has product 10: all products come in turn.
     ensures often { item 7 20 ≡ 67 ∷ 0 ∷ [] }
     ensures in_turn { item 7 21 ≡ 70 ∷ 10 ∷ [] }
     ensures greatest_number { item (2 ^ 32 - 1) 0 ≡ 167295 ∷ 0 ∷ [] }

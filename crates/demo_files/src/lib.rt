@@ -1,9 +1,10 @@
 //! The files of a shop, made in memory, so that a first run needs no files.
 //!
-//! In: a number, which shifts who ordered what. Out: a store with a schema, a query and the files of four tables. No read of this store fails.
+//! `demo_store` takes a number, which shifts each order's customer, each item's order and each customer's region.
+//! It returns a store with a schema, a query and the files of four tables. No read of this store fails.
 //!
-//! Callers cite `demo_files` (in `specs/Files.antt`), the files by their names. `specs/Shop.antt` says which records
-//! the tables have. The law `files_are_read_back` says that a reader of CSV finds exactly these records in the files.
+//! Contracts use `demo_files` (in `specs/Files.antt`), the files with their names. `specs/Shop.antt` defines the records of the tables. The law
+//! `files_are_read_back` says that reading the files as CSV gives exactly these records.
 //!
 //! ```text
 //! let store = demo_store(alloc, 7)?;

@@ -18,8 +18,7 @@ fn add_file(
     files.push((Name::from_str(alloc, name)?, bytes))
 }
 
-/// The shop with this number: `schema.sql`, `query.sql`, and the files of its four tables, about 8
-/// MB in all. No read of these files fails.
+/// The files for this shop number: `schema.sql`, `query.sql`, and the files of the four tables, about 8 MB in all. No read of these files fails.
 pub fn demo_store(alloc: Global, number: u32) -> Result<MemStore, NoMemory>
     ensures files { IfOk result (λ store. store.files ≡ demo_files number) }
     ensures fail_at { IfOk result (λ store. store.fail_at ≡ []) }

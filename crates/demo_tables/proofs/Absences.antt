@@ -28,7 +28,7 @@ use Rattle.demo_files.specs.Texts.{query_text, schema_text}
 use Rattle.demo_tables.specs.ShopSchema.{shop_schema}
 use Rattle.demo_tables.proofs.SchemaRead.{schema_read}
 
--- ---- steps one after the other that refuse no file because it is absent (`MissesNothing`)
+-- ---- `MissesNothing` for one step, and for two steps in turn
 
 pub ok_misses : {A : Type 0} (x : A) → MissesNothing (Ok x)
 ok_misses x id e = cc

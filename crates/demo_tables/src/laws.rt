@@ -18,8 +18,7 @@ pub fn the_schema_is_read()
     ensures { schema_answer schema_text ≡ Ok shop_schema }
 {}
 
-/// The files of the schema text and of the query text are there, and so is the file of each table
-/// of a query over the shop's schema.
+/// `demo_files` has the schema file, the query file, and the file of each table that a query over the shop's schema names.
 pub fn no_file_is_absent()
     ensures schema { (number : ℕ) → read file.Schema most_text (codes "schema.sql") (demo_files number) ≡ Ok schema_text }
     ensures query { (number : ℕ) → read file.Query most_text (codes "query.sql") (demo_files number) ≡ Ok query_text }

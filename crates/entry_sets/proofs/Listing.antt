@@ -1,12 +1,12 @@
 -- The list of a set's entries from a given entry on ascends, and it has exactly the entries whose bits are 1.
 use Rattle.std.proofs.Common.{◌≡◌, ℕ, zero, suc, ◌+◌, ◌-◌, ◌^◌, ◌<◌, ◌≤◌, Bool, true, false, eqb, ltb, List, [], ◌∷◌, refl, ap, sym, ◌∙◌, subst, arith, inl, inr}
-use Rattle.std.specs.Prelude.{filter, ◌&&◌, ◌⊎◌, Some}
-use Rattle.std.specs.Iterator.{MakesProgress, item_count}
+use Rattle.std.specs.Prelude.{filter, ◌&&◌, ◌⊎◌}
 use Rattle.std.specs.List.{AllByRecursion, Contains, range_with_len}
 use Rattle.std.specs.List.Sorted.{IsStrictlyIncreasing}
 use Rattle.std.specs.Int.{bit_at}
 use Rattle.std.proofs.lemmas.Bool.{cases_Bool, cases_eq, cases_lt, eq-eqb, eqb-true, lt-ltb, ltb-true, and_parts}
 use Rattle.std.proofs.lemmas.Nat.Bits.{bit_at_above}
+use Rattle.limits.specs.Profile.{greatest_entries}
 use Rattle.entry_sets.specs.Sets.{entries_from, entries_of_set, has_entry}
 
 -- ---- members of lists, ascending lists, and the numbers of a range
@@ -59,13 +59,13 @@ from_increase set first (suc count) = elim (cases_Bool (eqb (bit_at set first) 1
 
 pub set_increases : (set : ℕ) → IsStrictlyIncreasing (entries_of_set set)
 unfolding entries_of_set
-set_increases set = from_increase set 0 16
+set_increases set = from_increase set 0 greatest_entries
 
-pub set_low : (set : ℕ) → AllByRecursion (λ x. x < 16) (entries_of_set set)
+pub set_low : (set : ℕ) → AllByRecursion (λ x. x < greatest_entries) (entries_of_set set)
 unfolding entries_of_set
-set_low set = kept_all (λ y. y < 16) (λ e. eqb (bit_at set e) 1) (range_with_len 0 16) (range_below 0 16 16 (omega arith))
+set_low set = kept_all (λ y. y < greatest_entries) (λ e. eqb (bit_at set e) 1) (range_with_len 0 greatest_entries) (range_below 0 greatest_entries greatest_entries (omega arith))
 
-pub set_from : (set : ℕ) → entries_of_set set ≡ entries_from set 0 16
+pub set_from : (set : ℕ) → entries_of_set set ≡ entries_from set 0 greatest_entries
 unfolding entries_of_set
 set_from set = refl
 
@@ -85,8 +85,8 @@ from_in set first (suc count) x low high bit = elim (cases_eq first x) [
   ]
 ]
 
-pub set_has : (set x : ℕ) → x < 16 → eqb (bit_at set x) 1 ≡ true → Contains (entries_of_set set) x
-set_has set x h bit = subst (λ xs. Contains xs x) (sym (set_from set)) (from_in set 0 16 x (omega arith) (omega arith) bit)
+pub set_has : (set x : ℕ) → x < greatest_entries → eqb (bit_at set x) 1 ≡ true → Contains (entries_of_set set) x
+set_has set x h bit = subst (λ xs. Contains xs x) (sym (set_from set)) (from_in set 0 greatest_entries x (omega arith) (omega arith) bit)
 
 passed : (test : ℕ → Bool) (xs : List ℕ) → AllByRecursion (λ x. test x ≡ true) (filter test xs)
 passed test [] = tt
@@ -95,24 +95,24 @@ passed test (x ∷ xs) = elim (cases_Bool (test x)) [
   | inr n ↦ rw n (passed test xs)
 ]
 
-pub set_bits : (set x : ℕ) → Contains (entries_of_set set) x → (x < 16) × (bit_at set x ≡ 1)
+pub set_bits : (set x : ℕ) → Contains (entries_of_set set) x → (x < greatest_entries) × (bit_at set x ≡ 1)
 set_bits set x k = (
-  each (λ y. y < 16) (entries_of_set set) (set_low set) x k,
-  eqb-true (bit_at set x) 1 (each (λ y. eqb (bit_at set y) 1 ≡ true) (entries_from set 0 16) (passed (λ e. eqb (bit_at set e) 1) (range_with_len 0 16)) x (subst (λ xs. Contains xs x) (set_from set) k)),
+  each (λ y. y < greatest_entries) (entries_of_set set) (set_low set) x k,
+  eqb-true (bit_at set x) 1 (each (λ y. eqb (bit_at set y) 1 ≡ true) (entries_from set 0 greatest_entries) (passed (λ e. eqb (bit_at set e) 1) (range_with_len 0 greatest_entries)) x (subst (λ xs. Contains xs x) (set_from set) k)),
 )
 
-pub set_bits_only : (set x : ℕ) → (x < 16) × (bit_at set x ≡ 1) → Contains (entries_of_set set) x
+pub set_bits_only : (set x : ℕ) → (x < greatest_entries) × (bit_at set x ≡ 1) → Contains (entries_of_set set) x
 set_bits_only set x h = set_has set x h.0 (eq-eqb (bit_at set x) 1 h.1)
 
 -- ---- an entry is in the set exactly if it is in the list of the set's entries
 
-pub has_bit : (set x : ℕ) → has_entry set x ≡ true → (x < 16) × (bit_at set x ≡ 1)
+pub has_bit : (set x : ℕ) → has_entry set x ≡ true → (x < greatest_entries) × (bit_at set x ≡ 1)
 has_bit set x h =
-    let parts : (ltb x 16 ≡ true) × (eqb (bit_at set x) 1 ≡ true) = and_parts (ltb x 16) (eqb (bit_at set x) 1) h in
-    (ltb-true x 16 parts.0, eqb-true (bit_at set x) 1 parts.1)
+    let parts : (ltb x greatest_entries ≡ true) × (eqb (bit_at set x) 1 ≡ true) = and_parts (ltb x greatest_entries) (eqb (bit_at set x) 1) h in
+    (ltb-true x greatest_entries parts.0, eqb-true (bit_at set x) 1 parts.1)
 
-pub bit_has : (set x : ℕ) → (x < 16) × (bit_at set x ≡ 1) → has_entry set x ≡ true
-bit_has set x h = rw (lt-ltb x 16 h.0, eq-eqb (bit_at set x) 1 h.1) refl
+pub bit_has : (set x : ℕ) → (x < greatest_entries) × (bit_at set x ≡ 1) → has_entry set x ≡ true
+bit_has set x h = rw (lt-ltb x greatest_entries h.0, eq-eqb (bit_at set x) 1 h.1) refl
 
 pub set_entries : (set x : ℕ) → Contains (entries_of_set set) x → has_entry set x ≡ true
 set_entries set x k = bit_has set x (set_bits set x k)
@@ -122,35 +122,32 @@ set_entries_only set x h = set_bits_only set x (has_bit set x h)
 
 pub entry_below : (n subset entry : ℕ) → subset < 2 ^ n → has_entry subset entry ≡ true → entry < n
 entry_below n subset entry fits has =
-    let bit : (entry < 16) × (bit_at subset entry ≡ 1) = has_bit subset entry has in
+    let bit : (entry < greatest_entries) × (bit_at subset entry ≡ 1) = has_bit subset entry has in
     elim (cases_lt entry n) [
       | inl below ↦ below
       | inr above ↦ absurd (omega (arith, bit.1, bit_at_above subset n entry fits above))
     ]
 
--- ---- an iterator over the entries
+-- ---- the list from an entry on, with the entry and without it
 
 not_there : (a b : Bool) → a ≡ true → (a && b) ≡ false → b ≡ false
 not_there true b refl_a h = h
 not_there false b is h = absurd (cc)
 
-pub step_to : (set i : ℕ) → i < 16 → has_entry set i ≡ true → entries_from set i (16 - i) ≡ i ∷ entries_from set (i + 1) (16 - (i + 1))
+pub step_to : (set i : ℕ) → i < greatest_entries → has_entry set i ≡ true → entries_from set i (greatest_entries - i) ≡ i ∷ entries_from set (i + 1) (greatest_entries - (i + 1))
 step_to set i low has =
-    let more : 16 - i ≡ suc (16 - (i + 1)) = omega arith in
-    ap (entries_from set i) more ∙ from_next set i (16 - (i + 1)) (and_parts (ltb i 16) (eqb (bit_at set i) 1) has).1
+    let more : greatest_entries - i ≡ suc (greatest_entries - (i + 1)) = omega arith in
+    ap (entries_from set i) more ∙ from_next set i (greatest_entries - (i + 1)) (and_parts (ltb i greatest_entries) (eqb (bit_at set i) 1) has).1
 
-pub step_over : (set i : ℕ) → i < 16 → has_entry set i ≡ false → entries_from set i (16 - i) ≡ entries_from set (i + 1) (16 - (i + 1))
+pub step_over : (set i : ℕ) → i < greatest_entries → has_entry set i ≡ false → entries_from set i (greatest_entries - i) ≡ entries_from set (i + 1) (greatest_entries - (i + 1))
 step_over set i low out =
-    let more : 16 - i ≡ suc (16 - (i + 1)) = omega arith in
-    ap (entries_from set i) more ∙ from_skip set i (16 - (i + 1)) (not_there (ltb i 16) (eqb (bit_at set i) 1) (lt-ltb i 16 low) out)
+    let more : greatest_entries - i ≡ suc (greatest_entries - (i + 1)) = omega arith in
+    ap (entries_from set i) more ∙ from_skip set i (greatest_entries - (i + 1)) (not_there (ltb i greatest_entries) (eqb (bit_at set i) 1) (lt-ltb i greatest_entries low) out)
 
-pub goes_on : (can : List ℕ → Type 0) → ((xs : List ℕ) → can xs) → (xs rest : List ℕ) (i : ℕ) → xs ≡ i ∷ rest → MakesProgress can (item_count (λ (left : List ℕ). left)) xs (Some i) rest
-goes_on can may xs rest i is = rw is (record { on = λ _. (may rest, tt, omega arith); keeps = may rest; rests = λ _. tt })
-
--- ---- for entries below 16, `has_entry` tests the entry's bit
+-- ---- for entries below `greatest_entries`, `has_entry` tests the entry's bit
 
 pub bit_told : (set i : ℕ) → has_entry set i ≡ true → eqb (bit_at set i) 1 ≡ true
-bit_told set i has = (and_parts (ltb i 16) (eqb (bit_at set i) 1) has).1
+bit_told set i has = (and_parts (ltb i greatest_entries) (eqb (bit_at set i) 1) has).1
 
-pub no_bit_told : (set i : ℕ) → i < 16 → has_entry set i ≡ false → eqb (bit_at set i) 1 ≡ false
-no_bit_told set i low out = not_there (ltb i 16) (eqb (bit_at set i) 1) (lt-ltb i 16 low) out
+pub no_bit_told : (set i : ℕ) → i < greatest_entries → has_entry set i ≡ false → eqb (bit_at set i) 1 ≡ false
+no_bit_told set i low out = not_there (ltb i greatest_entries) (eqb (bit_at set i) 1) (lt-ltb i greatest_entries low) out

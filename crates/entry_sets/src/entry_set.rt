@@ -1,11 +1,15 @@
 ghost use Rattle.std.specs.Prelude.{◌≡◌, ◌↔◌, ◌+◌, ◌-◌, ◌^◌, ◌<◌, ◌==◌, ◌&&◌, ◌||◌, ℕ, true, false, not, IsTrue};
 ghost use Rattle.std.specs.Int.{bit_at};
-ghost use Rattle.entry_sets.specs.Sets.{IsWithin, entries_of_set, has_entry};
+ghost use Rattle.limits.specs.Profile.{greatest_entries};
+ghost use Rattle.entry_sets.specs.Sets.{IsSubset, has_entry};
 
-use crate::iter::Entries;
+use limits::GREATEST_ENTRIES;
 use std::marker::Model;
 
-/// A set of at most sixteen FROM entries. Contracts see it as a number: entry x is in the set if bit x is set.
+// A set has a bit for each entry that there may be.
+const ENTRIES: u8 = GREATEST_ENTRIES as u8;
+
+/// A set of FROM entries. Contracts see it as a number: entry x is in the set if bit x is set.
 #[derive(Clone, Copy, Debug, PartialEq, Eq)]
 pub struct EntrySet {
     bits: u16,
@@ -14,6 +18,7 @@ pub struct EntrySet {
 impl Model for EntrySet {
     ghost use Rattle.std.specs.Prelude.{ℕ, ◌^◌, ◌<◌};
     ghost use Rattle.std.specs.Coded.{coded_ℕ};
+    ghost use Rattle.limits.specs.Profile.{greatest_entries};
 
     ghost Value = { ℕ };
 
@@ -21,7 +26,7 @@ impl Model for EntrySet {
 
     ghost view = { λ set. set.bits };
 
-    ghost invariant = { λ set. set.bits < 2 ^ 16 };
+    ghost invariant = { λ set. set.bits < 2 ^ greatest_entries };
 
     ghost inverse = { λ bits. record { bits = bits } };
 }
@@ -51,14 +56,14 @@ impl EntrySet {
     /// Whether the entry is in the set.
     pub fn has(self, entry: u8) -> bool
         ensures value { result ≡ has_entry self entry }
-        ensures bit { entry < 16 → IsTrue result ↔ (bit_at self entry ≡ 1) }
+        ensures bit { entry < greatest_entries → IsTrue result ↔ (bit_at self entry ≡ 1) }
     {
-        entry < 16 && (self.bits >> entry) & 1 == 1
+        entry < ENTRIES && (self.bits >> entry) & 1 == 1
     }
 
     /// The set with the entry added.
     pub fn with(self, entry: u8) -> EntrySet
-        requires { entry < 16 }
+        requires { entry < greatest_entries }
         ensures entries { (other : ℕ) → has_entry result other ≡ (has_entry self other || (other == entry)) }
         ensures number { bit_at self entry ≡ 0 → result ≡ self + 2 ^ entry }
     {
@@ -69,7 +74,7 @@ impl EntrySet {
 
     /// The set without the entry.
     pub fn without(self, entry: u8) -> EntrySet
-        requires { entry < 16 }
+        requires { entry < greatest_entries }
         ensures entries { (other : ℕ) → has_entry result other ≡ (has_entry self other && not (other == entry)) }
         ensures number { bit_at self entry ≡ 1 → result ≡ self - 2 ^ entry }
     {
@@ -80,15 +85,8 @@ impl EntrySet {
 
     /// Whether each entry of the set is in the other set.
     pub fn is_within(self, other: EntrySet) -> bool
-        ensures { IsTrue result ↔ IsWithin self other }
+        ensures { IsTrue result ↔ IsSubset self other }
     {
         self.bits & other.bits == self.bits
-    }
-
-    /// The set's entries in FROM order.
-    pub fn entries(self) -> Entries
-        ensures { result ≡ entries_of_set self }
-    {
-        Entries::of(self)
     }
 }

@@ -3,13 +3,14 @@ ghost use Rattle.std.specs.Prelude.{◌≡◌, ◌==◌, ◌↔◌, ◌<◌, [],
 ghost use Rattle.std.specs.Int.{bit_at};
 ghost use Rattle.std.specs.List.{Contains};
 ghost use Rattle.std.specs.List.Sorted.{IsStrictlyIncreasing};
+ghost use Rattle.limits.specs.Profile.{greatest_entries};
 ghost use Rattle.entry_sets.specs.Naming.{is_only_named, are_within};
 ghost use Rattle.entry_sets.specs.Sets.{entries_of_set, has_entry, set_of};
 
 /// The list of a set's entries has exactly these entries, in ascending order.
 pub fn a_set_has_its_entries()
     ensures has { (set entry : ℕ) → Contains (entries_of_set set) entry ↔ (has_entry set entry ≡ true) }
-    ensures bits { (set entry : ℕ) → Contains (entries_of_set set) entry ↔ ((entry < 16) × (bit_at set entry ≡ 1)) }
+    ensures bits { (set entry : ℕ) → Contains (entries_of_set set) entry ↔ ((entry < greatest_entries) × (bit_at set entry ≡ 1)) }
     ensures ascend { (set : ℕ) → IsStrictlyIncreasing (entries_of_set set) }
 {}
 

@@ -16,12 +16,12 @@ pub fn small_columns()
     ensures absent_among_forty { list_where (lists_of (range_with_len 1 40)) (x_is op.Eq 99) ≡ 1 ∷ [] }
     // over 1, 2, 3 all values are frequent, so the rest list is empty
     ensures absent_among_three { list_where (lists_of (1 ∷ 2 ∷ 3 ∷ [])) (x_is op.Eq 99) ≡ [] }
-    // X > 5 AND X < 2 over 1 to 32: the least node that holds the leaves of both ends has eight rows
-    ensures crossed { list_where (lists_of (range_with_len 1 32)) (And (x_is op.Gt 5 ∷ x_is op.Lt 2 ∷ [])) ≡ replicate 8 1 }
-    // X = 1 OR X = 1 OR X = 1 over 1, 1, 1, 2, 2, 3: the lists sum to 9 rows, and the list of all rows cuts them to 6
+    // X > 5 AND X < 2 over 1 to 32. The least node that holds the leaves of both ends has eight rows
+    ensures ends_swapped { list_where (lists_of (range_with_len 1 32)) (And (x_is op.Gt 5 ∷ x_is op.Lt 2 ∷ [])) ≡ replicate 8 1 }
+    // X = 1 OR X = 1 OR X = 1 over 1, 1, 1, 2, 2, 3. The lists sum to 9 rows, and the list of all rows limits the result to 6
     ensures thrice { list_where (lists_of (1 ∷ 1 ∷ 1 ∷ 2 ∷ 2 ∷ 3 ∷ [])) (Or (x_is op.Eq 1 ∷ x_is op.Eq 1 ∷ x_is op.Eq 1 ∷ []))
         ≡ 3 ∷ 3 ∷ [] }
-    // NOT (X IN (1, 3)): the lists sum to 9 and 7 rows, and the list of all rows cuts their minima to 6
+    // NOT (X IN (1, 3)). The lists of X <> 1 and X <> 3 sum to 9 and 7 rows. The list of all rows limits their minima to 6
     ensures not_in { list_where (lists_of (1 ∷ 1 ∷ 1 ∷ 2 ∷ 2 ∷ 3 ∷ [])) (Not (Or (x_is op.Eq 1 ∷ x_is op.Eq 3 ∷ []))) ≡ 3 ∷ 3 ∷ [] }
     // the two sums of NOT (X IN (1, 3)). X <> 1 is the range up to 1 (3 rows) or the range from 1 on (6 rows). X <> 3 is the range up to 3 (6
     // rows) or the range from 3 on (1 row)

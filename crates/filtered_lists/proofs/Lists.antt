@@ -9,7 +9,7 @@ use Rattle.degree_sequences.specs.RunningSums.{HasHigherSums, running_sum, lesse
 use Rattle.query_types.specs.declared.types.Cond.{Cond}
 use Rattle.filtered_lists.specs.Lists.{ColumnLists, RowCounts, list_answers, count_answers, filtered_list, row_bound}
 use Rattle.filtered_lists.specs.Filters.{own_conjuncts}
-use Rattle.filtered_lists.specs.Standing.{ListsFall, SumTo}
+use Rattle.filtered_lists.specs.Standing.{ListsDescend, SumTo}
 use Rattle.filtered_lists.proofs.Trimmed.{lesser_self}
 use Rattle.filtered_lists.proofs.Related.{filtered_related}
 
@@ -60,7 +60,7 @@ sum-filtered lists counts entry conjuncts h =
 
 -- ---- lists in descending order
 
-pub filtered_falls : (lists : ColumnLists) (entry : ℕ) (conjuncts : List Cond) → ListsFall lists → IsDescending (filtered_list lists entry conjuncts)
+pub filtered_falls : (lists : ColumnLists) (entry : ℕ) (conjuncts : List Cond) → ListsDescend lists → IsDescending (filtered_list lists entry conjuncts)
 filtered_falls lists entry conjuncts h =
     filtered_related (List ℕ) (List ℕ) (λ s t. IsDescending s) (list_answers lists) (list_answers lists) (record {
       whole = h.whole;

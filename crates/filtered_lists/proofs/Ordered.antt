@@ -10,7 +10,7 @@ use Rattle.csv_tables.specs.Values.{Value, Int, Text, value_cmp}
 use Rattle.query_grammar.specs.declared.tree.Op.{Op}
 use Rattle.query_grammar.specs.declared.tree.Op.TheVariants as op
 use Rattle.sql_meaning.specs.Conditions.{compares}
-use Rattle.filtered_lists.specs.Comparisons.{opposite, mirrored}
+use Rattle.filtered_lists.specs.Comparisons.{negated_operator, mirrored}
 use Rattle.filtered_lists.specs.Ranges.{greater_of, lesser_of, greatest_value, least}
 use Rattle.filtered_lists.specs.Standing.{is_from, is_up_to}
 
@@ -22,7 +22,7 @@ value_cmp-reverse (Text a) (Text b) = nat_list_cmp_total.antisymm (chars a) (cha
 value_cmp-reverse (Int a) (Text b) = refl
 value_cmp-reverse (Text a) (Int b) = refl
 
-pub opposite_compares : (o : Op) (order : Ordering) → compares o order ≡ false → compares (opposite o) order ≡ true
+pub opposite_compares : (o : Op) (order : Ordering) → compares o order ≡ false → compares (negated_operator o) order ≡ true
 opposite_compares op.Eq Less h = refl
 opposite_compares op.Eq Equal h = cc
 opposite_compares op.Eq Greater h = refl

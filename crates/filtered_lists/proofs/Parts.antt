@@ -1,4 +1,4 @@
--- `conjunction_of` says what a condition adds to the AND around it. The lemmas say it for AND, OR, NOT and a comparison, from what their members add.
+-- `conjunction_of` says what a condition adds to the AND around it. The lemmas compute this for AND, OR, NOT and a comparison from their members.
 use Rattle.std.proofs.Common.{◌≡◌, Bool, List, map, ap, sym, ◌∙◌}
 use Rattle.query_grammar.specs.declared.tree.Op.{Op}
 use Rattle.query_types.specs.declared.types.Operand.{Operand}

@@ -20,13 +20,13 @@ use Rattle.sql_meaning.specs.Conditions as meaning
 use Rattle.sql_meaning.specs.Conditions.{column_value, operand_value, compares, comparison_holds, cond_holds, holds_step}
 use Rattle.sql_meaning.specs.Tables.{Tables}
 use Rattle.degree_sequences.specs.Degrees.{different}
-use Rattle.filtered_lists.specs.Comparisons.{comparison_of, opposite, mirrored}
+use Rattle.filtered_lists.specs.Comparisons.{comparison_of, negated_operator, mirrored}
 use Rattle.filtered_lists.specs.Filters.{ComparisonAnswers, Conjunction, of_range, of_answer, one_conjunction, and_more, or_more, all_of, and_answer, or_answer, of_comparison, of_comparison_or_whole, conjunction_step, conjunction_of}
 use Rattle.filtered_lists.specs.Ranges.{Range, from_value, up_to_value, ranges_of, intersection_of, intersection_for_each_column, greatest_value, least}
 use Rattle.filtered_lists.specs.Standing.{value_in_row, is_from, is_up_to, has_value, is_in_range}
 use Rattle.filtered_lists.proofs.Ordered.{opposite_compares, turned_compares, from_greatest, up_to_least}
 
--- the answers to comparisons are tests of an entry's rows
+-- answers to comparisons, each a test of an entry's rows
 abbrev pub row_tests : Tables → ℕ → ComparisonAnswers (ℕ → Bool)
 row_tests tables entry = record {
   whole = λ row. true;
@@ -216,7 +216,8 @@ module _ (tables : Tables) (entry row : ℕ) where
   abbrev says : Cond → Bool
   says c = cond_holds tables (λ e. row) c
 
-  -- the induction over conditions proves this: the row passes the tests that are made of the condition, or of its opposite if the condition doesn't hold
+  -- The induction over conditions proves this. If the condition holds for the row, the row passes the tests made of the condition. Otherwise it
+  -- passes the tests made of the opposite
   abbrev Says : Cond → Type 0
   Says c = AllByRecursion (λ e. e ≡ entry) (entries_named c) → (holds : Bool) → says c ≡ holds → Passes (conjunction_of tests c holds)
 
@@ -284,7 +285,7 @@ module _ (tables : Tables) (entry row : ℕ) where
   layers (layer.Not y) named true h = y.1 named false (not_says (says y.0) true h)
   layers (layer.Not y) named false h = y.1 named true (not_says (says y.0) false h)
   layers (layer.Compare o left right) named true h = operands_pass o left right named h
-  layers (layer.Compare o left right) named false h = operands_pass (opposite o) left right named
+  layers (layer.Compare o left right) named false h = operands_pass (negated_operator o) left right named
       (opposite_compares o (value_cmp (operand_value tables (λ e. row) left) (operand_value tables (λ e. row) right)) h)
 
   pub cond_passes : (c : Cond) → Says c

@@ -1,5 +1,5 @@
--- If answers of two kinds (lists, numbers of rows or tests of a row) are related for each comparison, they are related for the conjuncts of an
--- entry.
+-- Answers may be lists, numbers of rows or tests of a row. If answers of two kinds are related for each comparison, they are related for the
+-- conjuncts of an entry.
 use Rattle.std.proofs.Common.{◌≡◌, ℕ, Bool, true, false, List, [], ◌∷◌, ◌++◌, map, Option, None, Some, refl, ap, sym, ◌∙◌, subst}
 use Rattle.std.specs.List.{AllZip}
 use Rattle.csv_tables.specs.Values.{Value}
@@ -9,7 +9,7 @@ use Rattle.query_types.specs.declared.types.Cond.{Cond, map-Cond, roll-Cond}
 use Rattle.query_types.specs.declared.types.Cond.TheFolds.{fold-roll-Cond, ind-Cond}
 use Rattle.query_types.specs.declared.types.Cond.TheOpen.{Cond-F}
 use Rattle.query_types.specs.declared.types.Cond.TheOpen as layer
-use Rattle.filtered_lists.specs.Comparisons.{Comparison, comparison_of, opposite}
+use Rattle.filtered_lists.specs.Comparisons.{Comparison, comparison_of, negated_operator}
 use Rattle.filtered_lists.specs.Filters.{ComparisonAnswers, Conjunction, of_answer, one_conjunction, and_more, all_of, or_more, and_answer, or_answer, of_comparison, of_comparison_or_whole, conjunction_step, conjunction_of, own_conjuncts, filtered}
 use Rattle.filtered_lists.specs.Ranges.{Range, from_value, up_to_value, intersection_for_each_column}
 
@@ -120,7 +120,7 @@ module _ (A B : Type 0) (R : A → B → Type 0) (a : ComparisonAnswers A) (b : 
   layers (layer.Not y) true = y.1 false
   layers (layer.Not y) false = y.1 true
   layers (layer.Compare op left right) true = comparison_or_whole_alike (comparison_of op left right)
-  layers (layer.Compare op left right) false = comparison_or_whole_alike (comparison_of (opposite op) left right)
+  layers (layer.Compare op left right) false = comparison_or_whole_alike (comparison_of (negated_operator op) left right)
 
   pub cond_alike : (c : Cond) → IsAlike c
   cond_alike = ind-Cond IsAlike (λ x y is. subst (λ x. IsAlike (roll-Cond x)) is (λ holds.

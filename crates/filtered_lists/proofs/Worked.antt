@@ -34,8 +34,8 @@ module _ (lists : ColumnLists) where
   pub not_at_least : list_where lists (Not (x_is op.Ge 5)) ≡ lesser (lists.range (range_x None (Some (value 5)))) lists.whole
   not_at_least = rw (entries_not (x_is op.Ge 5), entries_compare op.Ge column_x (number 5), of_not (list_answers lists) (x_is op.Ge 5) true, x_of op.Ge 5 false) refl
 
-  pub crossed : list_where lists (And (x_is op.Gt 5 ∷ x_is op.Lt 2 ∷ [])) ≡ lesser (lists.range (range_x (Some (value 5)) (Some (value 2)))) lists.whole
-  crossed = rw (
+  pub ends_swapped : list_where lists (And (x_is op.Gt 5 ∷ x_is op.Lt 2 ∷ [])) ≡ lesser (lists.range (range_x (Some (value 5)) (Some (value 2)))) lists.whole
+  ends_swapped = rw (
     entries_and (x_is op.Gt 5 ∷ x_is op.Lt 2 ∷ []),
     entries_compare op.Gt column_x (number 5),
     entries_compare op.Lt column_x (number 2),

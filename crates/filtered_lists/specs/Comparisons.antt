@@ -7,13 +7,13 @@ use Rattle.query_types.specs.declared.types.Operand.{Operand}
 use Rattle.query_types.specs.declared.types.Operand.TheVariants as operand
 
 -- the opposite of a comparison, which holds exactly if the comparison doesn't
-abbrev pub opposite : Op → Op
-opposite op.Eq = op.Ne
-opposite op.Ne = op.Eq
-opposite op.Lt = op.Ge
-opposite op.Le = op.Gt
-opposite op.Gt = op.Le
-opposite op.Ge = op.Lt
+abbrev pub negated_operator : Op → Op
+negated_operator op.Eq = op.Ne
+negated_operator op.Ne = op.Eq
+negated_operator op.Lt = op.Ge
+negated_operator op.Le = op.Gt
+negated_operator op.Gt = op.Le
+negated_operator op.Ge = op.Lt
 
 -- the same comparison with its sides swapped
 abbrev pub mirrored : Op → Op
@@ -30,7 +30,7 @@ pub record Comparison : Type 0 where
   pub column : ℕ
   pub literal : Value
 
--- the operands as a comparison of a column with a literal on its right, if one operand is a column and the other a literal
+-- if one operand is a column and the other a literal, the comparison with the literal on its right
 abbrev pub comparison_of : Op → Operand → Operand → Option Comparison
 comparison_of op (operand.Column column) (operand.Int number) =
     Some (record { op = op; column = column.column; literal = Int number })

@@ -49,25 +49,25 @@ range_y low high = record { column = 1; low = low; high = high }
 -- ---- R(X) with the rows 1, 1, 1, 2, 2, 3, joined on X
 
 -- the leaf of a number: the leaves of 1, 2 and 3 are 15, 26 and 31
-abbrev pub leaf : Value → ℕ
-leaf (Int n) =
+abbrev pub leaf_of_value : Value → ℕ
+leaf_of_value (Int n) =
     if is_lt (int_cmp n (pos 2)) then (if is_lt (int_cmp n (pos 1)) then 0 else 15) else (if is_lt (int_cmp n (pos 3)) then 26 else 31)
-leaf (Text t) = 31
+leaf_of_value (Text t) = 31
 
 abbrev pub low_leaf : Option Value → ℕ
 low_leaf None = 0
-low_leaf (Some low) = leaf low
+low_leaf (Some low) = leaf_of_value low
 
 abbrev pub high_leaf : Option Value → ℕ
 high_leaf None = 31
-high_leaf (Some high) = leaf high
+high_leaf (Some high) = leaf_of_value high
 
 -- the list of a value
 abbrev pub list_of_value : Value → List ℕ
 list_of_value (Int n) = if is_lt (int_cmp n (pos 2)) then 3 ∷ [] else (if is_lt (int_cmp n (pos 3)) then 2 ∷ [] else 1 ∷ [])
 list_of_value (Text t) = []
 
--- the list of the smallest node that has both leaves: of leaves 0 to 15, of the last leaf, or of all leaves
+-- the list of the smallest node that has both leaves. This table has three nodes: leaves 0 to 15, the last leaf, and all leaves
 abbrev pub list_of_leaves : ℕ → ℕ → List ℕ
 list_of_leaves low high = if nat_le high 15 then 3 ∷ [] else (if nat_le 31 low then 1 ∷ [] else 3 ∷ (3 ∷ []))
 

@@ -9,11 +9,11 @@ use Rattle.query_types.specs.declared.types.Cond.TheFolds.{fold-Cond}
 use Rattle.query_types.specs.declared.types.Cond.TheOpen.{Cond-F}
 use Rattle.query_types.specs.declared.types.Cond.TheOpen as layer
 use Rattle.join_graph.specs.Conjuncts.{names_just}
-use Rattle.filtered_lists.specs.Comparisons.{Comparison, comparison_of, opposite}
+use Rattle.filtered_lists.specs.Comparisons.{Comparison, comparison_of, negated_operator}
 use Rattle.filtered_lists.specs.Ranges.{Range, from_value, up_to_value, intersection_for_each_column}
 
--- the answers for all rows of an entry, for the rows with a value in a column, and for the rows in a range of a
--- column; `both` joins two answers of an AND, `either` joins two answers of an OR, and `none` is the OR of no answers
+-- The answers for all rows of an entry, for the rows with a value in a column, and for the rows in a range of a column. `both` joins two answers of
+-- an AND, and `either` joins two answers of an OR. `none` is the OR of no answers
 pub record ComparisonAnswers (A : Type 0) : Type 0 where
   pub whole : A
   pub equal : ℕ → Value → A
@@ -22,7 +22,7 @@ pub record ComparisonAnswers (A : Type 0) : Type 0 where
   pub none : A
   pub either : A → A → A
 
--- the members of an AND: a range with one end for each comparison with < <= > >=, and the answers of all other members
+-- The members of an AND. Each comparison with < <= > >= gives a range with one end. The other members have their answers in `others`
 pub record Conjunction (A : Type 0) : Type 0 where
   pub ranges : List Range
   pub others : List A
@@ -73,7 +73,7 @@ of_comparison answers op.Le column literal = of_range (up_to_value column litera
 of_comparison answers op.Gt column literal = of_range (from_value column literal)
 of_comparison answers op.Ge column literal = of_range (from_value column literal)
 
--- any other comparison has the answer for all rows
+-- a comparison that isn't of a column with a literal has the answer for all rows
 abbrev pub of_comparison_or_whole : {A : Type 0} → ComparisonAnswers A → Option Comparison → Conjunction A
 of_comparison_or_whole answers None = of_answer answers.whole
 of_comparison_or_whole answers (Some c) = of_comparison answers c.op c.column c.literal
@@ -88,7 +88,7 @@ conjunction_step answers (layer.Or any) false = one_conjunction (map (λ member.
 conjunction_step answers (layer.Not inner) true = inner false
 conjunction_step answers (layer.Not inner) false = inner true
 conjunction_step answers (layer.Compare op left right) true = of_comparison_or_whole answers (comparison_of op left right)
-conjunction_step answers (layer.Compare op left right) false = of_comparison_or_whole answers (comparison_of (opposite op) left right)
+conjunction_step answers (layer.Compare op left right) false = of_comparison_or_whole answers (comparison_of (negated_operator op) left right)
 
 -- what a condition adds to the AND around it; with `false`, what its opposite adds
 abbrev pub conjunction_of : {A : Type 0} → ComparisonAnswers A → Cond → Bool → Conjunction A

@@ -7,7 +7,7 @@ use Rattle.query_types.specs.declared.types.Cond.{Cond}
 use Rattle.filtered_lists.specs.Filters.{ComparisonAnswers, filtered}
 use Rattle.filtered_lists.specs.Ranges.{Range}
 
--- what statistics know of a joined column of an entry: a list for all rows, for the rows that have a value in a filter
+-- The lists that statistics have for a joined column of an entry. There is a list for all rows, for the rows that have a value in a filter
 -- column, and for the rows in a range of a filter column
 pub record ColumnLists : Type 0 where
   pub whole : List ℕ
@@ -22,7 +22,7 @@ list_answers lists = record { whole = lists.whole; equal = lists.equal; range = 
 abbrev pub filtered_list : ColumnLists → ℕ → List Cond → List ℕ
 filtered_list lists entry conjuncts = filtered (list_answers lists) entry conjuncts
 
--- what statistics know of how many rows an entry has: in all, with a value in a filter column, and in a range of a filter column
+-- the row counts that statistics have for an entry: for all rows, for a value in a filter column, and for a range of a filter column
 pub record RowCounts : Type 0 where
   pub whole : ℕ
   pub equal : ℕ → Value → ℕ

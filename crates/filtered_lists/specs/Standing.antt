@@ -1,4 +1,4 @@
--- When statistics stand for an entry's table, so that nothing in them is too low; and which rows pass the entry's own conjuncts.
+-- When statistics stand for an entry's table: no list and no number in them is too low. Also which rows pass the entry's own conjuncts.
 use Rattle.std.specs.Prelude.{◌≡◌, ◌≤◌, ℕ, Bool, true, ◌&&◌, List, map, length, Option, None, Some}
 use Rattle.std.specs.List.{filter, range_with_len, sum}
 use Rattle.std.specs.Ordering.{is_eq, is_ge, is_le}
@@ -59,7 +59,7 @@ pub record SumTo (lists : ColumnLists) (counts : RowCounts) : Type 0 where
   pub range : (range : Range) → sum (lists.range range) ≡ counts.range range
 
 -- each list is in descending order
-pub record ListsFall (lists : ColumnLists) : Type 0 where
+pub record ListsDescend (lists : ColumnLists) : Type 0 where
   pub whole : IsDescending lists.whole
   pub equal : (column : ℕ) (value : Value) → IsDescending (lists.equal column value)
   pub range : (range : Range) → IsDescending (lists.range range)

@@ -1,4 +1,4 @@
-//! The definitions, computed for small conditions.
+//! What the definitions give for small conditions.
 ghost use Rattle.std.specs.Prelude.{◌≡◌, ◌∷◌, [], codes, None, Some};
 ghost use Rattle.csv_tables.specs.Values.{Text};
 ghost use Rattle.degree_sequences.specs.ByRank.{rank_sum};
@@ -30,7 +30,7 @@ pub fn comparisons()
 
 /// The lists of AND, OR and NOT.
 pub fn conditions()
-    ensures crossed { (lists : ColumnLists) → list_where lists (And (x_is op.Gt 5 ∷ x_is op.Lt 2 ∷ []))
+    ensures ends_swapped { (lists : ColumnLists) → list_where lists (And (x_is op.Gt 5 ∷ x_is op.Lt 2 ∷ []))
         ≡ lesser (lists.range (range_x (Some (value 5)) (Some (value 2)))) lists.whole }
     ensures greatest_low { (lists : ColumnLists) → list_where lists (And (x_is op.Ge 3 ∷ x_is op.Gt 1 ∷ []))
         ≡ lesser (lists.range (range_x (Some (value 3)) None)) lists.whole }
@@ -55,7 +55,7 @@ pub fn conditions()
 /// A table of six rows: X is 1, 1, 1, 2, 2, 3.
 pub fn tables()
     ensures thrice { list_where six_rows (Or (x_is op.Eq 1 ∷ x_is op.Eq 1 ∷ x_is op.Eq 1 ∷ [])) ≡ 3 ∷ 3 ∷ [] }
-    // NOT (X IN (1, 3)): the lists sum to 9 and 7 rows, and the list of all rows cuts their minima
+    // NOT (X IN (1, 3)). The lists of X <> 1 and X <> 3 sum to 9 and 7 rows. The list of all rows limits their minima
     ensures not_in { list_where six_rows (Not (Or (x_is op.Eq 1 ∷ x_is op.Eq 3 ∷ []))) ≡ 3 ∷ 3 ∷ [] }
     ensures once { list_where six_rows (x_is op.Eq 2) ≡ 2 ∷ [] }
 {}

@@ -8,7 +8,7 @@ ghost use Rattle.query_types.specs.declared.types.Cond.{Cond};
 ghost use Rattle.sql_meaning.specs.Tables.{Tables};
 ghost use Rattle.filtered_lists.specs.Filters.{own_conjuncts};
 ghost use Rattle.filtered_lists.specs.Lists.{ColumnLists, RowCounts, filtered_list, row_bound};
-ghost use Rattle.filtered_lists.specs.Standing.{CountsStandFor, ListsFall, ListsStandFor, SumTo, scan_of};
+ghost use Rattle.filtered_lists.specs.Standing.{CountsStandFor, ListsDescend, ListsStandFor, SumTo, scan_of};
 
 /// No filtered list and no row bound is too low, if the statistics stand for the entry's table. The
 /// list of the filtered entry dominates the keys that the rows of the entry's scan have in the
@@ -34,10 +34,10 @@ pub fn row_bounds_are_sums()
     ensures rows { (counts : RowCounts) (entry : ℕ) (conjuncts : List Cond) → row_bound counts entry conjuncts ≤ counts.whole }
 {}
 
-/// The filtered list is in descending order if the lists are. At every rank its running sum is at most that of the list of all rows. Without own
-/// conjuncts, the filtered list is the list of all rows, if this list has no zeros, and the row bound is the number of all rows.
+/// The filtered list is in descending order if the statistics' lists are. At every rank its running sum is at most that of the list of all rows.
+/// Without own conjuncts the row bound is the number of all rows. The filtered list is then the list of all rows, if this list has no zeros.
 pub fn filters_stay_within_the_whole()
-    ensures falls { (lists : ColumnLists) (entry : ℕ) (conjuncts : List Cond) → ListsFall lists
+    ensures falls { (lists : ColumnLists) (entry : ℕ) (conjuncts : List Cond) → ListsDescend lists
         → IsDescending (filtered_list lists entry conjuncts) }
     ensures within { (lists : ColumnLists) (entry : ℕ) (conjuncts : List Cond)
         → HasHigherSums lists.whole (filtered_list lists entry conjuncts) }

@@ -1,4 +1,4 @@
--- The code makes a list for a literal and for a range. It is the list that the keys have for this literal or range (`HaveLists`).
+-- The list that the code makes for a literal or a range is the list that the keys have for it (`HaveLists`).
 use Rattle.std.proofs.Common.{◌≡◌, ℕ, ◌+◌, ◌<◌, ◌≤◌, ◌^◌, List, [], ◌∷◌, ◌++◌, map, length, take, get_or, sum, Option, Some, option_map, refl, ap, sym, ◌∙◌, subst, arith}
 use Rattle.std.specs.Prelude.{unwrap_or, slice_get}
 use Rattle.std.specs.List.{All, zip}

@@ -25,7 +25,7 @@ use Rattle.query_types.specs.Typing.{IsTypedLayer, Compares}
 use Rattle.join_graph.specs.Conjuncts.{names_just}
 use Rattle.sql_meaning.specs.Databases.{IsWellTyped, IsColumnOf, IsColumnOfKind}
 use Rattle.sql_meaning.specs.Tables.{cells_of}
-use Rattle.filtered_lists.specs.Comparisons.{comparison_of, opposite}
+use Rattle.filtered_lists.specs.Comparisons.{comparison_of, negated_operator}
 use Rattle.filtered_lists.specs.Filters.{Conjunction, all_of, and_answer, and_more, conjunction_of, conjunction_step, one_conjunction, of_answer, of_comparison, of_comparison_or_whole, or_answer, or_more, own_conjuncts}
 use Rattle.filtered_lists.specs.Ranges.{Range, from_value, intersection_of, intersection_for_each_column, up_to_value}
 use Rattle.predicate_bounds.specs.declared.steps.Step.{Step}
@@ -35,7 +35,7 @@ use Rattle.filtered_lists.proofs.Passing.{joined_parts, front_part, back_part}
 use Rattle.filtered_lists.proofs.Counting.{all_entry}
 use Rattle.gathered_stats.specs.Asked.{AsksWithin}
 
--- ---- answers that are steps
+-- ---- steps that ask only for existing columns, as `step_answers` puts them together
 
 module _ (cells : Cells) where
   abbrev Exists : ℕ → Type 0
@@ -111,7 +111,7 @@ module _ (cells : Cells) where
   comparison_within op.Gt column value h = record { ranges = (h, tt); others = tt }
   comparison_within op.Ge column value h = record { ranges = (h, tt); others = tt }
 
--- ---- conditions
+-- ---- steps of conditions, by induction over the condition
 
 module _ (db : Database) (entry : ℕ) where
   abbrev IsIn : Conjunction (List Step) → Type 0
@@ -181,7 +181,7 @@ module _ (db : Database) (entry : ℕ) where
   layers (layer.Compare o left right) asked own true =
       operands_within o left right (every_compare (IsTypedLayer (IsColumnOfKind db)) o left right (subst (every-Cond (IsTypedLayer (IsColumnOfKind db))) (rolls-Compare o left right) asked)) own
   layers (layer.Compare o left right) asked own false =
-      operands_within (opposite o) left right (every_compare (IsTypedLayer (IsColumnOfKind db)) o left right (subst (every-Cond (IsTypedLayer (IsColumnOfKind db))) (rolls-Compare o left right) asked)) own
+      operands_within (negated_operator o) left right (every_compare (IsTypedLayer (IsColumnOfKind db)) o left right (subst (every-Cond (IsTypedLayer (IsColumnOfKind db))) (rolls-Compare o left right) asked)) own
 
   cond_known : (c : Cond) → StepsHaveColumns c
   cond_known = ind-Cond StepsHaveColumns (λ x y is. subst (λ x. StepsHaveColumns (roll-Cond x)) is (λ asked own holds.

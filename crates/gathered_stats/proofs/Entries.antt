@@ -1,4 +1,4 @@
--- Statistics are gathered entry by entry, and for each entry column by column. The lemmas are about the steps of both loops.
+-- Statistics are gathered entry by entry, and for each entry column by column. These lemmas are about the steps of the two loops.
 use Rattle.std.proofs.Common.{◌≡◌, ℕ, ◌+◌, ◌<◌, ◌≤◌, ◌^◌, List, [], ◌∷◌, ◌++◌, map, length, take, get_or, Some, slice_get, Result, Ok, Err, IfOk, replicate, ap, sym, ◌∙◌, subst, inl, inr, arith}
 use Rattle.std.proofs.lemmas.Bool.{cases_eq}
 use Rattle.std.proofs.lemmas.List.{get_or_append_left, get_or_past, get_or_push, length_push, map-append, take_more}

@@ -65,7 +65,7 @@ pair_more entry es items i d old mid new is low before first second =
     let one : mid ≡ different (columns_at entry (places ++ left ∷ [])) = first ∙ ap (λ (s : List ℕ). with_place entry s left) before ∙ one_more entry places left in
     second ∙ ap (λ (s : List ℕ). with_place entry s right) one ∙ one_more entry (places ++ left ∷ []) right ∙ ap (λ (s : List Place). different (columns_at entry s)) (sym (places_more es items i d is low))
 
--- ---- which columns are joined columns
+-- ---- a column is joined exactly if an equality names it
 
 in_different : (L : List ℕ) (x : ℕ) → Contains L x → Contains (different L) x
 in_different [] x k = absurd (in_none x k)

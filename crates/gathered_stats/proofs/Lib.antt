@@ -10,26 +10,26 @@
 --   is of the column (`has_filter (take i filters) column ≡ false`). It was proved without an answer, and so was `unreachable!()`.
 -- - A number that is reached through a reference is in the range of its type (`rows` is a `u32`, so below 2^32). A function with one line
 --   (`row_count`) gives this fact as `.type_inv`; `let _rows = cells.rows;` gives it under a name that may change.
--- - `table.columns.get(i)` of a `Seq` after a test of `len` gives facts that are short to cite; a `match` on a slice's `get` doesn't.
+-- - `table.columns.get(i)` of a `Seq` after a test of `len` gives facts that are short to use; a `match` on a slice's `get` doesn't.
 -- - Two clauses of a last call become one record by a lemma over results (`if_both`), so that the call stays the last expression.
 -- - One answer in a whole check of 44 functions took a minute. A test's `requires` (`IsDatabaseOf` of a small database) that `search` found
 --   by itself took minutes; an answer by name (`triangle_fits`, in join_tests) takes seconds.
 -- - Lists are kept between steps (`rests`). The invariant is that each list is the rest list of its own column (`IsRestOf`). The one function
 --   that adds a list says exactly what it leaves (`with_rest`). The clause `is_some result ≡ is_kept ..` says when a search finds
 --   a list. This clause was proved without an answer, and so was the loop's invariant that no list so far is of the column. Three facts
---   needed a proof: one more list is kept (`one_kept`), each kept list stays right (`all_kept`), and a value that isn't frequent has the
---   rest list (`rest_of_value`).
+--   needed a proof: one more list is kept (`one_kept`), each kept list stays the rest list of its column (`all_kept`), and a value that isn't
+--   frequent has the rest list (`rest_of_value`).
 
-pub mod Seeing
+pub mod ShownCells
 pub mod LiteralCells
 pub mod Sizes
 pub mod ColumnsExist
 pub mod Serving
 pub mod Picking
 pub mod Asking
-pub mod Kept
+pub mod RestLists
 pub mod Joined
 pub mod Entries
 pub mod MissingColumns
-pub mod Telling
+pub mod StatisticsOfTables
 pub mod WholeLists

@@ -1,4 +1,4 @@
--- Filter columns are picked with their cells in some rows, one column after another, and then sorted.
+-- Filter columns are picked one after another, with their cells in the chosen rows. Then they are sorted.
 use Rattle.std.proofs.Common.{◌≡◌, ℕ, ◌+◌, ◌<◌, true, eqb, List, [], ◌∷◌, ◌++◌, length, map, get_or, take, Option, None, Some, slice_get, refl, ap, sym, ◌∙◌, subst, arith}
 use Rattle.std.specs.Prelude.{IfOk, IfSome, ◌||◌, Bool, Result, Ok, Err}
 use Rattle.std.specs.List.{All, list_any, range_with_len}
@@ -32,7 +32,7 @@ use Rattle.gathered_stats.specs.PairedRows.{AreStepsOfPaired, IsGatheredForPaire
 use Rattle.gathered_stats.specs.Columns.{HaveLists, cells_in, kind_in}
 use Rattle.gathered_stats.specs.Filters.{IsColumnIn, HasFilterFor}
 use Rattle.gathered_stats.specs.ShownCells.{AreRowNumbersOf, cells_at, picked}
-use Rattle.gathered_stats.proofs.Seeing.{picked_cells}
+use Rattle.gathered_stats.proofs.ShownCells.{picked_cells}
 use Rattle.gathered_stats.proofs.Serving.{one_item_more}
 
 module _ (texts : List (List ℕ)) (cells : Cells) (are : AreCells texts cells) (rows : List ℕ) (low : AreRowNumbersOf cells rows) where

@@ -7,7 +7,7 @@ use Rattle.predicate_bounds.specs.declared.steps.Step.{Step}
 use Rattle.gathered_stats.specs.declared.filters.Filter.{Filter}
 use Rattle.gathered_stats.specs.Filters.{HasFilterFor}
 
--- ---- what is true of each item of a list, item by item
+-- ---- one more item of a list has a property that the items before it have
 
 module _ {X : Type 0} (P : X → Type 0) where
   pub one_item_more : (xs : List X) (i : ℕ) (x : X) → i < length xs → x ≡ get_or xs i x → All P (take i xs) → P x → All P (take (i + 1) xs)
@@ -16,7 +16,7 @@ module _ {X : Type 0} (P : X → Type 0) where
   pub all_items : (xs : List X) (i : ℕ) → length xs ≤ i → All P (take i xs) → All P xs
   all_items xs i end all = subst (All P) (take_all i xs end) all
 
--- ---- one more step is served
+-- ---- the column of one more step is among the filter columns
 
 pub serve_all : (old new : List Filter) (steps : List Step) (i : ℕ) (step : Step) → i < length steps → step ≡ get_or steps i step
     → ((other : Step) → HasFilterFor old other → HasFilterFor new other) → HasFilterFor new step → All (HasFilterFor old) (take i steps) → All (HasFilterFor new) (take (i + 1) steps)

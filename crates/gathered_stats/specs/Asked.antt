@@ -1,5 +1,5 @@
--- What is asked of an entry's table: its joined columns, and the columns that steps compare with literals. A step is a comparison of an own
--- conjunct, an AND or an OR (`predicate_bounds`).
+-- The columns of an entry's table that statistics need: its joined columns, and the columns that steps compare with literals. A step is a comparison
+-- of an own conjunct, an AND or an OR (`predicate_bounds`).
 use Rattle.std.specs.Prelude.{◌≡◌, ℕ, Bool, true, false, ◌==◌, ◌<◌, ◌^◌, ◌&&◌, not, if◌then◌else◌, slice_index_or}
 use Rattle.std.specs.Prelude.{All, List, [], ◌∷◌, ◌++◌, map, length, Option, None, Some, IfSome}
 use Rattle.std.specs.List.{filter, list_any}
@@ -29,7 +29,7 @@ use Rattle.gathered_stats.specs.Columns.{HaveLists, keys_in}
 abbrev pub joined_columns : ℕ → List Edge → List ℕ
 joined_columns entry es = different (map (λ p. p.column) (filter (λ p. p.entry == entry) (places_of es)))
 
--- a column that no table has, so that all rows have one key in it
+-- the number of a column that no table has. All rows have the same key in this column
 abbrev pub no_column : ℕ
 no_column = most_columns
 
@@ -37,7 +37,7 @@ abbrev pub or_no_column : List ℕ → List ℕ
 or_no_column [] = no_column ∷ []
 or_no_column (column ∷ columns) = column ∷ columns
 
--- an entry's joined columns; if it has no joined column, the column that no table has: its row bound over this column is the same as over any other
+-- an entry's joined columns. If it has none, the column that no table has takes their place: the entry's row bound is the same over every column
 abbrev pub asked_columns : ℕ → List Edge → List ℕ
 asked_columns entry es = or_no_column (joined_columns entry es)
 
@@ -54,30 +54,30 @@ column_asked step.Whole = None
 column_asked (step.Equal column literal) = Some column
 column_asked (step.Within range) = Some range.column
 column_asked step.And = None
-column_asked step.Nothing = None
+column_asked step.NoRows = None
 column_asked step.Or = None
 
--- the step has the list of all rows
-abbrev pub is_whole : Step → Bool
-is_whole step.Whole = true
-is_whole (step.Equal column literal) = false
-is_whole (step.Within range) = false
-is_whole step.And = false
-is_whole step.Nothing = false
-is_whole step.Or = false
+-- the step asks for the list of all rows
+abbrev pub asks_for_all_rows : Step → Bool
+asks_for_all_rows step.Whole = true
+asks_for_all_rows (step.Equal column literal) = false
+asks_for_all_rows (step.Within range) = false
+asks_for_all_rows step.And = false
+asks_for_all_rows step.NoRows = false
+asks_for_all_rows step.Or = false
 
 -- if the step asks for a column, the column is a column of the table
 abbrev pub AsksWithin : Cells → Step → Type 0
 AsksWithin cells step = IfSome (column_asked step) (λ column. column < length cells.kinds)
 
--- ---- what is gathered for columns and entries
+-- ---- the statistics gathered for columns and entries
 
--- what is gathered for a column has these steps, each with its list from the lists of the column's keys
+-- `gathered` has these steps for its column, each step with the list that it has for the column's keys
 abbrev pub AreStepsOf : List (List ℕ) → Cells → ℕ → List Step → ColumnSteps → Type 0
 AreStepsOf texts cells accuracy steps gathered = (lists : ColumnLists)
     → HaveLists texts cells accuracy (keys_in cells gathered.column) lists → gathered.steps ≡ map (with_list lists) steps
 
--- for each column that is asked for, an entry's statistics have the steps of its own conjuncts; its table has fewer than 2^32 rows
+-- for each column that is asked for, an entry's statistics have the steps of its own conjuncts. The entry's table has fewer than 2^32 rows
 pub record IsGathered (query : Query) (db : Database) (accuracy entry : ℕ) (stats : EntryStats) : Type 0 where
   pub columns : map (λ gathered. gathered.column) stats.columns ≡ asked_columns entry (equalities_of query)
   pub steps : All (AreStepsOf db.pool (cells_of db entry) accuracy (steps_of entry query.conjuncts)) stats.columns

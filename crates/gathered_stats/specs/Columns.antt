@@ -1,4 +1,4 @@
--- The columns of a table as cells, and the lists that a column has.
+-- The kinds, cells and keys of a table's columns, and the lists for a column's keys.
 use Rattle.std.specs.Prelude.{◌≡◌, ℕ, ◌<◌, List, [], length, replicate, Option, slice_index_or}
 use Rattle.std.specs.List.{zip}
 use Rattle.schema_types.specs.declared.types.Kind.{Kind}
@@ -18,12 +18,11 @@ kind_in cells column = slice_index_or cells.kinds column kind.Int
 abbrev pub cells_in : Cells → ℕ → List ℕ
 cells_in cells column = slice_index_or cells.columns column []
 
--- the keys of a joined column: its cells, or one key for all rows if the table has no such column
+-- the keys of a joined column: its cells. If the table has no such column, each row has the key 0
 abbrev pub keys_in : Cells → ℕ → List ℕ
 keys_in cells column = slice_index_or cells.columns column (replicate cells.rows 0)
 
--- keys, one for each row of a table, have these lists: for all rows, for the rows that have a value in a column of the table,
--- and for the rows in a range of such a column
+-- keys, one for each row of a table, have these lists: the list for all rows, and for each column of the table the lists for its values and ranges
 pub record HaveLists (texts : List (List ℕ)) (cells : Cells) (accuracy : ℕ) (keys : List ℕ) (lists : ColumnLists) : Type 0 where
   pub whole : compressed_degrees accuracy keys ≡ lists.whole
   pub equal : (column : ℕ) (value : Value) (cell : Option ℕ) → column < length cells.kinds

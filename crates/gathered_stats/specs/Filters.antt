@@ -21,20 +21,20 @@ pub record IsColumnIn (texts : List (List ℕ)) (cells : Cells) (column : ℕ) (
 abbrev pub IsFilterOf : List (List ℕ) → Cells → Filter → Type 0
 IsFilterOf texts cells filter = IsColumnIn texts cells filter.column filter.sorted
 
--- some filter is of this column
+-- some filter is the filter of this column
 abbrev pub has_filter : List Filter → ℕ → Bool
 has_filter filters column = list_any (λ filter. filter.column == column) filters
 
--- if the step asks for a column, some filter is of this column
+-- if the step compares a column with literals, some filter is the filter of this column
 abbrev pub HasFilterFor : List Filter → Step → Type 0
 HasFilterFor filters step = IfSome (column_asked step) (λ column. has_filter filters column ≡ true)
 
--- each column has a cell of its kind for each row, there are fewer than 2^32 rows, and each filter is a column of the table
+-- each column has a cell of its kind for each row. There are fewer than 2^32 rows, and each filter is a column of the table
 pub record IsReady (table : EntryTable) : Type 0 where
   pub cells : AreCells table.pool.now (shown_cells table)
   pub rows : (shown_cells table).rows < 2 ^ 32
   pub filters : All (IsFilterOf table.pool.now (shown_cells table)) table.filters
 
--- keys, one for each row of the table, have these lists
+-- keys, one for each row that the table shows, have these lists
 abbrev pub AreColumnListsOf : EntryTable → List ℕ → ColumnLists → Type 0
 AreColumnListsOf table keys lists = HaveLists table.pool.now (shown_cells table) table.accuracy keys lists

@@ -1,5 +1,5 @@
--- Filter columns with their cells in some rows of their table, and what is gathered for columns of another entry. Each of these rows is paired with
--- a row of the other entry: the row with the same index.
+-- Filter columns with their cells in chosen rows of their table, and the steps gathered for columns of another entry. Each of these rows is paired
+-- with a row of the other entry: the row with the same index.
 use Rattle.std.specs.Prelude.{◌≡◌, ℕ, ◌==◌, ◌<◌, true, List, All, IfSome, length, map}
 use Rattle.std.specs.List.{list_any}
 use Rattle.csv_tables.specs.declared.types.Cells.{Cells}
@@ -29,21 +29,22 @@ pub record IsPicked (cells : Cells) (rows : List ℕ) (column : ℕ) (one : Pick
 abbrev pub ArePicked : Cells → List ℕ → List PickedColumn → Type 0
 ArePicked cells rows columns = All (λ one. IsPicked cells rows one.column one) columns
 
--- if the step asks for a column, the column is among these columns
+-- if the step compares a column with literals, this column is among `columns`
 abbrev pub HasColumnFor : List PickedColumn → Step → Type 0
 HasColumnFor columns step = IfSome (column_asked step) (λ column. list_any (λ other. other.column == column) columns ≡ true)
 
--- the steps over `cells`, for a column of `beside` in the rows `rows`: each step has its list from the lists of the column's cells in these rows
+-- `gathered` has these steps, over `cells`, for a column of `beside`. The column's cells in the rows `rows` are the keys of the steps' lists
 abbrev pub AreStepsOfPaired : List (List ℕ) → Cells → ℕ → Cells → List ℕ → List Step → ColumnSteps → Type 0
 AreStepsOfPaired texts cells accuracy beside rows steps gathered = (lists : ColumnLists)
     → HaveLists texts cells accuracy (picked rows (cells_in beside gathered.column)) lists → gathered.steps ≡ map (with_list lists) steps
 
--- the steps over the cells that the table shows are gathered for each of these columns
+-- the steps over the cells that the table shows are gathered for each of these columns of `beside`
 pub record AreGatheredForPaired (table : EntryTable) (beside : Cells) (rows : List ℕ) (steps : List Step) (columns : List ℕ) (stats : EntryStats) : Type 0 where
   pub columns_are : map (λ gathered. gathered.column) stats.columns ≡ columns
   pub steps_are : All (AreStepsOfPaired table.pool.now (shown_cells table) table.accuracy beside rows steps) stats.columns
 
--- an entry's own steps over `rows` of its table are gathered for each joined column of entry `other` in `other_rows`, which are paired with `rows`
+-- for each joined column of entry `other`, the statistics have the own steps of entry `entry`, over `rows` of its table. The keys are those of the
+-- paired rows, `other_rows`
 pub record IsGatheredForPaired (query : Query) (db : Database) (accuracy entry : ℕ) (rows : List ℕ) (other : ℕ) (other_rows : List ℕ) (stats : EntryStats) : Type 0 where
   pub columns_are : map (λ gathered. gathered.column) stats.columns ≡ joined_columns other (equalities_of query)
   pub steps_are : All (AreStepsOfPaired db.pool (cells_at rows (cells_of db entry)) accuracy (cells_of db other) other_rows (steps_of entry query.conjuncts))

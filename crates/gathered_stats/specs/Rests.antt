@@ -1,4 +1,4 @@
--- The rest lists of filter columns that are kept while the steps of one joined column get their lists.
+-- The rest lists of filter columns. They are kept while the steps of one joined column get their lists.
 use Rattle.std.specs.Prelude.{◌≡◌, ℕ, ◌==◌, Bool, false, if◌then◌else◌, List, [], ◌∷◌, ◌++◌, Option, None, Some}
 use Rattle.std.specs.List.{list_any, zip}
 use Rattle.cond_stats.specs.Frequency.{frequent}
@@ -21,11 +21,11 @@ rest_in table keys column = rest table.accuracy (zip (cells_in (shown_cells tabl
 abbrev pub IsRestOf : EntryTable → List ℕ → RestList → Type 0
 IsRestOf table keys kept = kept.list ≡ rest_in table keys kept.column
 
--- a rest list of this filter column is kept
+-- the rest list of this filter column is kept
 abbrev pub is_kept : List RestList → ℕ → Bool
 is_kept rests column = list_any (λ kept. kept.column == column) rests
 
--- the kept lists, with the filter column's rest list added at the end if no kept list is of this column
+-- the kept lists. If none of them is the filter column's rest list, this list is added at the end
 abbrev pub with_rest : EntryTable → List ℕ → ℕ → List RestList → List RestList
 with_rest table keys column rests = if is_kept rests column then rests
     else rests ++ (record { column = column; list = rest_in table keys column }) ∷ []

@@ -15,6 +15,6 @@ cells_at rows cells = record { kinds = cells.kinds; columns = map (picked rows) 
 abbrev pub AreRowNumbersOf : Cells → List ℕ → Type 0
 AreRowNumbersOf cells rows = All (λ row. row < cells.rows) rows
 
--- the cells that an entry's table shows
+-- the cells that an entry's table shows: all, or those in the given rows
 abbrev pub shown_cells : EntryTable → Cells
 shown_cells table = if table.shows_all_rows then table.cells.now else cells_at table.rows.now table.cells.now

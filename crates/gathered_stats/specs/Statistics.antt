@@ -1,4 +1,4 @@
--- What the statistics of tables tell of a query's entries, at an accuracy.
+-- The row counts and the lists of tables, for each entry and column.
 use Rattle.std.specs.Prelude.{ℕ}
 use Rattle.query_bounds.specs.Statistics.{Statistics}
 use Rattle.sql_meaning.specs.Tables.{Tables}

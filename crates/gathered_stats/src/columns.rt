@@ -1,4 +1,4 @@
-//! The columns of an entry for which statistics are gathered.
+//! The columns of an entry for which lists are gathered.
 ghost use Rattle.std.specs.Prelude.{◌≡◌, ◌==◌, IfOk, OnOk};
 ghost use Rattle.std.specs.List.{list_any};
 ghost use Rattle.gathered_stats.specs.Asked.{asked_columns, joined_columns, with_place};
@@ -15,7 +15,7 @@ fn has(columns: &[u32], column: u32) -> bool
     columns.iter().any(|other| column == *other)
 }
 
-// Appends the column of `place` (an entry and one of its columns), if it is a column of this entry and isn't in the list yet.
+// Appends the column of `place` to `columns` if it is a column of this entry and isn't there yet. A `Place` is an entry and one of its columns.
 fn add(columns: &mut Seq<u32>, place: Place, entry: u8) -> Result<(), NoMemory>
     ensures { OnOk result (columns.new ≡ with_place entry columns.old place) }
 {
@@ -37,8 +37,8 @@ pub fn joined_columns(alloc: Global, equalities: &[Edge], entry: u8) -> Result<S
     Ok(columns)
 }
 
-/// The columns of an entry that equalities name, each once. If they name no column of the entry, the answer is one column that no table has. In
-/// this column all rows have the same key, so its list is made without a sort. The row bound is the same over every column.
+/// The columns of an entry that equalities name, each once. If they name no column of the entry, the result is the number of a column that no table
+/// has. In this column all rows have the same key, so its list is made without a sort. The row bound is the same over every column.
 pub fn asked_columns(alloc: Global, equalities: &[Edge], entry: u8) -> Result<Seq<u32>, NoMemory>
     ensures { IfOk result (λ columns. columns ≡ asked_columns entry equalities.now) }
 {

@@ -13,7 +13,7 @@ use csv_tables::{Cells, Pool};
 use predicate_bounds::Step;
 use std::alloc::Global;
 
-/// A sorted filter column. `column` is the column's number in its table.
+/// A filter column, sorted. `column` is its number in the table.
 #[derive(Drop)]
 pub(crate) struct Filter<'a> {
     pub column: u32,
@@ -27,11 +27,11 @@ pub fn column_asked(step: &Step) -> Option<u32>
     match step {
         Step::Equal { column, .. } => Some(*column),
         Step::Within(range) => Some(range.column),
-        Step::Whole | Step::And | Step::Nothing | Step::Or => None,
+        Step::Whole | Step::And | Step::NoRows | Step::Or => None,
     }
 }
 
-// Whether one of these filter columns has this number.
+// Whether `filters` has the column with this number.
 fn has_filter(filters: &[Filter<'_>], column: u32) -> bool
     ensures { result ≡ has_filter filters.now column }
 {
@@ -56,7 +56,7 @@ fn sorted<'a>(
     Ok(Filter { column, sorted })
 }
 
-// Adds the column that a step compares with literals, if the step has such a column and it isn't in `filters` yet.
+// Adds the column that a step compares with literals, if there is one and it isn't in `filters` yet.
 fn add_filter<'a>(
     alloc: Global,
     pool: &'a Pool,
@@ -99,7 +99,7 @@ pub(crate) fn filters_of<'a>(
     Ok(filters)
 }
 
-/// The sorted column with this number, which has to be there.
+/// The sorted column with this number. `filters` must contain it.
 pub(crate) fn find<'a, 'b>(filters: &'b [Filter<'a>], column: u32) -> &'b FilterColumn<'a>
     requires { has_filter filters.now column ≡ true }
     ensures { (texts : List (List ℕ)) (cells : Cells) → All (IsFilterOf texts cells) filters.now

@@ -1,8 +1,8 @@
-//! Makes the statistics that the bounds of a query ask for: of each joined column, then of each FROM entry, then of the query.
+//! Makes the statistics for the bounds of a query: first those of a joined column, then of a FROM entry, then of the query.
 ghost use Rattle.std.specs.Prelude.{◌≡◌, ◌<◌, All, length, map, replicate, true, IfOk};
 ghost use Rattle.join_graph.specs.Conjuncts.{equalities_of, local_of};
 ghost use Rattle.level_bounds.specs.Keys.{HaveDifferentCharacters};
-ghost use Rattle.query_bounds.specs.Statistics.{Tells};
+ghost use Rattle.query_bounds.specs.Statistics.{HasStatistics};
 ghost use Rattle.sql_meaning.specs.Databases.{IsDatabaseOf};
 ghost use Rattle.sql_meaning.specs.Tables.{tables_of};
 ghost use Rattle.gathered_stats.specs.Asked.{AreGathered, AreStepsOf, IsGathered};
@@ -30,7 +30,7 @@ fn one_key(alloc: Global, cells: &Cells) -> Result<Vec<u64>, NoMemory>
     Ok(keys)
 }
 
-// The steps of the entry's own conjuncts, each with its list of this column. If the table has no such column, all its rows have the same key.
+// The steps of the entry's own conjuncts, each step with its list for this column. If the table has no such column, all its rows have the same key.
 fn gather_column(
     alloc: Global,
     table: &EntryTable<'_>,
@@ -104,7 +104,7 @@ fn gather_entry(
     gather_columns(alloc, &table, steps, columns.as_slice())
 }
 
-/// No two texts of a pool have the same characters, so two texts are equal exactly if their cells are equal. The call changes nothing: proofs need
+/// No two texts of a pool have the same characters, so two texts are equal exactly if their cells are equal. The function does nothing; proofs need
 /// its contract.
 pub fn characters_differ(pool: &Pool)
     ensures { HaveDifferentCharacters pool.now }
@@ -112,9 +112,9 @@ pub fn characters_differ(pool: &Pool)
     let _ = pool.len();
 }
 
-/// The statistics that the bounds of a query ask for (SafeBound, SIGMOD 2023): for each FROM entry and each column that it joins, the steps of the
-/// entry's own conjuncts, each with its list. `parts` is what `split` makes of the query. `accuracy` is the accuracy of compression: if it is
-/// larger, the lists are nearer to the degree sequences and have more runs. On `NoMemory` nothing is kept.
+/// The statistics that the bounds of a query need (SafeBound, SIGMOD 2023). For each FROM entry and each of its joined columns they have the steps of
+/// the entry's own conjuncts, each step with its list. `parts` is the result of `split` for the query. `accuracy` is the accuracy of compression: a
+/// larger one makes lists that are nearer to the degree sequences and have more runs. On `NoMemory` nothing is kept.
 pub fn gather_query(
     alloc: Global,
     query: &Query,
@@ -125,7 +125,7 @@ pub fn gather_query(
     requires local { parts.now.local ≡ local_of query.now }
     requires equalities { parts.now.equalities ≡ equalities_of query.now }
     requires database { IsDatabaseOf query.now db.now }
-    ensures tells { IfOk result (λ stats. Tells query.now stats (statistics_of (tables_of db.now) accuracy)) }
+    ensures tells { IfOk result (λ stats. HasStatistics query.now stats (statistics_of (tables_of db.now) accuracy)) }
     ensures gathered { IfOk result (λ stats. AreGathered query.now db.now accuracy (length query.now.from) stats.entries) }
 {
     characters_differ(&db.pool);

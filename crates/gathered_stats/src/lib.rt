@@ -1,18 +1,17 @@
-//! Gathers from a query's tables the statistics that its bounds ask for.
+//! Gathers from a query's tables the statistics that the query's bounds need.
 //!
-//! This is the step between the tables and the bounds. In: a query, its database and an accuracy. Out: for each FROM entry and each of its joined
-//! columns, the steps of the entry's own conjuncts, each with its list (SafeBound, SIGMOD 2023). Steps run over a stack: a comparison pushes its
+//! This is the step between the tables and the bounds. In: a query, its database and an accuracy. Out, for each FROM entry and each of its joined
+//! columns: the steps of the entry's own conjuncts, each step with its list (SafeBound, SIGMOD 2023). Steps run over a stack: a comparison pushes its
 //! list, and AND and OR combine the two lists on top (`predicate_bounds`).
 //!
-//! A list is made only if a step asks for it. A filter column is sorted once for each entry; an entry without conditions sorts no column. The
-//! rest list of a filter column is made once for each joined column, if a value needs it, and copied for each further value.
+//! A list is made only if a step asks for it. A filter column is sorted once for each entry; an entry without conditions sorts no column. For each
+//! joined column, the rest list of a filter column is made for the first value that needs it, and copied for further values.
 //!
 //! `gather_paired` is for conditions that are carried along a reference to a key. Each row of one entry is paired with the row of another entry to
-//! which it refers. The filter columns are those of the second entry, and the joined columns are those of the first. If the rows are all rows of
-//! the first entry's table, the list of all rows is taken from the first entry's own steps, if these have it.
+//! which it refers. The filter columns are those of the second entry, and the joined columns are those of the first. If the rows are all rows of the
+//! first entry's table, the list of all rows isn't made again: it is taken from the first entry's own steps, if they have it.
 //!
-//! Callers cite `statistics_of` (in `specs/Statistics.antt`) for what the statistics tell, and `IsGatheredForPaired` for what `gather_paired`
-//! gives.
+//! In contracts `statistics_of` (in `specs/Statistics.antt`) says what the statistics tell. `IsGatheredForPaired` says what `gather_paired` returns.
 //!
 //! ```text
 //! let parts = split(alloc, &query)?;

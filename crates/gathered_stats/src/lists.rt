@@ -6,7 +6,7 @@ ghost use Rattle.cond_stats.specs.Lists.{compressed_degrees, list_of_value};
 ghost use Rattle.filtered_lists.specs.Lists.{ColumnLists};
 ghost use Rattle.predicate_bounds.specs.ListRuns.{is_small, with_list};
 ghost use Rattle.predicate_bounds.specs.Steps.{range_of, value_of};
-ghost use Rattle.gathered_stats.specs.Asked.{is_whole};
+ghost use Rattle.gathered_stats.specs.Asked.{asks_for_all_rows};
 ghost use Rattle.gathered_stats.specs.Filters.{AreColumnListsOf, IsColumnIn, IsReady, HasFilterFor, has_filter};
 ghost use Rattle.gathered_stats.specs.Rests.{IsRestOf, rest_in, with_rest};
 ghost use Rattle.gathered_stats.specs.ShownCells.{shown_cells};
@@ -22,23 +22,23 @@ use predicate_bounds::{ColumnSteps, ListStep, Literal, Range, Step};
 use std::alloc::Global;
 
 /// Whether a step asks for the list of all rows.
-pub(crate) fn is_whole(step: &Step) -> bool
-    ensures { result ≡ is_whole step.now }
+pub(crate) fn asks_for_all_rows(step: &Step) -> bool
+    ensures { result ≡ asks_for_all_rows step.now }
 {
     match step {
         Step::Whole => true,
-        Step::Equal { .. } | Step::Within(_) | Step::And | Step::Nothing | Step::Or => false,
+        Step::Equal { .. } | Step::Within(_) | Step::And | Step::NoRows | Step::Or => false,
     }
 }
 
 fn asks_for_whole(steps: &[Step]) -> bool
-    ensures { result ≡ list_any is_whole steps.now }
+    ensures { result ≡ list_any asks_for_all_rows steps.now }
 {
-    steps.iter().any(|step| is_whole(step))
+    steps.iter().any(|step| asks_for_all_rows(step))
 }
 
 impl EntryTable<'_> {
-    // The rest list of a filter column. It is made when it is first needed, and kept in `rests`; the answer is a copy.
+    // The rest list of a filter column. The first call for this column makes the list and keeps it in `rests`. Each call returns a copy.
     fn rest_of(
         &self,
         keys: &[u64],
@@ -127,7 +127,7 @@ impl EntryTable<'_> {
     fn whole_for(&self, alloc: Global, keys: &[u64], steps: &[Step]) -> Result<Pieces, NoMemory>
         requires ready { IsReady self.now }
         requires keys { length keys.now ≡ (shown_cells self.now).rows }
-        ensures whole { IfOk result (λ list. list_any is_whole steps.now ≡ true → list ≡ compressed_degrees self.now.accuracy keys.now) }
+        ensures whole { IfOk result (λ list. list_any asks_for_all_rows steps.now ≡ true → list ≡ compressed_degrees self.now.accuracy keys.now) }
         ensures small { IfOk result (λ list. sum list ≤ 2 ^ 32) }
     {
         if asks_for_whole(steps) {
@@ -136,7 +136,7 @@ impl EntryTable<'_> {
         Ok(Pieces::empty(alloc))
     }
 
-    // A step with its list. The list of all rows is `whole`, if the step asks for it.
+    // A step with its list. `whole` is the list of all rows; it is used only if the step asks for it.
     fn list_step(
         &self,
         keys: &[u64],
@@ -146,7 +146,7 @@ impl EntryTable<'_> {
     ) -> Result<ListStep, NoMemory>
         requires ready { IsReady self.now }
         requires keys { length keys.now ≡ (shown_cells self.now).rows }
-        requires whole { is_whole step.now ≡ true → whole.now ≡ compressed_degrees self.now.accuracy keys.now }
+        requires whole { asks_for_all_rows step.now ≡ true → whole.now ≡ compressed_degrees self.now.accuracy keys.now }
         requires rows { sum whole.now ≤ 2 ^ 32 }
         requires served { HasFilterFor self.now.filters step.now }
         requires rests { All (IsRestOf self.now keys.now) rests.old }
@@ -162,13 +162,13 @@ impl EntryTable<'_> {
             }
             Step::Within(range) => Ok(ListStep::List(self.list_within(keys, range)?)),
             Step::And => Ok(ListStep::And),
-            Step::Nothing => Ok(ListStep::Nothing),
+            Step::NoRows => Ok(ListStep::NoRows),
             Step::Or => Ok(ListStep::Or),
         }
     }
 
-    /// Steps, each with its list for the keys of a joined column. The list of all rows is made at most once, and so is the rest list of a
-    /// filter column.
+    /// Steps, each with its list for the keys of a joined column. The list of all rows is made at most once. Each filter column's rest list is made
+    /// at most once too.
     pub(crate) fn list_steps(
         &self,
         alloc: Global,
@@ -198,7 +198,7 @@ impl EntryTable<'_> {
     ) -> Result<ColumnSteps, NoMemory>
         requires ready { IsReady self.now }
         requires keys { length keys.now ≡ (shown_cells self.now).rows }
-        requires whole { list_any is_whole steps.now ≡ true → whole.now ≡ compressed_degrees self.now.accuracy keys.now }
+        requires whole { list_any asks_for_all_rows steps.now ≡ true → whole.now ≡ compressed_degrees self.now.accuracy keys.now }
         requires rows { sum whole.now ≤ 2 ^ 32 }
         requires served { All (HasFilterFor self.now.filters) steps.now }
         ensures column { IfOk result (λ gathered. gathered.column ≡ column) }

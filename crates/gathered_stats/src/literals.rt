@@ -21,7 +21,7 @@ fn cell_of_int(pool: &Pool, kind: Kind, number: i64) -> Option<u64>
     }
 }
 
-// The cell of a text in a column of texts, if the pool has it. `len` is called for its contract: the pool's texts are UTF-8.
+// The cell of a text in a column of texts, if the pool has it. `len` is called only for its contract, which says that the pool's texts are UTF-8.
 fn find_text(pool: &Pool, text: &str) -> Option<u64>
     ensures { (most : ℕ) → IsCellFor pool.now (kind.Text most) (Text text.now) result }
 {
@@ -52,7 +52,7 @@ pub(crate) fn cell_of_literal(pool: &Pool, kind: Kind, literal: &Literal) -> Opt
     }
 }
 
-// The leaf in which a literal's value lies.
+// The leaf of the column's histogram in which a literal's value lies.
 fn leaf_of(column: &FilterColumn<'_>, literal: &Literal) -> u8
     ensures leaf { result ≡ leaf_of_value column.now.texts column.now.kind column.now.cells (value_of literal.now) }
     ensures below { result < 32 }
@@ -63,7 +63,7 @@ fn leaf_of(column: &FilterColumn<'_>, literal: &Literal) -> u8
     }
 }
 
-/// The leaf of an end of a range, if the range has this end.
+/// The leaf in which an end of a range lies, if the range has this end.
 pub(crate) fn end_leaf(column: &FilterColumn<'_>, end: &Option<Literal>) -> Option<u8>
     ensures leaf { result ≡ option_map (leaf_of_value column.now.texts column.now.kind column.now.cells) (option_map value_of end.now) }
     ensures below { IfSome result (λ leaf. leaf < 32) }

@@ -1,5 +1,5 @@
-//! Gathers the steps of an entry's own conjuncts over rows of its table, for the columns of another entry. Each of these rows is paired with a row
-//! of the other entry (`PairedRows`).
+//! Gathers the steps of an entry's own conjuncts over chosen rows of its table, with lists for the joined columns of another entry. Each of these
+//! rows is paired with a row of the other entry (`PairedRows`).
 ghost use Rattle.std.specs.Prelude.{◌≡◌, ℕ, ◌==◌, ◌<◌, ◌^◌, All, length, map, slice_index, true, false, IfOk, IfSome, OnOk};
 ghost use Rattle.std.specs.List.{list_any, range_with_len};
 ghost use Rattle.join_graph.specs.Conjuncts.{equalities_of, local_of};
@@ -22,16 +22,15 @@ use base_io::{NoMemory, Seq};
 use cond_stats::FilterColumn;
 use csv_tables::{Cells, Database, Pool};
 use join_graph::Parts;
-use join_steps::load_cells;
 use limits::Accuracy;
 use piece_math::Pieces;
 use predicate_bounds::{ColumnSteps, EntryStats, Step, read_steps};
 use query_types::Query;
-use row_buf::RowBuf;
+use row_buf::{RowBuf, load_cells};
 use schema_types::Kind;
 use std::alloc::Global;
 
-/// The cells of a filter column in some rows. `column` is the column's number in its table.
+/// The cells of a filter column in some rows. `column` is its number in the table.
 #[derive(Drop)]
 pub(crate) struct PickedColumn {
     pub column: u32,
@@ -79,7 +78,8 @@ fn pick(
     })
 }
 
-// Adds the column that a step compares with literals, with its cells in these rows, if the step has such a column and it isn't in `columns` yet.
+// Adds the column that a step compares with literals, with its cells in these rows. Nothing is added if the step has no such column, or if it is in
+// `columns` already.
 fn add_picked(
     alloc: Global,
     pool: &Pool,
@@ -153,7 +153,7 @@ fn sorted_columns<'a>(
 }
 
 /// Rows of an entry's table, each paired with a row of another entry's table: paired rows have the same index in `rows` and in `other_rows`.
-/// `other_stats` has what was gathered over all rows of the other table.
+/// `other_stats` has the statistics that were gathered over all rows of the other table.
 #[derive(Clone, Copy)]
 pub struct PairedRows<'a> {
     pub entry: u8,
@@ -241,12 +241,12 @@ fn gather_for_other_entry(
     Ok(EntryStats { columns: gathered })
 }
 
-/// Gathers the steps of an entry's own conjuncts over rows of its table, each step with its list, for each joined column of another entry. Each of
-/// these rows is paired with a row of the other entry (SafeBound, SIGMOD 2023: the statistics of a dimension's filters for the columns of a fact
+/// Gathers the steps of an entry's own conjuncts over chosen rows of its table. For each joined column of another entry, each step has a list. Each
+/// of these rows is paired with a row of the other entry (SafeBound, SIGMOD 2023: the statistics of a dimension's filters for the columns of a fact
 /// table).
 ///
 /// `parts` is what `split` gives for the query. Only cells of the columns that are asked for are copied. If the other entry's rows are all rows of
-/// its table in ascending order, the lists of all rows are taken from `other_stats`, if they are there.
+/// its table in ascending order, its lists of all rows are taken from `other_stats`, where that has them.
 pub fn gather_paired(
     alloc: Global,
     query: &Query,

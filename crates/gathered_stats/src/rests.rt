@@ -8,14 +8,14 @@ use base_io::NoMemory;
 use cond_stats::FilterColumn;
 use piece_math::Pieces;
 
-/// The rest list of a filter column. `column` is the column's number in its table.
+/// The rest list of the filter column with number `column`.
 #[derive(Drop)]
 pub(crate) struct RestList {
     pub column: u32,
     pub list: Pieces,
 }
 
-/// The rest list of a filter column, if it is kept.
+/// The kept rest list of a filter column, if there is one.
 pub(crate) fn find_rest<'b>(rests: &'b [RestList], column: u32) -> Option<&'b Pieces>
     ensures there { is_some result ≡ is_kept rests.now column }
     ensures list { IfSome result (λ list. (table : EntryTable) (keys : List ℕ) → All (IsRestOf table keys) rests.now

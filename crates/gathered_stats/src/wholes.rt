@@ -1,4 +1,4 @@
-//! Finds the list of all rows of a column, if it was already made for a step of the column's entry.
+//! Finds the list of all rows of a column, if a step of the column's entry already has it.
 ghost use Rattle.std.specs.Prelude.{◌≡◌, ℕ, All, List, Some, map, slice_get, IfSome};
 ghost use Rattle.cond_stats.specs.Lists.{compressed_degrees};
 ghost use Rattle.csv_tables.specs.declared.types.Cells.{Cells};
@@ -8,7 +8,7 @@ ghost use Rattle.predicate_bounds.specs.ListRuns.{with_list};
 ghost use Rattle.gathered_stats.specs.Asked.{AreStepsOf};
 ghost use Rattle.gathered_stats.specs.Columns.{KeysHaveLists, keys_in};
 
-use crate::lists::is_whole;
+use crate::lists::asks_for_all_rows;
 use piece_math::Pieces;
 use predicate_bounds::{ColumnSteps, EntryStats, ListStep, Step};
 
@@ -21,7 +21,7 @@ fn list_at(gathered: &ColumnSteps, at: usize) -> Option<&Pieces>
     }
     match gathered.steps.get(at) {
         ListStep::List(list) => Some(list),
-        ListStep::And | ListStep::Nothing | ListStep::Or => None,
+        ListStep::And | ListStep::NoRows | ListStep::Or => None,
     }
 }
 
@@ -30,7 +30,7 @@ fn whole_among<'a>(steps: &[Step], gathered: &'a ColumnSteps) -> Option<&'a Piec
     ensures { IfSome result (λ list. (lists : ColumnLists) → gathered.now.steps ≡ map (with_list lists) steps.now → list.now ≡ lists.whole) }
 {
     for (at, step) in steps.iter().enumerate() {
-        if is_whole(step) {
+        if asks_for_all_rows(step) {
             return list_at(gathered, at);
         }
     }

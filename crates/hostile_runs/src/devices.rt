@@ -35,7 +35,7 @@ struct Failing {
     notes: u64,
 }
 
-const SOUND: Failing = Failing {
+const NO_CALL_FAILS: Failing = Failing {
     store: 0,
     out: 0,
     notes: 0,
@@ -67,7 +67,7 @@ fn sink(alloc: Global, failing: u64) -> Result<MemSink, NoMemory> {
     MemSink::new(alloc, 1000, Seq::one(alloc, failing)?)
 }
 
-// The code of a run over these devices.
+// The exit status of a run over these devices.
 fn code<S: Store, O: Sink, N: Sink>(
     alloc: Global,
     store: &mut S,
@@ -128,13 +128,20 @@ fn answer(alloc: Global, ran: &Ran) -> Result<Vec<u8>, NoMemory> {
     Ok(answer)
 }
 
-// The answers while the store fails at its first call, then at its second, and so on, until a run is done. Of equal
-// answers that follow each other only the first is kept.
+// The answers while the store fails at its first call, then at its second, and so on, until a run is done. If equal answers follow each other,
+// only the first is kept.
 fn read_answers(alloc: Global, slowly: bool) -> Result<Vec<u8>, NoMemory> {
     let mut told = Vec::new(alloc);
     let mut last = Vec::new(alloc);
     for k in 1u64..1000 {
-        let ran = run(alloc, slowly, Failing { store: k, ..SOUND })?;
+        let ran = run(
+            alloc,
+            slowly,
+            Failing {
+                store: k,
+                ..NO_CALL_FAILS
+            },
+        )?;
         let answer = answer(alloc, &ran)?;
         if answer.as_slice() != last.as_slice() {
             told.extend_from_slice(answer.as_slice())?;
@@ -151,7 +158,7 @@ fn read_answers(alloc: Global, slowly: bool) -> Result<Vec<u8>, NoMemory> {
 #[test]
 fn each_file_is_read_once(rt: HostRuntime) -> Result<(), Fail> {
     for (slowly, calls) in [(false, 8), (true, 152)] {
-        let ran = run(rt.alloc(), slowly, SOUND)?;
+        let ran = run(rt.alloc(), slowly, NO_CALL_FAILS)?;
         assert_eq!(rt; ran.calls, calls, "slowly: {slowly}");
     }
     Ok(())
@@ -190,7 +197,14 @@ fn is_plan_cut(ran: &Ran, slowly: bool, k: u64) -> bool {
 // Calls of `out` fail one after another, until a run is done. Tells whether each run before this run is cut, and whether there is such a run.
 fn rows_are_cut(alloc: Global, slowly: bool) -> Result<bool, NoMemory> {
     for k in 1u64..1000 {
-        let ran = run(alloc, slowly, Failing { out: k, ..SOUND })?;
+        let ran = run(
+            alloc,
+            slowly,
+            Failing {
+                out: k,
+                ..NO_CALL_FAILS
+            },
+        )?;
         if is_done(&ran) {
             return Ok(k > 1);
         }
@@ -204,7 +218,14 @@ fn rows_are_cut(alloc: Global, slowly: bool) -> Result<bool, NoMemory> {
 // As `rows_are_cut`, for calls of `notes`: a run in which one fails has written the beginning of the plan.
 fn plans_are_cut(alloc: Global, slowly: bool) -> Result<bool, NoMemory> {
     for k in 1u64..1000 {
-        let ran = run(alloc, slowly, Failing { notes: k, ..SOUND })?;
+        let ran = run(
+            alloc,
+            slowly,
+            Failing {
+                notes: k,
+                ..NO_CALL_FAILS
+            },
+        )?;
         if is_done(&ran) {
             return Ok(k > 1);
         }

@@ -1,4 +1,4 @@
--- These lemmas compute `equality_of` for each form of a condition. Only a comparison by = of columns of two entries is an equality.
+-- These lemmas compute `equality_of` for each form of a condition. It gives an equality only for a comparison by = of columns of two entries.
 use Rattle.std.proofs.Common.{◌≡◌, ◌≢◌, ℕ, List, Option, Some, None, refl, ap, sym, ◌∙◌}
 use Rattle.std.proofs.lemmas.Bool.{eq-eqb, ne_eqb}
 use Rattle.berge_tree.specs.Testing.{edge_of}

@@ -1,4 +1,4 @@
--- Two definitions of kept equalities agree: by which entries are connected, and by names of parts.
+-- Two definitions of kept equalities agree. The first uses connected entries, and the second names of components.
 use Rattle.std.proofs.Common.{◌≡◌, ◌⊎◌, ℕ, Bool, true, false, eqb, List, [], ◌∷◌, refl, ap, sym, ◌∙◌, inl, inr}
 use Rattle.std.specs.List.{AllByRecursion}
 use Rattle.std.proofs.lemmas.Bool.{cases_Bool, eqb-true, eqb-false, eq-eqb}
@@ -10,11 +10,11 @@ use Rattle.berge_tree.proofs.Tested.{joined_same, joined_ends}
 use Rattle.join_graph.specs.Kept.{AreConnected, KeepsAfter, at_end, keeps, leaves_out, kept_by_names}
 
 -- two entries have the same name exactly if the equalities of `earlier` connect them
-pub record Tell (name : ℕ → ℕ) (earlier : List Edge) : Type 0 where
+pub record NamesTellComponents (name : ℕ → ℕ) (earlier : List Edge) : Type 0 where
   pub along : AllByRecursion (λ e. name e.left.entry ≡ name e.right.entry) earlier
   pub parts : (side : ℕ → Bool) → AllByRecursion (λ e. side e.left.entry ≡ side e.right.entry) earlier → (x : ℕ) → side (name x) ≡ side x
 
-pub own_components : Tell (λ x. x) []
+pub own_components : NamesTellComponents (λ x. x) []
 own_components = record { along = tt; parts = λ side all x. refl }
 
 -- ---- the names after one more equality
@@ -30,7 +30,7 @@ joined_along : (name : ℕ → ℕ) (a b : ℕ) (es : List Edge) → AllByRecurs
 joined_along name a b [] h = tt
 joined_along name a b (e ∷ es) h = (joined_same name a b e.left.entry e.right.entry h.0, joined_along name a b es h.1)
 
-pub join_names : (name : ℕ → ℕ) (earlier : List Edge) (e : Edge) → Tell name earlier → Tell (merged_components name e.left.entry e.right.entry) (e ∷ earlier)
+pub join_names : (name : ℕ → ℕ) (earlier : List Edge) (e : Edge) → NamesTellComponents name earlier → NamesTellComponents (merged_components name e.left.entry e.right.entry) (e ∷ earlier)
 join_names name earlier e tell = record {
   along = (joined_ends name e.left.entry e.right.entry, joined_along name e.left.entry e.right.entry earlier tell.along);
   parts = λ side all x. elim (cases_Bool (eqb (name x) (name e.right.entry))) [
@@ -42,7 +42,7 @@ join_names name earlier e tell = record {
 
 -- ---- entries with the same name are connected, and entries with different names are apart
 
-connects : (name : ℕ → ℕ) (earlier : List Edge) (a b : ℕ) → Tell name earlier → name a ≡ name b → AreConnected earlier a b
+connects : (name : ℕ → ℕ) (earlier : List Edge) (a b : ℕ) → NamesTellComponents name earlier → name a ≡ name b → AreConnected earlier a b
 connects name earlier a b tell is side all = sym (tell.parts side all a) ∙ ap side is ∙ tell.parts side all b
 
 tests_along : (name : ℕ → ℕ) (a : ℕ) (es : List Edge) → AllByRecursion (λ e. name e.left.entry ≡ name e.right.entry) es
@@ -50,20 +50,20 @@ tests_along : (name : ℕ → ℕ) (a : ℕ) (es : List Edge) → AllByRecursion
 tests_along name a [] h = tt
 tests_along name a (e ∷ es) h = (ap (λ n. eqb n (name a)) h.0, tests_along name a es h.1)
 
-connected_names : (name : ℕ → ℕ) (earlier : List Edge) (a b : ℕ) → Tell name earlier → AreConnected earlier a b → eqb (name a) (name b) ≡ true
+connected_names : (name : ℕ → ℕ) (earlier : List Edge) (a b : ℕ) → NamesTellComponents name earlier → AreConnected earlier a b → eqb (name a) (name b) ≡ true
 connected_names name earlier a b tell connected =
     let same : eqb (name a) (name a) ≡ eqb (name b) (name a) = connected (λ x. eqb (name x) (name a)) (tests_along name a earlier tell.along) in
     eq-eqb (name a) (name b) (sym (eqb-true (name b) (name a) (sym same ∙ eq-eqb (name a) (name a) refl)))
 
-apart_names : (name : ℕ → ℕ) (earlier : List Edge) (a b : ℕ) → Tell name earlier → AreApart earlier a b → eqb (name a) (name b) ≡ false
+apart_names : (name : ℕ → ℕ) (earlier : List Edge) (a b : ℕ) → NamesTellComponents name earlier → AreApart earlier a b → eqb (name a) (name b) ≡ false
 apart_names name earlier a b tell apart = elim (cases_Bool (eqb (name a) (name b))) [
   | inl t ↦ absurd (apart.across (connects name earlier a b tell (eqb-true (name a) (name b) t) apart.side apart.together))
   | inr n ↦ n
 ]
 
--- ---- the equalities that are computed by names are the kept ones
+-- ---- the equalities that are computed by names are the kept equalities
 
-pub keeps_computed : (name : ℕ → ℕ) (earlier es : List Edge) → Tell name earlier → KeepsAfter earlier es (kept_by_names name es)
+pub keeps_computed : (name : ℕ → ℕ) (earlier es : List Edge) → NamesTellComponents name earlier → KeepsAfter earlier es (kept_by_names name es)
 keeps_computed name earlier [] tell = at_end earlier
 keeps_computed name earlier (e ∷ es) tell = elim (cases_Bool (eqb (name e.left.entry) (name e.right.entry))) [
   | inl t ↦ rw t (leaves_out earlier e es (kept_by_names name es) (connects name earlier e.left.entry e.right.entry tell (eqb-true (name e.left.entry) (name e.right.entry) t))
@@ -73,14 +73,14 @@ keeps_computed name earlier (e ∷ es) tell = elim (cases_Bool (eqb (name e.left
       (keeps_computed (merged_components name e.left.entry e.right.entry) (e ∷ earlier) es (join_names name earlier e tell)))
 ]
 
-pub one_kept : {earlier es kept : List Edge} → KeepsAfter earlier es kept → (name : ℕ → ℕ) → Tell name earlier → kept ≡ kept_by_names name es
+pub one_kept : {earlier es kept : List Edge} → KeepsAfter earlier es kept → (name : ℕ → ℕ) → NamesTellComponents name earlier → kept ≡ kept_by_names name es
 one_kept (at_end earlier) name tell = refl
 one_kept (keeps earlier e es kept apart more) name tell =
     rw (apart_names name earlier e.left.entry e.right.entry tell apart)
     (ap (λ s. e ∷ s) (one_kept more (merged_components name e.left.entry e.right.entry) (join_names name earlier e tell)))
 one_kept (leaves_out earlier e es kept connected more) name tell = rw (connected_names name earlier e.left.entry e.right.entry tell connected) (one_kept more name tell)
 
--- ---- each kept equality joins two parts
+-- ---- each kept equality joins two components
 
 pub kept_joins : (name : ℕ → ℕ) (es : List Edge) → joins_parts name (kept_by_names name es) ≡ true
 kept_joins name [] = refl
@@ -95,7 +95,7 @@ abbrev parts_of : List Edge → ℕ → ℕ
 parts_of [] = λ x. x
 parts_of (e ∷ es) = merged_components (parts_of es) e.left.entry e.right.entry
 
-parts_tell : (es : List Edge) → Tell (parts_of es) es
+parts_tell : (es : List Edge) → NamesTellComponents (parts_of es) es
 parts_tell [] = own_components
 parts_tell (e ∷ es) = join_names (parts_of es) es e (parts_tell es)
 

@@ -1,5 +1,4 @@
--- `EntriesNamed` says in short what a list of entries names: no entry, just one, or several. These lemmas compute it for lists that are appended, and for
--- equalities.
+-- `EntriesNamed` says whether a list of entries has no entry, just one, or several. These lemmas compute it for appended lists and for equalities.
 use Rattle.std.proofs.Common.{◌≡◌, ℕ, ◌+◌, ◌<◌, Bool, true, false, ◌&&◌, eqb, List, [], ◌∷◌, ◌++◌, map, length, get_or, drop, Some, None, refl, ap, sym, ◌∙◌, subst, inl, inr}
 use Rattle.std.specs.List.{flat_map, list_all}
 use Rattle.std.proofs.lemmas.Bool.{cases_Bool, eqb-true, eqb-false, eq-eqb, ne_eqb}
@@ -44,7 +43,7 @@ pub named_of-append : (xs ys : List ℕ) → named_of (xs ++ ys) ≡ together (n
 named_of-append [] ys = refl
 named_of-append (x ∷ xs) ys = ap (together (named.OneEntry x)) (named_of-append xs ys) ∙ sym (assoc (named.OneEntry x) (named_of xs) (named_of ys))
 
--- This is the step of the loop over the members of AND or OR. `names` is what the members before i name.
+-- one step of the loop over the members of AND or OR. `names` is for the members before i
 pub member_more : (members : List Cond) (i : ℕ) (d : Cond) (names more one : EntriesNamed) → i < length members → one ≡ named_of (entries_named (get_or members i d)) → more ≡ together names one
     → together names (named_of (flat_map (λ inner. inner) (map entries_named (drop i members)))) ≡ named_of (flat_map (λ inner. inner) (map entries_named members))
     → together more (named_of (flat_map (λ inner. inner) (map entries_named (drop (i + 1) members)))) ≡ named_of (flat_map (λ inner. inner) (map entries_named members))

@@ -1,4 +1,4 @@
--- The test `is_same_part` picks the own conjuncts of one entry, or the residual ones: their numbers are those that `local_of` and `residual_of` list.
+-- The test `is_same_part` picks the own conjuncts of one entry, or the residual conjuncts. Their numbers are those in `local_of` and `residual_of`.
 -- `edge_in` picks the equalities.
 use Rattle.std.proofs.Common.{◌≡◌, ℕ, suc, ◌+◌, ◌-◌, ◌<◌, Bool, not, ◌&&◌, cond, List, [], ◌∷◌, ◌++◌, map, length, Option, Some, None, is_none, refl, ap, sym, ◌∙◌, arith}
 use Rattle.std.specs.List.{filter_map, range_with_len}
@@ -18,7 +18,7 @@ use Rattle.join_graph.proofs.NamedEntries.{tells_just, tells_one, just_named, on
 range_front : (entry entries : ℕ) → entry < entries → range_with_len entry (entries - entry) ≡ entry ∷ range_with_len (entry + 1) (entries - (entry + 1))
 range_front entry entries h = let e : entries - entry ≡ suc (entries - (entry + 1)) = omega arith in rw e refl
 
--- this is the step of the loop over entries
+-- one step of the loop over entries
 pub entry_more : (f : ℕ → List ℕ) (entry entries : ℕ) (lists longer : List (List ℕ)) (one : List ℕ) → entry < entries → one ≡ f entry → longer ≡ lists ++ one ∷ []
     → lists ++ map f (range_with_len entry (entries - entry)) ≡ map f (range_with_len 0 entries)
     → longer ++ map f (range_with_len (entry + 1) (entries - (entry + 1))) ≡ map f (range_with_len 0 entries)
@@ -33,7 +33,7 @@ numbers_where-map test f test' same first (x ∷ xs) =
     ap (λ b. cond b (first ∷ numbers_where test (first + 1) (map f xs)) (numbers_where test (first + 1) (map f xs))) (same x)
     ∙ ap (λ ns. cond (test' x) (first ∷ ns) ns) (numbers_where-map test f test' same (first + 1) xs)
 
--- ---- the test `is_same_part` picks the own conjuncts of an entry, or the residual ones
+-- ---- the test `is_same_part` picks the own conjuncts of an entry, or the residual conjuncts
 
 alike_local : (entry : ℕ) (equality : Option Edge) (n : EntriesNamed) → ((edge : Edge) → equality ≡ Some edge → n ≡ named.Several) → is_same_part (part.Local entry) (part_from equality n) ≡ tells_just entry n
 alike_local entry (Some edge) n several = rw (several edge refl) refl

@@ -1,4 +1,4 @@
--- Each conjunct is in exactly one part: the own conjuncts of one entry, the equalities, or the rest.
+-- Each conjunct is in exactly one part: the own conjuncts of one entry, the equalities, or the residual conjuncts.
 use Rattle.std.proofs.Common.{◌≡◌, ◌≢◌, ℕ, zero, suc, ◌+◌, ◌<◌, ◌≤◌, Bool, false, not, ◌&&◌, cond, eqb, List, [], ◌∷◌, length, Option, Some, None, is_none, is_some, refl, ap, ◌∙◌, inl, inr, arith}
 use Rattle.std.specs.List.{All, filter, range_with_len}
 use Rattle.std.proofs.lemmas.Bool.{cases_Bool, eqb-true, eqb-false, ne_eqb}
@@ -32,7 +32,7 @@ filter_one own from (suc n) h l = elim (cases_Bool (eqb own from)) [
   | inr f ↦ (let ne : own ≢ from = eqb-false own from f in rw f (filter_one own (from + 1) n (omega arith) (omega arith)))
 ]
 
--- the conjunct is given by its equality, if it is one, and by what it names (`EntriesNamed`)
+-- the conjunct is given by its equality, if it has one, and by the entries that it names (`EntriesNamed`)
 in_one_part : (entries : ℕ) (equality : Option Edge) (n : EntriesNamed) → ((edge : Edge) → equality ≡ Some edge → n ≡ named.Several) → ((own : ℕ) → n ≡ named.OneEntry own → own < entries)
     → once_if (is_some equality) + length (filter (λ e. tells_just e n) (range_with_len 0 entries)) + once_if (is_none equality && not (tells_one n)) ≡ 1
 in_one_part entries (Some edge) n several below = rw (several edge refl, filter_none (range_with_len 0 entries)) refl

@@ -1,11 +1,12 @@
--- A turn goes through the equalities of a set in text order: it begins at one of them, and goes on with the first after the last. These lemmas say
--- where it begins, and what is true of each equality in it.
+-- A turn goes through the equalities of a set in text order. It begins at one of them, and after the last it continues with the first. These lemmas
+-- say where it begins, and carry properties of equalities over to those of the turn.
 use Rattle.std.proofs.Common.{◌≡◌, ℕ, zero, suc, ◌<◌, true, eqb, List, [], ◌∷◌, ◌++◌, length, take, drop, refl, ap, sym, ◌∙◌, inl, inr}
 use Rattle.std.specs.List.{AllByRecursion}
 use Rattle.std.proofs.lemmas.Bool.{cases_Bool, ltb-true, and_parts}
 use Rattle.std.proofs.lemmas.List.{take-append-drop}
 use Rattle.std.proofs.lemmas.List.Elements.{filter-append}
 use Rattle.std.proofs.Math.Seq.{take-append_seam, drop-append_seam}
+use Rattle.limits.specs.Profile.{greatest_entries}
 use Rattle.berge_tree.specs.declared.edges.Edge.{Edge}
 use Rattle.berge_tree.specs.Equalities.{AreWithin}
 use Rattle.entry_sets.specs.Sets.{entries_of_set, has_entry}
@@ -14,7 +15,7 @@ use Rattle.berge_tree.proofs.Tested.{has_within}
 use Rattle.join_graph.specs.Kept.{joins_within, equalities_within, order_of_turn, kept_by_names, kept_of}
 use Rattle.join_graph.specs.Names.{HasEntriesBelow16, HaveEntriesBelow16}
 
--- ---- what is true of each equality of a set
+-- ---- a property of each equality of a set, carried over to the order of a turn
 
 abbrev AreJoining : ℕ → List Edge → Type 0
 AreJoining subset es = AllByRecursion (λ e. joins_within subset e ≡ true) es
@@ -63,8 +64,8 @@ joining_named subset e t =
     let k : (has_entry subset e.left.entry ≡ true) × (has_entry subset e.right.entry ≡ true) = and_parts (has_entry subset e.left.entry) (has_entry subset e.right.entry) t in
     (entry_named e.left.entry k.0, entry_named e.right.entry k.1)
   where
-    entry_named : (x : ℕ) → has_entry subset x ≡ true → x < 16
-    entry_named x t = ltb-true x 16 (and_parts _ _ t).0
+    entry_named : (x : ℕ) → has_entry subset x ≡ true → x < greatest_entries
+    entry_named x t = ltb-true x greatest_entries (and_parts _ _ t).0
 
 pub is_named : (subset : ℕ) (e : Edge) → joins_within subset e ≡ true → HasEntriesBelow16 e
 is_named = joining_named
@@ -76,7 +77,7 @@ are_named subset es = names (equalities_within subset es) (filter_all subset es)
     names [] h = tt
     names (e ∷ es) h = (joining_named subset e h.0, names es h.1)
 
--- if `turn` equalities of the set come before index i, then the turn begins at index i
+-- if exactly `turn` equalities of the set come before index i, the turn begins at index i
 pub turn_begins : (subset turn i : ℕ) (es : List Edge) → turn ≡ length (equalities_within subset (take i es))
     → (equalities_within subset (take i es) ≡ take turn (equalities_within subset es)) × (equalities_within subset (drop i es) ≡ drop turn (equalities_within subset es))
 turn_begins subset turn i es is =

@@ -1,4 +1,4 @@
--- The conjuncts of a query in parts: those that name one entry, the equalities that join two, and all others.
+-- The conjuncts of a query, in parts: those that name one entry, the equalities that join two entries, and all others.
 use Rattle.std.specs.Prelude.{ℕ, ◌+◌, Bool, false, not, ◌&&◌, ◌==◌, if◌then◌else◌, List, [], ◌∷◌, map, length, Option, Some, None, is_none, is_some, filter}
 use Rattle.std.specs.List.{filter_map, list_all, range_with_len}
 use Rattle.entry_sets.specs.Naming.{is_only_named}
@@ -15,7 +15,7 @@ use Rattle.query_types.specs.declared.types.Cond.TheViews.{out-Cond}
 use Rattle.query_types.specs.Named.{entries_named}
 use Rattle.query_types.specs.declared.types.Query.{Query}
 
--- ---- which conjunct is in which part
+-- ---- the part of a conjunct
 
 -- the condition names this entry and no other entry
 abbrev pub names_just : ℕ → Cond → Bool
@@ -29,7 +29,7 @@ column_of (operand.Column column) = Some column
 column_of (operand.Int number) = None
 column_of (operand.Text text) = None
 
--- the equality of two columns, if both are there and their entries differ
+-- the equality of two columns, if both exist and their entries differ
 abbrev pub joining : Option ColumnRef → Option ColumnRef → Option Edge
 joining None right = None
 joining (Some left) None = None
@@ -54,12 +54,12 @@ equality_in (Cond-F.Compare op left right) = compared op (column_of left) (colum
 abbrev pub equality_of : Cond → Option Edge
 equality_of cond = equality_in (out-Cond cond)
 
--- the list has just one entry, which it may have more than once
+-- whether the list has just one entry, which it may have several times
 abbrev pub have_one_entry : List ℕ → Bool
 have_one_entry [] = false
 have_one_entry (entry ∷ entries) = list_all (λ e. e == entry) entries
 
--- the condition isn't an equality of two entries, and it names no entry or several
+-- whether the condition is residual: it isn't an equality of two entries, and it names no entry or several
 abbrev pub is_residual : Cond → Bool
 is_residual cond = is_none (equality_of cond) && not (have_one_entry (entries_named cond))
 
@@ -68,13 +68,14 @@ is_residual cond = is_none (equality_of cond) && not (have_one_entry (entries_na
 abbrev pub once_if : Bool → ℕ
 once_if holds = if holds then 1 else 0
 
--- in how many parts a condition is: the equalities, the part of each FROM entry (there are `entries` of them), and the others
+-- how many parts have a condition. The parts are the equalities, the own conjuncts of each of the FROM entries (there are `entries` of them), and the
+-- residual conjuncts
 abbrev pub count_of_parts : ℕ → Cond → ℕ
 count_of_parts entries cond =
     once_if (is_some (equality_of cond)) + length (filter (λ entry. names_just entry cond) (range_with_len 0 entries))
     + once_if (is_residual cond)
 
--- the numbers of the elements that pass the test, where the list's elements are numbered from `first` on
+-- the numbers of the elements that pass the test. The list's elements are numbered from `first`
 abbrev pub numbers_where : {A : Type 0} → (A → Bool) → ℕ → List A → List ℕ
 numbers_where test first [] = []
 numbers_where test first (x ∷ xs) = if test x then first ∷ numbers_where test (first + 1) xs else numbers_where test (first + 1) xs
@@ -87,6 +88,6 @@ local_of query = map (λ entry. numbers_where (names_just entry) 0 query.conjunc
 abbrev pub equalities_of : Query → List Edge
 equalities_of query = filter_map equality_of query.conjuncts
 
--- the numbers of all other conjuncts
+-- the numbers of the residual conjuncts
 abbrev pub residual_of : Query → List ℕ
 residual_of query = numbers_where is_residual 0 query.conjuncts

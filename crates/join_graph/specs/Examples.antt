@@ -1,9 +1,9 @@
--- Equalities of worked examples. Entries are numbered in FROM order, columns in the order of their table.
+-- Equalities for examples. Entries are numbered in FROM order, and columns in the order of their table.
 use Rattle.std.specs.Prelude.{List, [], ◌∷◌, replicate}
 use Rattle.berge_tree.specs.declared.edges.Edge.{Edge}
 use Rattle.berge_tree.specs.Testing.{edge_of}
 
--- R(A, C), S(A, B) and T(B, C), where R.A = S.A, S.B = T.B and T.C = R.C
+-- the triangle: R(A, C), S(A, B) and T(B, C), where R.A = S.A, S.B = T.B and T.C = R.C
 abbrev pub first_side : Edge
 first_side = edge_of 0 0 1 0
 

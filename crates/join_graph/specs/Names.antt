@@ -1,10 +1,11 @@
--- Equalities whose entries have numbers below 16, so that a list of sixteen names has a name for each.
+-- Equalities whose entries have numbers below `greatest_entries`. A list of `greatest_entries` names has a name for each of these entries.
 use Rattle.std.specs.Prelude.{◌<◌, List}
 use Rattle.std.specs.List.{AllByRecursion}
+use Rattle.limits.specs.Profile.{greatest_entries}
 use Rattle.berge_tree.specs.declared.edges.Edge.{Edge}
 
 abbrev pub HasEntriesBelow16 : Edge → Type 0
-HasEntriesBelow16 e = (e.left.entry < 16) × (e.right.entry < 16)
+HasEntriesBelow16 e = (e.left.entry < greatest_entries) × (e.right.entry < greatest_entries)
 
 abbrev pub HaveEntriesBelow16 : List Edge → Type 0
 HaveEntriesBelow16 es = AllByRecursion HasEntriesBelow16 es

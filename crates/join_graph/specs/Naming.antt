@@ -1,4 +1,4 @@
--- Which entries a list names, in short: no entry, just one entry, or several.
+-- Whether a list of entries has no entry, just one entry, or several.
 use Rattle.std.specs.Prelude.{ℕ, Bool, true, false, ◌==◌, if◌then◌else◌, List, [], ◌∷◌, Option, Some, None}
 use Rattle.berge_tree.specs.declared.edges.Edge.{Edge}
 use Rattle.query_types.specs.declared.types.Cond.{Cond}
@@ -9,7 +9,7 @@ use Rattle.join_graph.specs.declared.splitting.Part.TheVariants as part
 use Rattle.join_graph.specs.Conjuncts.{equality_of}
 use Rattle.query_types.specs.Named.{entries_named}
 
--- what two lists name together
+-- the entries that two lists name together
 abbrev pub together : EntriesNamed → EntriesNamed → EntriesNamed
 together named.NoEntry right = right
 together (named.OneEntry a) named.NoEntry = named.OneEntry a
@@ -27,11 +27,11 @@ part_from None named.NoEntry = part.Residual
 part_from None (named.OneEntry entry) = part.Local entry
 part_from None named.Several = part.Residual
 
--- the part in which a conjunct is
+-- the part of a conjunct
 abbrev pub part_of : Cond → Part
 part_of cond = part_from (equality_of cond) (named_of (entries_named cond))
 
--- both are the own conjuncts of the same entry, or both are the residual part
+-- whether both are the own conjuncts of the same entry, or both are the residual part
 abbrev pub is_same_part : Part → Part → Bool
 is_same_part (part.Local a) (part.Local b) = b == a
 is_same_part part.Residual part.Residual = true

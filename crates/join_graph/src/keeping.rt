@@ -1,5 +1,6 @@
 //! Finds the equalities that a set of entries keeps in a turn.
 ghost use Rattle.std.specs.Prelude.{◌≡◌, ◌<◌, ◌≤◌, ◌++◌, ◌∷◌, List, take, drop, length, slice_index, IfOk, ℕ};
+ghost use Rattle.limits.specs.Profile.{greatest_entries};
 ghost use Rattle.berge_tree.specs.declared.edges.Edge.{Edge};
 ghost use Rattle.berge_tree.specs.Equalities.{AreWithin, ClosesNoCycle, HasNoCycle, class_of};
 ghost use Rattle.entry_sets.specs.Sets.{entries_of_set};
@@ -11,20 +12,17 @@ use crate::parts::Parts;
 use base_io::{NoMemory, Seq};
 use berge_tree::Edge;
 use entry_sets::EntrySet;
+use limits::{GREATEST_ENTRIES, MOST_TURNS};
 use std::alloc::Global;
 
-const ENTRIES: usize = 16;
-
-const MOST_TURNS: usize = 16;
-
-/// Whether an equality joins two entries of a set. It takes no memory.
+/// Whether an equality joins two entries of a set. The call takes no memory.
 pub fn joins_within(subset: EntrySet, edge: Edge) -> bool
     ensures { result ≡ joins_within subset edge }
 {
     subset.has(edge.left.entry) && subset.has(edge.right.entry)
 }
 
-/// How many equalities join two entries of a set. It takes no memory.
+/// How many equalities join two entries of a set. The call takes no memory.
 pub fn count_within(edges: &[Edge], subset: EntrySet) -> usize
     ensures { result ≡ length (equalities_within subset edges.now) }
 {
@@ -34,7 +32,7 @@ pub fn count_within(edges: &[Edge], subset: EntrySet) -> usize
         .count()
 }
 
-/// How many turns a set has: one for each equality that joins two of its entries, but at least 1 and at most 16. It takes no memory.
+/// How many turns a set has: one for each equality that joins two of its entries, but at least 1 and at most `MOST_TURNS`. The call takes no memory.
 pub fn turns(parts: &Parts, subset: EntrySet) -> u32
     ensures { result ≡ turn_count subset parts.now.equalities }
 {
@@ -42,8 +40,8 @@ pub fn turns(parts: &Parts, subset: EntrySet) -> u32
     count.min(MOST_TURNS).max(1) as u32
 }
 
-// The index in `edges` of the set's equality number `turn`. The set's equalities are those that join two of its entries, counted from 0. If there
-// are `turn` of them or fewer, the result is the length of `edges`.
+// The index in `edges` of the set's equality number `turn`. The set's equalities are those that join two of its entries, numbered from 0. If the set
+// has no equality with this number, the result is the length of `edges`.
 fn first_of_turn(edges: &[Edge], subset: EntrySet, turn: u32) -> usize
     ensures place { result ≤ length edges.now }
     ensures before { equalities_within subset (take result edges.now) ≡ take turn (equalities_within subset edges.now) }
@@ -61,20 +59,20 @@ fn first_of_turn(edges: &[Edge], subset: EntrySet, turn: u32) -> usize
     edges.len()
 }
 
-// The names of parts before any equality is kept. A part has the entries that kept equalities connect (a connected component): at first each entry
-// is a part of its own, named by the entry's number.
-fn own_components() -> [u8; ENTRIES]
-    ensures { (x : ℕ) → x < 16 → slice_index result x ≡ x }
+// The names of components before any equality is kept. A component has the entries that kept equalities connect. At first each entry is a component
+// of its own, named by the entry's number.
+fn own_components() -> [u8; GREATEST_ENTRIES]
+    ensures { (x : ℕ) → x < greatest_entries → slice_index result x ≡ x }
 {
     [0, 1, 2, 3, 4, 5, 6, 7, 8, 9, 10, 11, 12, 13, 14, 15]
 }
 
-// Joins the parts of two entries: the right entry's part takes the name of the left entry's part.
+// Joins the components of two entries: the right entry's component takes the name of the left entry's component.
 fn merge_components(names: &mut [u8], left: u8, right: u8)
-    requires names { length names.old ≡ 16 }
-    requires left { left < 16 }
-    requires right { right < 16 }
-    ensures { (x : ℕ) → x < 16 → slice_index names.new x ≡ merged_components (slice_index names.old) left right x }
+    requires names { length names.old ≡ greatest_entries }
+    requires left { left < greatest_entries }
+    requires right { right < greatest_entries }
+    ensures { (x : ℕ) → x < greatest_entries → slice_index names.new x ≡ merged_components (slice_index names.old) left right x }
 {
     let new = names[left as usize];
     let old = names[right as usize];
@@ -85,9 +83,9 @@ fn merge_components(names: &mut [u8], left: u8, right: u8)
     }
 }
 
-// Keeps an equality if its two entries are in different parts, and joins these two parts.
+// Keeps an equality if its two entries are in different components, and joins these components.
 fn consider(edge: Edge, names: &mut [u8], kept: &mut Seq<Edge>) -> Result<(), NoMemory>
-    requires names { length names.old ≡ 16 }
+    requires names { length names.old ≡ greatest_entries }
     requires edge { HasEntriesBelow16 edge }
     ensures { IfOk result (λ _. (rest : List Edge) → HaveEntriesBelow16 rest
         → kept.new ++ kept_by_names (slice_index names.new) rest ≡ kept.old ++ kept_by_names (slice_index names.old) (edge ∷ rest)) }
@@ -99,14 +97,14 @@ fn consider(edge: Edge, names: &mut [u8], kept: &mut Seq<Edge>) -> Result<(), No
     Ok(())
 }
 
-// Goes through equalities, and keeps each equality of the set whose two entries are in different parts.
+// Goes through equalities, and keeps each equality of the set whose two entries are in different components.
 fn consider_all(
     edges: &[Edge],
     subset: EntrySet,
     names: &mut [u8],
     kept: &mut Seq<Edge>,
 ) -> Result<(), NoMemory>
-    requires names { length names.old ≡ 16 }
+    requires names { length names.old ≡ greatest_entries }
     ensures { IfOk result (λ _. (rest : List Edge) → HaveEntriesBelow16 rest
         → kept.new ++ kept_by_names (slice_index names.new) rest
         ≡ kept.old ++ kept_by_names (slice_index names.old) (equalities_within subset edges.now ++ rest)) }
@@ -119,8 +117,8 @@ fn consider_all(
     Ok(())
 }
 
-/// The equalities that a set of entries keeps in a turn. The turn goes through the equalities that join two entries of the set: from number
-/// `turn` on, and then through the earlier ones. It keeps each equality whose two entries the kept equalities don't connect yet.
+/// The equalities that a set of entries keeps in a turn. The turn goes through the equalities that join two entries of the set: first from number
+/// `turn` to the last, then from number 0 to `turn` - 1. It keeps each equality whose two entries the kept equalities don't connect yet.
 ///
 /// The result may be passed to `rooted` of berge_tree, with the entries of this set.
 pub fn kept(

@@ -1,12 +1,12 @@
-//! The join graph. It finds, among the conjuncts of a query, the equalities that a set of its entries keeps for a bound.
+//! The join graph of a query: finds the equalities that a set of its entries keeps for a bound.
 //!
-//! In: a query. Out: its conjuncts in parts, by `split`; and for a set of entries and a turn the equalities that the set keeps, by `kept`.
-//! Kept equalities close no cycle, and `rooted` of berge_tree makes join trees of them. A turn goes once through the equalities of the set, in
-//! text order: it begins at one of them, and goes on with the first after the last. It keeps each equality that joins two entries which the kept
-//! equalities don't connect yet. A set has `turns` turns, numbered from 0, and each begins at another equality.
+//! `split` puts the conjuncts of a query into parts. `kept` gives the equalities that a set of entries keeps in a turn. Kept equalities close no
+//! cycle, and `rooted` of berge_tree makes join trees of them. A turn goes once through the equalities of the set, in text order. It begins at one of
+//! them, and after the last it continues with the first. It keeps each equality that joins two entries which the kept equalities don't connect yet. A
+//! set has `turns` turns, numbered from 0, and each begins at a different equality.
 //!
-//! Callers cite `local_of`, `equalities_of` and `residual_of` for the parts, `turn_count` and `kept_of` for what a set keeps, and `Keeps`
-//! for what keeping means.
+//! In contracts `local_of`, `equalities_of` and `residual_of` are the parts. `turn_count` and `kept_of` give what a set keeps, and `Keeps` defines
+//! keeping.
 #![tactic(auto)]
 
 mod keeping;

@@ -1,4 +1,4 @@
-//! Which entries a condition names.
+//! Finds whether a condition names no entry, one entry or several.
 ghost use Rattle.std.specs.Prelude.{◌≡◌, map};
 ghost use Rattle.std.specs.List.{flat_map};
 ghost use Rattle.join_graph.specs.Conjuncts.{column_of};
@@ -8,7 +8,7 @@ ghost use Rattle.join_graph.specs.declared.naming.EntriesNamed.TheVariants as na
 
 use query_types::{ColumnRef, Cond, Operand};
 
-/// Which entries a condition names, in short: no entry, just one, or several.
+/// Whether a condition names no entry, just one entry, or several entries.
 #[derive(Clone, Copy)]
 pub(crate) enum EntriesNamed {
     NoEntry,
@@ -72,7 +72,7 @@ fn named_by_all(members: &[Cond]) -> EntriesNamed
     names
 }
 
-/// Which entries a condition names, in short.
+/// Whether a condition names no entry, just one entry, or several.
 #[cycle(naming)]
 pub(crate) fn named_by(cond: &Cond) -> EntriesNamed
     ensures { result ≡ named_of (entries_named cond.now) }

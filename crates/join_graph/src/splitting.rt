@@ -13,7 +13,7 @@ use query_grammar::Op;
 use query_types::{ColumnRef, Cond, Query};
 use std::alloc::{AllocError, Global};
 
-/// The part of a conjunct: the own conjuncts of one entry, the equalities of columns of two entries, or all others.
+/// The part of a conjunct: the own conjuncts of one entry, the equalities of columns of two entries, or all other conjuncts.
 #[derive(Clone, Copy)]
 pub(crate) enum Part {
     Local(u8),
@@ -31,7 +31,7 @@ fn place_of(column: ColumnRef) -> Place
     }
 }
 
-// The equality of two columns, if their entries differ.
+// The equality of two columns, if they are columns of different entries.
 fn joining(left: ColumnRef, right: ColumnRef) -> Option<Edge>
     ensures { result ≡ joining (Some left) (Some right) }
 {
@@ -69,7 +69,7 @@ fn part_of(cond: &Cond) -> Part
     }
 }
 
-// Whether `a` and `b` are both the own conjuncts of the same entry, or both the part of all others. If one of them is an equality, the result is false.
+// Whether `a` and `b` are the own conjuncts of the same entry, or are both the residual part. If `a` or `b` is an equality, the result is false.
 fn is_same_part(a: Part, b: Part) -> bool
     ensures { result ≡ is_same_part a b }
 {
@@ -96,7 +96,7 @@ fn parts_of(alloc: Global, conjuncts: &[Cond]) -> Result<Vec<Part>, AllocError>
     conjuncts.iter().map(|cond| part_of(cond)).collect(alloc)
 }
 
-// The numbers of the conjuncts in this part, in text order. If `part` is an equality, there are no numbers.
+// The numbers of the conjuncts in this part, in text order. If `part` is an equality, the result is empty.
 fn numbers_in(alloc: Global, parts: &[Part], part: Part) -> Result<Seq<u32>, NoMemory>
     requires { length parts.now < 2 ^ 32 }
     ensures { IfOk result (λ numbers. numbers ≡ numbers_where (is_same_part part) 0 parts.now) }
@@ -141,8 +141,8 @@ fn equalities_in(alloc: Global, parts: &[Part]) -> Result<Vec<Edge>, AllocError>
         .collect(alloc)
 }
 
-/// Splits the conjuncts of a query into parts. If every entry that a conjunct names is an entry of FROM, each conjunct is in exactly one part.
-/// It fails only if there is too little memory.
+/// Splits the conjuncts of a query into parts. If conjuncts name only entries of FROM, each conjunct is in exactly one part. The call fails only if
+/// there is too little memory.
 pub fn split(alloc: Global, query: &Query) -> Result<Parts, NoMemory>
     requires entries { length query.now.from < 2 ^ 8 }
     requires conjuncts { length query.now.conjuncts < 2 ^ 32 }

@@ -1,8 +1,8 @@
 //! The bounds of the scans and of all sets.
+use crate::bounds_of_queries::{scan_bounds, subset_bounds};
 use crate::triangle::{database, query};
 use base_io::{NoMemory, Seq};
 use limits::Accuracy;
-use planning::{scan_bounds, subset_bounds};
 use std::alloc::Global;
 use std::test::Fail;
 

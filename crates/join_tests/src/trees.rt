@@ -5,10 +5,11 @@ ghost use Rattle.sql_meaning.specs.Databases.{IsDatabaseOf};
 ghost use Rattle.tree_rows.specs.Nodes.{node_at};
 ghost use Rattle.join_tests.specs.Examples.{HasNodes};
 
+use crate::leaves::reserve_leaves;
+use crate::planned_trees::plan_bushy;
 use crate::triangle::{database, query};
 use base_io::NoMemory;
-use bushy_join::{execute_bushy, reserve_leaves};
-use bushy_planning::plan_bushy;
+use bushy_join::execute_bushy;
 use csv_tables::Database;
 use join_steps::scan_all;
 use limits::{Accuracy, MOST_ROWS};

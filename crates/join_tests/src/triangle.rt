@@ -1,6 +1,6 @@
 //! Builds a query that joins three tables in a triangle, and its database; a test finds its four choices.
 //!
-//! The contracts say that both are those of the worked example in sql_meaning's specs.
+//! The contracts say that this query and this database are those of the worked example in sql_meaning's specs.
 ghost use Rattle.std.specs.Prelude.{◌≡◌, ◌∷◌, [], length, IfOk};
 ghost use Rattle.query_grammar.specs.declared.tree.Op.TheVariants as op;
 ghost use Rattle.query_types.specs.declared.types.Cond.{Compare};

@@ -4,7 +4,7 @@ use Rattle.safebound_bounds.specs.Meaning.{no_bound}
 use Rattle.joined_tables.specs.declared.joins.Join.{Join}
 use Rattle.joined_tables.specs.declared.joins.Join.TheVariants.{Anti, Full, Left, Right, Semi}
 
--- the most rows of a joined table, if the inner join has at most `inner`, the left table `left` and the right table `right`. An outer join
+-- The most rows of a joined table. The inner join has at most `inner` rows, the left table `left`, and the right table `right`. An outer join
 -- adds rows of a table to the inner join. A semi-join has a row of the left table once, however many pairs the row is in
 abbrev pub most_joined : Join → ℕ → ℕ → ℕ → ℕ
 most_joined Left inner left right = inner + left

@@ -1,20 +1,16 @@
--- The audit text is written line by line. These lemmas say which line comes next, and that the number of rows in it is the size of its level or node.
-use Rattle.std.proofs.Common.{◌≡◌, ℕ, zero, suc, ◌+◌, ◌-◌, ◌<◌, List, [], ◌∷◌, ◌++◌, drop, length, map, get_or, refl, ap, sym, ◌∙◌, arith, add-one}
+-- The audit text is written line by line. The lemmas say which line is next, and that its number of rows is the size of its level or node.
+use Rattle.std.proofs.Common.{◌≡◌, ℕ, suc, ◌+◌, ◌-◌, ◌<◌, Bool, List, ◌∷◌, ◌++◌, drop, length, get_or, refl, ap, sym, ◌∙◌, arith, add-one}
 use Rattle.std.specs.Prelude.{slice_get}
-use Rattle.std.specs.List.{range_with_len}
 use Rattle.std.proofs.Math.Seq.{drop-cons}
 use Rattle.std.proofs.lemmas.List.{get_or-drop, get_or-map, length-drop, length-map}
-use Rattle.csv_tables.specs.declared.types.Database.{Database}
-use Rattle.link_index.specs.Forest.{Level, rows_at}
-use Rattle.query_types.specs.declared.types.Query.{Query}
+use Rattle.std.proofs.lemmas.List.FromFn.{get_or-map-range_with_len, length-map-range_with_len}
 use Rattle.query_types.specs.declared.types.Source.{Source}
-use Rattle.hash_join.specs.Levels.{level_sizes, query_level}
 use Rattle.tree_plans.specs.declared.bushy.Join.{Join}
 use Rattle.tree_rows.specs.Nodes.{no_node, node_at, Node}
 use Rattle.printed_texts.specs.Plans.{alias_of, audit_line, level_audits}
 use Rattle.printed_texts.specs.TreePlans.{node_audit, node_audits}
 use Rattle.printed_texts.proofs.PlanLines.{rest_at as left_in}
-use Rattle.joined_texts.specs.Printed.{level_counts, node_counts}
+use Rattle.joined_texts.specs.Printed.{level_counts, rows_of_level, node_counts}
 
 -- ---- the lines of levels
 
@@ -31,38 +27,13 @@ next_audit k sources order bounds counts i entry bound rows some more count is a
     ∙ ap (λ (left : List ℕ). level_audits k sources (entry ∷ drop (i + 1) order) left (drop i counts)) (rest_at bounds i bound more at')
     ∙ ap (λ (left : List ℕ). level_audits k sources (entry ∷ drop (i + 1) order) (bound ∷ drop (i + 1) bounds) left) (rest_at counts i rows count counted)
 
--- ---- the numbers of joined rows
+-- ---- the numbers of rows of levels
 
-pub count_at : (levels : List Level) (i : ℕ) → get_or (level_counts levels) i 0 ≡ length (rows_at levels i)
-count_at [] i = refl
-count_at (level ∷ levels) zero = refl
-count_at (level ∷ levels) (suc i) = count_at levels i
+pub count_at : (constants : Bool) (order : List ℕ) (nodes : List Node) (i : ℕ) → i < length order → get_or (level_counts constants order nodes) i 0 ≡ length (rows_of_level constants order nodes (i + 1))
+count_at constants order nodes i low = get_or-map-range_with_len (λ k. length (rows_of_level constants order nodes (k + 1))) 0 (length order) i i 0 low (omega arith)
 
-pub count_of_counts : (levels : List Level) → length (level_counts levels) ≡ length levels
-count_of_counts levels = length-map levels (λ level. length level.rows)
-
-counts_from : (levels : List Level) (f : ℕ → ℕ) (a : ℕ) → ((k : ℕ) → k < length levels → length (rows_at levels k) ≡ f (a + k))
-    → level_counts levels ≡ map f (range_with_len a (length levels))
-counts_from [] f a same = refl
-counts_from (level ∷ levels) f a same =
-    let start : a + 0 ≡ a = omega arith in
-    let first : length level.rows ≡ f a = same 0 (omega arith) ∙ ap f start in
-    let rest : level_counts levels ≡ map f (range_with_len (a + 1) (length levels)) = counts_from levels f (a + 1) (λ k low. let next : a + suc k ≡ a + 1 + k = omega arith in same (suc k) (omega (arith, low)) ∙ ap f next) in
-    rw (first, rest) refl
-
-pub counts_of_levels : (levels : ℕ → List (List ℕ)) (order : List ℕ) (executed : List Level)
-    → ((k : ℕ) → k < length order → rows_at executed k ≡ levels (k + 1)) → length executed ≡ length order
-    → level_counts executed ≡ map (λ k. length (levels (k + 1))) (range_with_len 0 (length order))
-counts_of_levels levels order executed listed count =
-    let size : ℕ → ℕ = λ k. length (levels (k + 1)) in
-    counts_from executed size 0
-    (λ k low. let from_zero : k ≡ 0 + k = omega arith in ap (λ (rows : List (List ℕ)). length rows) (listed k (omega (arith, low, count))) ∙ ap size from_zero)
-    ∙ ap (λ (n : ℕ). map size (range_with_len 0 n)) count
-
-pub counts_are_sizes : (query : Query) (db : Database) (order : List ℕ) (executed : List Level)
-    → ((k : ℕ) → k < length order → rows_at executed k ≡ query_level query db order (k + 1)) → length executed ≡ length order
-    → level_counts executed ≡ level_sizes query db order
-counts_are_sizes query db order executed levels count = counts_of_levels (query_level query db order) order executed levels count
+pub count_of_counts : (constants : Bool) (order : List ℕ) (nodes : List Node) → length (level_counts constants order nodes) ≡ length order
+count_of_counts constants order nodes = length-map-range_with_len (λ k. length (rows_of_level constants order nodes (k + 1))) 0 (length order)
 
 -- ---- the lines of inner nodes
 

@@ -1,11 +1,10 @@
--- The row numbers of a choice are put at the indexes of their entries. They are then a choice in FROM order, and the record printed for them is the
--- record of the choice.
-use Rattle.std.proofs.Common.{◌≡◌, ℕ, suc, ◌<◌, ◌≤◌, true, false, eqb, List, [], ◌∷◌, length, get_or, slice_index, refl, ap, sym, ◌∙◌, subst, arith, inl, inr}
+-- The row numbers of a choice are written at the indexes of their entries. They are then a choice in FROM order, and the printed record is the record
+-- of the choice.
+use Rattle.std.proofs.Common.{◌≡◌, ℕ, ◌<◌, ◌≤◌, true, false, eqb, List, [], ◌∷◌, length, slice_index, refl, ap, sym, ◌∙◌, subst, arith, inl, inr}
 use Rattle.std.specs.List.{AllByRecursion, IsDistinct}
 use Rattle.std.proofs.Math.Path.{fun_ext}
-use Rattle.std.proofs.lemmas.Bool.{cases_Bool, cases_lt, false≢true}
+use Rattle.std.proofs.lemmas.Bool.{cases_Bool, cases_lt, eqb-true, false≢true}
 use Rattle.std.proofs.lemmas.List.{get_or_past}
-use Rattle.std.proofs.lemmas.List.Elements.{All-from_recursion}
 use Rattle.std.proofs.lemmas.Map.Keys.{IsDistinct-cons}
 use Rattle.std.proofs.lemmas.Map.Steps.{length-le_from_distinct_below}
 use Rattle.std.proofs.lemmas.Simd.{map-map}
@@ -22,15 +21,14 @@ use Rattle.sql_meaning.specs.Tables.{row_counts, tables_of}
 use Rattle.sql_meaning.proofs.LoopFacts.{choice_length, rows_are}
 use Rattle.join_steps.specs.Lists.{IsOrderOf}
 use Rattle.join_steps.specs.Sides.{is_in}
-use Rattle.hash_join.proofs.Placed.{stands_at}
-use Rattle.tree_rows.specs.Nodes.{placed}
+use Rattle.tree_rows.specs.Nodes.{with_choice}
 use Rattle.tree_rows.proofs.NodeFacts.{put_length}
 use Rattle.bushy_join.proofs.Putting.{choice_in, put_row}
 use Rattle.printed_texts.specs.Lines.{IsChoice, choice_text}
 use Rattle.printed_texts.specs.Texts.{row_text, value_text}
 use Rattle.joined_texts.specs.JoinedRows.{choice_record}
 
--- ---- an order has each entry
+-- ---- the entries of an order: each entry is in it
 
 unlike : (order : List ℕ) (x : ℕ) → is_in order x ≡ false → AllByRecursion (λ y. eqb x y ≡ false) order
 unlike [] x gone = tt
@@ -40,19 +38,14 @@ unlike (e ∷ order) x gone = elim (cases_Bool (eqb x e)) [
 ]
 
 each_below : (n : ℕ) (order : List ℕ) → AllByRecursion (λ entry. entry < n) order → (x : ℕ) → is_in order x ≡ true → x < n
-each_below n order low x here =
-    let at = stands_at order x here in
-    subst (λ (e : ℕ). e < n) at.is (All-from_recursion (λ entry. entry < n) order low at.place 0 at.within)
+each_below n [] low x here = absurd (false≢true here)
+each_below n (e ∷ order) low x here = elim (cases_Bool (eqb x e)) [
+  | inl same ↦ subst (λ (entry : ℕ). entry < n) (sym (eqb-true x e same)) low.0
+  | inr other ↦ (let rest : is_in order x ≡ true = rw other at here in each_below n order low.1 x rest)
+]
 
 few_entries : (n : ℕ) (order : List ℕ) → AllByRecursion (λ entry. entry < n) order → IsDistinct eqb order → length order ≤ n
 few_entries n order low once = length-le_from_distinct_below order n once (each_below n order low)
-
-small : (order : List ℕ) → ((i : ℕ) → get_or order i 0 < 256) → AllByRecursion (λ entry. entry < 256) order
-small [] h = tt
-small (e ∷ order) h = (h 0, small order (λ i. h (suc i)))
-
-pub few_bytes : (order : List ℕ) → ((i : ℕ) → get_or order i 0 < 256) → IsDistinct eqb order → length order ≤ 256
-few_bytes order h once = few_entries 256 order (small order h) once
 
 has_each : (n : ℕ) (order : List ℕ) → AllByRecursion (λ entry. entry < n) order → IsDistinct eqb order → length order ≡ n → (x : ℕ) → x < n → is_in order x ≡ true
 has_each n order low once all x below = elim (cases_Bool (is_in order x)) [
@@ -68,7 +61,7 @@ row_out (e ∷ order) (row ∷ choice) x gone = elim (cases_Bool (eqb x e)) [
   | inr n ↦ (let rest : is_in order x ≡ false = rw n at gone in rw n (row_out order choice x rest))
 ]
 
--- ---- the row numbers of a choice, put at the indexes of their entries
+-- ---- the row numbers of a choice, written at the indexes of their entries
 
 module _ (query : Query) (db : Database) (is : IsDatabaseOf query db) (entries : List ℕ) (order : IsOrderOf query entries) (choice rows : List ℕ)
     (whole : IsChoiceOf (row_counts (tables_of db)) entries choice) (size : length rows ≡ length query.from) where
@@ -81,19 +74,19 @@ module _ (query : Query) (db : Database) (is : IsDatabaseOf query db) (entries :
   here : (x : ℕ) → x < length query.from → is_in entries x ≡ true
   here x low = has_each (length query.from) entries order.entries order.once order.all x low
 
-  put_size : length (placed entries choice rows) ≡ length query.from
+  put_size : length (with_choice entries choice rows) ≡ length query.from
   put_size = put_length entries choice rows ∙ size
 
-  row_at : (x : ℕ) → slice_index (placed entries choice rows) x ≡ row_in entries choice x
+  row_at : (x : ℕ) → slice_index (with_choice entries choice rows) x ≡ row_in entries choice x
   row_at x = elim (cases_Bool (is_in entries x)) [
     | inl there ↦ put_row entries choice rows x order.once long within there
     | inr gone ↦ elim (cases_lt x (length query.from)) [
       | inl low ↦ absurd (false≢true (sym gone ∙ here x low))
-      | inr high ↦ get_or_past (placed entries choice rows) x 0 (omega (arith, high, put_size)) ∙ sym (row_out entries choice x gone)
+      | inr high ↦ get_or_past (with_choice entries choice rows) x 0 (omega (arith, high, put_size)) ∙ sym (row_out entries choice x gone)
     ]
   ]
 
-  pub is_choice : IsChoice db (placed entries choice rows)
+  pub is_choice : IsChoice db (with_choice entries choice rows)
   is_choice = record {
     one_each = omega (arith, put_size, is.entries);
     exists = λ entry low. omega (
@@ -104,7 +97,7 @@ module _ (query : Query) (db : Database) (is : IsDatabaseOf query db) (entries :
     );
   }
 
-  pub text_is : choice_text query.select (tables_of db) (placed entries choice rows) ≡ choice_record query db entries choice
+  pub text_is : choice_text query.select (tables_of db) (with_choice entries choice rows) ≡ choice_record query db entries choice
   text_is =
-      sym (ap record_text (map-map value_text (λ (out : Out). column_value (tables_of db) (slice_index (placed entries choice rows)) out.column) query.select))
+      sym (ap record_text (map-map value_text (λ (out : Out). column_value (tables_of db) (slice_index (with_choice entries choice rows)) out.column) query.select))
       ∙ ap (λ (row_of : ℕ → ℕ). row_text (selected query (tables_of db) row_of)) (fun_ext row_at)

@@ -1,23 +1,20 @@
 //! Writes the rows text of a query of any number of FROM entries.
 ghost use Rattle.std.specs.Prelude.{◌≡◌, ℕ, ◌+◌, ◌*◌, ◌<◌, [], All, length, slice_index_or};
 ghost use Rattle.std.specs.List.{flat_map};
-ghost use Rattle.link_index.specs.Forest.{rows_at};
 ghost use Rattle.base_io.specs.Devices.{growth};
 ghost use Rattle.base_io.specs.Writes.{WroteBuffered, Wrote};
 ghost use Rattle.sql_meaning.specs.Choices.{IsChoiceOf};
 ghost use Rattle.sql_meaning.specs.Databases.{IsDatabaseOf};
 ghost use Rattle.sql_meaning.specs.Tables.{row_counts, tables_of};
 ghost use Rattle.join_steps.specs.Lists.{IsOrderOf};
-ghost use Rattle.hash_join.specs.Levels.{query_level};
 ghost use Rattle.printed_texts.specs.Texts.{rows_lines};
 ghost use Rattle.joined_texts.specs.JoinedRows.{choice_record, joined_choices, root_of, AreJoinedRows};
-ghost use Rattle.joined_texts.specs.Printed.{printed_rows, selected_rows};
+ghost use Rattle.joined_texts.specs.Printed.{selected_rows};
 
 use crate::joined_rows::{JoinedRows, count, read};
 use base_io::{Buffer, Failed, Sink};
 use csv_tables::Database;
 use limits::MOST_ENTRIES;
-use link_index::RowForest;
 use printed_texts::{RowsRecord, put_line};
 use query_types::Query;
 use tree_rows::BushyResult;
@@ -85,30 +82,10 @@ fn write_listed<N: Sink>(
     buffer.flush(sink)
 }
 
-/// Writes the rows text (RFC 4180) of a query that was executed in this order. It has a header of the outputs' names, and
-/// a record of the outputs for each row of the last level, in the level's order. If the sink fails, this returns
-/// `Failed`, and the sink has a prefix of the text.
+/// Writes the rows text (RFC 4180) of a query whose entries were joined by a tree. It has a header of the outputs' names, and a record of the outputs
+/// for each row of the tree's root, in the order in which they are listed. If the sink fails, this returns `Failed`, and the sink has a prefix of the
+/// text.
 pub fn write_rows<N: Sink>(
-    executed: &RowForest,
-    order: &[u8],
-    query: &Query,
-    db: &Database,
-    sink: &mut N,
-) -> Result<(), Failed>
-    requires database { IsDatabaseOf query.now db.now }
-    requires order { IsOrderOf query.now order.now }
-    requires last { (k : ℕ) → k + 1 ≡ length order.now
-        → rows_at executed.now k ≡ query_level query.now db.now order.now (k + 1) }
-    requires count { length executed.now ≡ length order.now }
-    ensures { Wrote (growth N.taken N.faults sink.old sink.new)
-        (rows_lines query.now.select (printed_rows query.now db.now order.now)) result }
-{
-    write_listed(query, db, &JoinedRows::Last { executed, order }, sink)
-}
-
-/// Writes the rows text of a query whose entries were joined by a tree: the header of `write_rows`, and a record for each
-/// row of the tree's root.
-pub fn write_tree_rows<N: Sink>(
     done: &BushyResult,
     query: &Query,
     db: &Database,
@@ -122,5 +99,5 @@ pub fn write_tree_rows<N: Sink>(
         (rows_lines query.now.select (selected_rows query.now db.now root.entries root.rows)) result }
 {
     let node = 2 * query.from.len() as u8 - 2;
-    write_listed(query, db, &JoinedRows::Node { done, node }, sink)
+    write_listed(query, db, &JoinedRows { done, node }, sink)
 }

@@ -1,5 +1,5 @@
--- The bound of each set is at most its bound without carried conjuncts. Bounds by carried conjuncts are the same in a set as in a part of it that
--- no equality joins with the rest.
+-- The bound of each set is at most its bound without carried conjuncts. If no equality joins a part of a set with the rest, the part has the same
+-- bounds with carried conjuncts as in the set.
 use Rattle.std.proofs.Common.{◌≡◌, ℕ, ◌<◌, ◌≤◌, ◌^◌, Bool, true, List, [], length, sum, get_or, min, refl, ap, sym, ◌∙◌, subst, arith}
 use Rattle.std.specs.Prelude.{if◌then◌else◌}
 use Rattle.std.proofs.lemmas.Bool.{lt-ltb}
@@ -17,7 +17,7 @@ use Rattle.bound_fold.proofs.TestedSets.{each_in_set}
 use Rattle.set_bounds.specs.AllSets.{in_every_set}
 use Rattle.set_bounds.proofs.SetBySet.{told_in}
 use Rattle.sql_meaning.specs.Tables.{Tables}
-use Rattle.query_bounds.specs.Bounds.{entry_bounds, is_among, joined_columns, scan_list, scan_rows}
+use Rattle.query_bounds.specs.Bounds.{entry_bounds, is_among, joined_columns, scan_list, scan_row_bound}
 use Rattle.gathered_stats.specs.Statistics.{statistics_of}
 use Rattle.planning.specs.Bounds.{set_bounds_of}
 use Rattle.key_carriers.specs.Carriers.{carriers, carriers_to}
@@ -37,8 +37,8 @@ module _ (schema : Schema) (query : Query) (tables : Tables) (accuracy subset : 
   abbrev to : ℕ → List Edge
   to entry = carriers_to (carriers schema query) subset entry
 
-  base_rows : (entry : ℕ) → entry < length query.from → base.rows entry ≡ scan_rows query (statistics_of tables accuracy) entry
-  base_rows entry low = ap (λ (b : Bool). if b then scan_rows query (statistics_of tables accuracy) entry else 0) (lt-ltb entry (length query.from) low)
+  base_rows : (entry : ℕ) → entry < length query.from → base.rows entry ≡ scan_row_bound query (statistics_of tables accuracy) entry
+  base_rows entry low = ap (λ (b : Bool). if b then scan_row_bound query (statistics_of tables accuracy) entry else 0) (lt-ltb entry (length query.from) low)
 
   base_list : (entry column : ℕ) → is_among (joined_columns query) entry column ≡ true → base.list entry column ≡ scan_list query (statistics_of tables accuracy) entry column
   base_list entry column among = ap (λ (b : Bool). if b then scan_list query (statistics_of tables accuracy) entry column else []) among
@@ -57,7 +57,7 @@ module _ (schema : Schema) (query : Query) (tables : Tables) (accuracy subset : 
           arith,
           rows_are schema query tables accuracy subset entry low,
           base_rows entry low,
-          least_at_most (carried_rows query tables) (scan_rows query (statistics_of tables accuracy) entry) (to entry),
+          least_at_most (carried_rows query tables) (scan_row_bound query (statistics_of tables accuracy) entry) (to entry),
         ));
     columns = at_named schema query tables accuracy subset fits (λ entry column. HasHigherSums (base.list entry column) (keyed.list entry column)) (λ entry column low has among.
         subst (λ (s : List ℕ). HasHigherSums s (keyed.list entry column)) (sym (base_list entry column among))

@@ -1,4 +1,4 @@
--- Statistics that are gathered for the rows of the widened table give the lists that are carried along an equality.
+-- The lists of statistics that are gathered for the rows of the widened table are the lists that are carried along an equality.
 use Rattle.std.proofs.Common.{◌≡◌, ℕ, ◌+◌, ◌-◌, ◌^◌, ◌<◌, ◌≤◌, min, eqb, List, [], ◌∷◌, ◌++◌, length, map, take, get_or, Option, Some, option_map, find, slice_get, sum, refl, ap, sym, ◌∙◌, subst, inl, inr, ◌⊎◌, arith}
 use Rattle.std.specs.Prelude.{slice_index_or}
 use Rattle.std.specs.List.{All, Contains, IsDistinct, filter}
@@ -17,7 +17,7 @@ use Rattle.schema_types.specs.declared.types.Schema.{Schema}
 use Rattle.limits.specs.Profile.{most_rows}
 use Rattle.tree_bounds.specs.Columns.{EachNamedColumn}
 use Rattle.bound_fold.specs.declared.lists.EntryLists.{EntryLists}
-use Rattle.bound_fold.specs.Lists.{list_of, rows_of}
+use Rattle.bound_fold.specs.Lists.{list_of, row_bound_of}
 use Rattle.sql_meaning.specs.Databases.{IsDatabaseOf}
 use Rattle.sql_meaning.specs.Tables.{Tables, cells_of, row_counts, tables_of}
 use Rattle.sql_meaning.proofs.LoopFacts.{rows_are}
@@ -36,8 +36,8 @@ use Rattle.gathered_stats.specs.Asked.{joined_columns}
 use Rattle.gathered_stats.specs.PairedRows.{IsGatheredForPaired}
 use Rattle.gathered_stats.specs.ShownCells.{AreRowNumbersOf}
 use Rattle.gathered_stats.proofs.Joined.{joined_exist, place_exists, place_joined}
-use Rattle.gathered_stats.proofs.Telling.{first_one, found_one}
-use Rattle.key_carriers.specs.Carriers.{both_ways, carriers, carries, exchanged}
+use Rattle.gathered_stats.proofs.StatisticsOfTables.{first_one, found_one}
+use Rattle.key_carriers.specs.Carriers.{with_exchanged_sides, carriers, carries, exchanged}
 use Rattle.key_carriers.specs.Cells.{AreOfOneKind}
 use Rattle.key_carriers.specs.Widened.{referred, referring, tables_at}
 use Rattle.key_carriers.proofs.Referring.{as_many, few_referring, referred_low, referring_low}
@@ -48,13 +48,13 @@ use Rattle.key_stats.proofs.CarriedLists.{carried_sum}
 use Rattle.key_bounds.specs.Carrying.{AddUp, IsEqualityEitherWay}
 use Rattle.key_bounds.proofs.CellsBeside.{lists_beside}
 
--- ---- an equality of the query, as it is or with its sides exchanged
+-- ---- an equality of the query, perhaps with its sides exchanged
 
-from_both : (es : List Edge) (e : Edge) → Contains (both_ways es) e → ((f : Edge) × Contains es f × (e ≡ f)) ⊎ ((f : Edge) × Contains es f × (e ≡ exchanged f))
+from_both : (es : List Edge) (e : Edge) → Contains (with_exchanged_sides es) e → ((f : Edge) × Contains es f × (e ≡ f)) ⊎ ((f : Edge) × Contains es f × (e ≡ exchanged f))
 from_both [] e has = absurd (in_none e has)
-from_both (f ∷ es) e has = elim (one_in f (exchanged f ∷ both_ways es) e has) [
+from_both (f ∷ es) e has = elim (one_in f (exchanged f ∷ with_exchanged_sides es) e has) [
   | inr is ↦ inl (f, in_front f es f refl, is)
-  | inl later ↦ elim (one_in (exchanged f) (both_ways es) e later) [
+  | inl later ↦ elim (one_in (exchanged f) (with_exchanged_sides es) e later) [
     | inr is ↦ inr (f, in_front f es f refl, is)
     | inl rest ↦ elim (from_both es e rest) [
       | inl at ↦ inl (at.0, in_rest f es at.0 at.1, at.2)
@@ -63,7 +63,7 @@ from_both (f ∷ es) e has = elim (one_in f (exchanged f ∷ both_ways es) e has
   ]
 ]
 
-of_both : (P : Edge → Type 0) (es : List Edge) (e : Edge) → ((f : Edge) → Contains es f → P f × P (exchanged f)) → Contains (both_ways es) e → P e
+of_both : (P : Edge → Type 0) (es : List Edge) (e : Edge) → ((f : Edge) → Contains es f → P f × P (exchanged f)) → Contains (with_exchanged_sides es) e → P e
 of_both P es e each has = elim (from_both es e has) [
   | inl at ↦ subst P (sym at.2) (each at.0 at.1).0
   | inr at ↦ subst P (sym at.2) (each at.0 at.1).1
@@ -180,7 +180,7 @@ module _ (query : Query) (db : Database) (of : IsDatabaseOf query db) (e : Edge)
           ∙ carried_sum query (tables_of db) e accuracy g.column ∙ sym rows_is;
     }
 
-    pub told : (made : EntryLists) → rows_of made e.left.entry ≡ Some (row_bound_in_stats stats 0)
+    pub told : (made : EntryLists) → row_bound_of made e.left.entry ≡ Some (row_bound_in_stats stats 0)
         → All (λ g. list_of made e.left.entry g.column ≡ Some (list_in_stats stats 0 g.column)) gathered.columns
         → TellsCarried query (tables_of db) accuracy (record { edge = e; lists = made })
     told made rows lists = record {
@@ -201,7 +201,7 @@ module _ (query : Query) (db : Database) (of : IsDatabaseOf query db) (e : Edge)
       pub entries_add_up : AddUp (of_entries entries)
       entries_add_up = subst (λ (s : List EntryStats). AddUp (of_entries s)) (sym only) add_up
 
-      pub entries_told : (made : EntryLists) → rows_of made e.left.entry ≡ Some (row_bound_in_stats (of_entries entries) 0)
+      pub entries_told : (made : EntryLists) → row_bound_of made e.left.entry ≡ Some (row_bound_in_stats (of_entries entries) 0)
           → All (λ g. list_of made e.left.entry g.column ≡ Some (list_in_stats (of_entries entries) 0 g.column)) (columns_of (of_entries entries) 0)
           → TellsCarried query (tables_of db) accuracy (record { edge = e; lists = made })
       entries_told made rows lists =
@@ -224,7 +224,7 @@ entries_named query db of =
 pub carriers_joined : (schema : Schema) (query : Query) (es read : List Edge) → es ≡ carriers schema query → read ≡ es → All (IsEqualityEitherWay query) read
 carriers_joined schema query es read are same =
     subst (All (IsEqualityEitherWay query)) (sym (same ∙ are)) (λ k d low.
-    (from_filter (carries schema query) (both_ways (equalities_of query)) (get_or (carriers schema query) k d) (Contains-get_or (carriers schema query) k d low)).0)
+    (from_filter (carries schema query) (with_exchanged_sides (equalities_of query)) (get_or (carriers schema query) k d) (Contains-get_or (carriers schema query) k d low)).0)
 
 -- ---- the loop over the equalities
 

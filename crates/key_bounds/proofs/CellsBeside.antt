@@ -1,4 +1,5 @@
--- Rows of one entry are paired with rows of another entry. Lists that are made of the cells in these rows are the lists that are made of the values.
+-- Rows of one entry are paired with rows of another entry. The lists that are made from cells in these rows are equal to the lists made from their
+-- values.
 use Rattle.std.proofs.Common.{◌≡◌, ℕ, ◌<◌, List, [], length, map, get_or, pos, Option, ap, sym, ◌∙◌, subst, arith}
 use Rattle.std.specs.Prelude.{slice_index_or}
 use Rattle.std.specs.List.{All, zip}
@@ -25,11 +26,11 @@ use Rattle.table_stats.proofs.CellColumns.{same_equal, same_range, same_whole}
 use Rattle.table_stats.proofs.DatabaseColumns.{cells_are, column_is}
 use Rattle.gathered_stats.specs.Columns.{HaveLists, cells_in, kind_in}
 use Rattle.gathered_stats.specs.ShownCells.{AreRowNumbersOf, cells_at, picked}
-use Rattle.gathered_stats.proofs.Seeing.{picked_cells}
+use Rattle.gathered_stats.proofs.ShownCells.{picked_cells}
 use Rattle.key_carriers.specs.Widened.{tables_at, values_at}
 
 module _ (db : Database) (are : AreTables db) (differ : HaveDifferentCharacters db.pool) where
-  -- ---- a column's cells in some rows
+  -- ---- a column's cells in chosen rows
 
   module _ (entry : ℕ) (there : entry < length db.slots) (rows : List ℕ) (low : AreRowNumbersOf (cells_of db entry) rows) where
     abbrev cells : Cells

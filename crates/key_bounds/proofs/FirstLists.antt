@@ -1,4 +1,4 @@
--- The lists of the first entry are added one after another, each for another column.
+-- The lists of the first entry are added one after another, each for a different column.
 use Rattle.std.proofs.Common.{◌≡◌, ◌≢◌, ◌⊎◌, inl, inr, ℕ, ◌+◌, ◌<◌, ◌≤◌, eqb, List, length, map, get_or, slice_get, Option, None, Some, option_map, sum, ap, sym, ◌∙◌, subst, refl, arith}
 use Rattle.std.specs.Prelude.{IsSome}
 use Rattle.std.specs.List.{All, AllPairs, Contains}
@@ -10,12 +10,12 @@ use Rattle.std.proofs.lemmas.Map.Made.{AllPairs-from_IsDistinct}
 use Rattle.std.proofs.lemmas.Option.{get_or_from_slice_get}
 use Rattle.level_bounds.proofs.Lists.{in_map}
 use Rattle.bound_fold.specs.declared.lists.EntryLists.{EntryLists}
-use Rattle.bound_fold.specs.Lists.{list_of, rows_of}
+use Rattle.bound_fold.specs.Lists.{list_of, row_bound_of}
 use Rattle.predicate_bounds.specs.declared.columns.ColumnSteps.{ColumnSteps}
 use Rattle.predicate_bounds.specs.declared.columns.EntryStats.{EntryStats}
 use Rattle.predicate_bounds.specs.declared.columns.QueryStats.{QueryStats}
 use Rattle.predicate_bounds.specs.StatsLists.{column_steps, columns_of, first_steps, list_in_stats, no_columns, row_bound_in_stats}
-use Rattle.gathered_stats.proofs.Telling.{first_one, found_one}
+use Rattle.gathered_stats.proofs.StatisticsOfTables.{first_one, found_one}
 use Rattle.key_bounds.specs.Carrying.{AddUp}
 use Rattle.key_bounds.proofs.Made.{is_some}
 
@@ -26,7 +26,7 @@ abbrev number_of : QueryStats → ℕ → ℕ
 number_of stats k = get_or (map (λ g. g.column) (columns_of stats 0)) k 0
 
 pub record AreAdded (stats : QueryStats) (entry i : ℕ) (made : EntryLists) : Type 0 where
-  pub rows : rows_of made entry ≡ Some (row_bound_in_stats stats 0)
+  pub rows : row_bound_of made entry ≡ Some (row_bound_in_stats stats 0)
   pub there : (k : ℕ) → k < i → list_of made entry (number_of stats k) ≡ Some (list_in_stats stats 0 (number_of stats k))
   pub later : (k : ℕ) → i ≤ k → k < length (columns_of stats 0) → list_of made entry (number_of stats k) ≡ None
 
@@ -53,7 +53,7 @@ module _ (stats : QueryStats) (adds : AddUp stats) where
       is_some (column_steps stats 0 (get_or columns i d).column) one.0.steps (ap (option_map (λ (g : ColumnSteps). g.steps)) one.1)
 
   module _ (entry : ℕ) where
-    pub none_added : (made : EntryLists) → rows_of made entry ≡ Some (row_bound_in_stats stats 0) → ((column : ℕ) → list_of made entry column ≡ None) → AreAdded stats entry 0 made
+    pub none_added : (made : EntryLists) → row_bound_of made entry ≡ Some (row_bound_in_stats stats 0) → ((column : ℕ) → list_of made entry column ≡ None) → AreAdded stats entry 0 made
     none_added made rows none = record {
       rows = rows;
       there = λ k low. absurd (omega (arith, low));
@@ -67,7 +67,7 @@ module _ (stats : QueryStats) (adds : AddUp stats) where
     not_there i one made low at before = ap (list_of made entry) (number_is i one low at) ∙ before.later i (omega arith) low
 
     pub as_many_rows : (i : ℕ) (one : ColumnSteps) (list : List ℕ) (made : EntryLists) → i < length columns → one ≡ get_or columns i one → AreAdded stats entry i made → list ≡ list_in_stats stats 0 one.column
-        → rows_of made entry ≡ Some (sum list)
+        → row_bound_of made entry ≡ Some (sum list)
     as_many_rows i one list made low at before is =
         before.rows ∙ ap Some (sym (ap sum (is ∙ ap (λ (g : ColumnSteps). list_in_stats stats 0 g.column) at) ∙ adds.sums i one low))
 
@@ -77,7 +77,7 @@ module _ (stats : QueryStats) (adds : AddUp stats) where
 
     pub one_added : (i : ℕ) (one : ColumnSteps) (list : List ℕ) (old new : EntryLists) → i < length columns → one ≡ get_or columns i one → AreAdded stats entry i old → list ≡ list_in_stats stats 0 one.column
         → list_of new entry one.column ≡ Some list → ((e c : ℕ) → ((e ≢ entry) ⊎ (c ≢ one.column)) → list_of new e c ≡ list_of old e c)
-        → ((other : ℕ) → rows_of new other ≡ rows_of old other) → AreAdded stats entry (i + 1) new
+        → ((other : ℕ) → row_bound_of new other ≡ row_bound_of old other) → AreAdded stats entry (i + 1) new
     one_added i one list old new low at before is set others rows =
         let number : one.column ≡ number_at i = number_is i one low at in
         record {

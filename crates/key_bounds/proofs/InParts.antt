@@ -1,4 +1,5 @@
--- Bounds by carried conjuncts are the same in a set as in a part of it: a carrier is joined with the entry to which it carries, so both are in one part.
+-- With carried conjuncts, a part of a set has the same bounds as in the set. The reason is that a carrier is joined with the entry to which it
+-- carries, so both are in the same part.
 use Rattle.std.proofs.Common.{◌≡◌, ℕ, ◌<◌, ◌≤◌, Bool, true, false, not, ◌&&◌, cond, eqb, List, [], ◌∷◌, length, get_or, refl, ap, sym, ◌∙◌, subst, arith, inl, inr}
 use Rattle.std.specs.Prelude.{if◌then◌else◌, nat_lt}
 use Rattle.std.specs.List.{Contains, filter}
@@ -6,7 +7,7 @@ use Rattle.std.proofs.lemmas.Bool.{and_parts, cases_Bool, eqb-true, false≢true
 use Rattle.degree_sequences.specs.RunningSums.{HasHigherSums}
 use Rattle.degree_sequences.specs.Saturation.{saturated}
 use Rattle.berge_tree.specs.declared.edges.Edge.{Edge}
-use Rattle.entry_sets.specs.Sets.{IsWithin, has_entry}
+use Rattle.entry_sets.specs.Sets.{IsSubset, has_entry}
 use Rattle.entry_sets.proofs.Listing.{in_front, in_rest}
 use Rattle.schema_types.specs.declared.types.Schema.{Schema}
 use Rattle.query_types.specs.declared.types.Query.{Query}
@@ -17,19 +18,19 @@ use Rattle.tree_bounds.specs.SetBounds.{SetHasLists, bound_of_set}
 use Rattle.tree_bounds.specs.TreeBounds.{EntryBounds, HasList}
 use Rattle.bound_fold.proofs.TestedSets.{each_in_set, each_named}
 use Rattle.set_bounds.specs.AllSets.{bound_in_128_bits}
-use Rattle.set_bounds.specs.Parts.{AreUnjoined, FallsInto, DependsOnPartsOnly}
+use Rattle.set_bounds.specs.Parts.{AreUnjoined, ConsistsOfParts, DependsOnPartsOnly}
 use Rattle.sql_meaning.specs.Tables.{Tables}
 use Rattle.level_bounds.proofs.Lists.{all_from, each_of, from_filter, in_filter}
 use Rattle.query_bounds.specs.Bounds.{is_among, joined_columns}
 use Rattle.query_bounds.proofs.Holding.{pair_at}
 use Rattle.query_bounds.proofs.Sets.{both_among}
-use Rattle.key_carriers.specs.Carriers.{both_ways, carriers, carriers_to, carries}
+use Rattle.key_carriers.specs.Carriers.{with_exchanged_sides, carriers, carriers_to, carries}
 use Rattle.key_bounds.specs.Bounds.{bounds_by_keys, list_by_keys, rows_by_keys}
 use Rattle.key_bounds.proofs.Lower.{SetIsAbove, set_at_most}
 use Rattle.key_bounds.proofs.Standing.{has_list}
 use Rattle.key_bounds.proofs.Taking.{IsEitherWay, either_way}
 
--- ---- one filter after another
+-- ---- two filters, one after the other
 
 module _ {X : Type 0} (q p r : X → Bool) where
   skipped : (x : X) (b : Bool) (xs : List X) → q x ≡ false → filter q (cond b (x ∷ xs) xs) ≡ filter q xs
@@ -51,7 +52,7 @@ module _ {X : Type 0} (q p r : X → Bool) where
 
 -- ---- the carriers to an entry of a part
 
-module _ (schema : Schema) (query : Query) (subset part : ℕ) (within : IsWithin part subset) (unjoined : AreUnjoined (equalities_of query) subset part) where
+module _ (schema : Schema) (query : Query) (subset part : ℕ) (within : IsSubset part subset) (unjoined : AreUnjoined (equalities_of query) subset part) where
   one_side : (e : Edge) → IsEitherWay (equalities_of query) e → joins_within subset e ≡ true → has_entry part e.left.entry ≡ has_entry part e.right.entry
   one_side e (inl straight) joins =
       each_of (λ e. has_entry part e.left.entry ≡ has_entry part e.right.entry) (equalities_within subset (equalities_of query)) unjoined e
@@ -83,10 +84,10 @@ module _ (schema : Schema) (query : Query) (subset part : ℕ) (within : IsWithi
   same_carriers : (entry : ℕ) → has_entry part entry ≡ true → carriers_to (carriers schema query) part entry ≡ carriers_to (carriers schema query) subset entry
   same_carriers entry has =
       same_kept (λ (e : Edge). eqb e.left.entry entry) (joins_within part) (joins_within subset) (carriers schema query) (λ e there left.
-      join_alike e (either_way (equalities_of query) e (from_filter (carries schema query) (both_ways (equalities_of query)) e there).0)
+      join_alike e (either_way (equalities_of query) e (from_filter (carries schema query) (with_exchanged_sides (equalities_of query)) e there).0)
       (subst (λ (n : ℕ). has_entry part n ≡ true) (sym (eqb-true e.left.entry entry left)) has))
 
-  -- ---- the bound of the part
+  -- ---- the bound of the part is the same as in the set
 
   module _ (tables : Tables) (accuracy : ℕ) (named : EachNamedColumn (λ entry column. entry < length query.from) (equalities_of query)) where
     abbrev keyed : ℕ → EntryBounds
@@ -136,10 +137,10 @@ module _ (schema : Schema) (query : Query) (subset part : ℕ) (within : IsWithi
         omega arith
         )
 
--- ---- a part and the rest
+-- ---- the rest of the set is a part too
 
-module _ (query : Query) (subset part rest : ℕ) (falls : FallsInto (equalities_of query) subset part rest) where
-  rest_within : IsWithin rest subset
+module _ (query : Query) (subset part rest : ℕ) (falls : ConsistsOfParts (equalities_of query) subset part rest) where
+  rest_within : IsSubset rest subset
   rest_within entry has = (and_parts (has_entry subset entry) (not (has_entry part entry)) (sym (falls.others entry) ∙ has)).0
 
   rest_unjoined : AreUnjoined (equalities_of query) subset rest

@@ -16,11 +16,11 @@ use Rattle.join_graph.specs.Kept.{joins_within}
 use Rattle.tree_bounds.specs.Columns.{EachNamedColumn}
 use Rattle.tree_bounds.specs.TreeBounds.{EntryBounds}
 use Rattle.bound_fold.specs.declared.lists.EntryLists.{EntryLists}
-use Rattle.bound_fold.specs.Lists.{bounds_of, list_of, rows_of}
+use Rattle.bound_fold.specs.Lists.{bounds_of, list_of, row_bound_of}
 use Rattle.set_bounds.specs.AllSets.{bounds_in_sets}
 use Rattle.set_bounds.specs.Parts.{DependsOnPartsOnly}
 use Rattle.sql_meaning.specs.Tables.{Tables}
-use Rattle.query_bounds.specs.Bounds.{HoldsKnown, entry_bounds, is_among, is_at, joined_columns, scan_list, scan_rows}
+use Rattle.query_bounds.specs.Bounds.{HoldsKnown, entry_bounds, is_among, is_at, joined_columns, scan_list, scan_row_bound}
 use Rattle.query_bounds.proofs.Sets.{both_among, list_there, row_there}
 use Rattle.gathered_stats.specs.Statistics.{statistics_of}
 use Rattle.planning.specs.declared.known.QueryBounds.{QueryBounds}
@@ -33,7 +33,7 @@ use Rattle.key_stats.specs.Carrying.{TellAlong, TellsCarried}
 use Rattle.key_stats.specs.Lists.{carried_list, carried_rows}
 use Rattle.key_bounds.specs.declared.key_lists.KeyLists.{KeyLists}
 use Rattle.key_bounds.specs.Bounds.{bounds_by_keys, least_list, least_rows, list_by_keys, set_bounds_by_keys}
-use Rattle.key_bounds.specs.InSets.{HaveKeyLists, CarriesLists, CarriesTo, carried_to, known_by_keys, list_carried, list_within, rows_carried, rows_within}
+use Rattle.key_bounds.specs.InSets.{HaveKeyLists, CarriesLists, CarriesTo, carried_to, bounds_with_carried, list_carried, list_within, rows_carried, rows_within}
 use Rattle.key_bounds.proofs.InParts.{looks_at_parts}
 use Rattle.key_bounds.proofs.Made.{is_some}
 
@@ -81,7 +81,7 @@ module _ (schema : Schema) (query : Query) (tables : Tables) (accuracy : ℕ) (c
   carried_rows_same subset entry =
       same_made subset entry (rows_carried entry) (carried_rows query tables) carried
       (each_of_them (λ c. c.edge.left.entry ≡ entry → rows_carried entry c ≡ carried_rows query tables c.edge)
-      (λ c tell same. ap (λ (n : ℕ). unwrap_or (rows_of c.lists n) 0) (sym same) ∙ ap (λ (o : Option ℕ). unwrap_or o 0) tell.rows) carried tell_each)
+      (λ c tell same. ap (λ (n : ℕ). unwrap_or (row_bound_of c.lists n) 0) (sym same) ∙ ap (λ (o : Option ℕ). unwrap_or o 0) tell.rows) carried tell_each)
       ∙ ap (λ (es : List Edge). map (carried_rows query tables) (carriers_to es subset entry)) along.edges
 
   carried_lists_same : (subset entry column : ℕ) → is_among (joined_columns query) entry column ≡ true
@@ -94,23 +94,23 @@ module _ (schema : Schema) (query : Query) (tables : Tables) (accuracy : ℕ) (c
       carried tell_each)
       ∙ ap (λ (es : List Edge). map (λ e. carried_list query tables accuracy e column) (carriers_to es subset entry)) along.edges
 
-  rows_same : (subset entry : ℕ) → (known_by_keys keys subset).rows entry ≡ (bounds_by_keys schema query tables accuracy subset).rows entry
+  rows_same : (subset entry : ℕ) → (bounds_with_carried keys subset).rows entry ≡ (bounds_by_keys schema query tables accuracy subset).rows entry
   rows_same subset entry =
-      ap (λ (n : ℕ). if nat_lt entry n then rows_within carried subset entry (unwrap_or (rows_of own entry) 0) else 0) all
+      ap (λ (n : ℕ). if nat_lt entry n then rows_within carried subset entry (unwrap_or (row_bound_of own entry) 0) else 0) all
       ∙ by (nat_lt entry (length query.from)) (held.rows entry)
-      ∙ ap (λ (s : List ℕ). if nat_lt entry (length query.from) then least_rows (scan_rows query (statistics_of tables accuracy) entry) s else 0) (carried_rows_same subset entry)
+      ∙ ap (λ (s : List ℕ). if nat_lt entry (length query.from) then least_rows (scan_row_bound query (statistics_of tables accuracy) entry) s else 0) (carried_rows_same subset entry)
     where
-      by : (b : Bool) → rows_of own entry ≡ cond b (Some (scan_rows query (statistics_of tables accuracy) entry)) None
-          → cond b (rows_within carried subset entry (unwrap_or (rows_of own entry) 0)) 0
-          ≡ cond b (least_rows (scan_rows query (statistics_of tables accuracy) entry) (map (rows_carried entry) (carried_to carried subset entry))) 0
+      by : (b : Bool) → row_bound_of own entry ≡ cond b (Some (scan_row_bound query (statistics_of tables accuracy) entry)) None
+          → cond b (rows_within carried subset entry (unwrap_or (row_bound_of own entry) 0)) 0
+          ≡ cond b (least_rows (scan_row_bound query (statistics_of tables accuracy) entry) (map (rows_carried entry) (carried_to carried subset entry))) 0
       by true is = ap (λ (o : Option ℕ). rows_within carried subset entry (unwrap_or o 0)) is
       by false is = refl
 
-  list_same : (subset entry column : ℕ) → (known_by_keys keys subset).list entry column ≡ (bounds_by_keys schema query tables accuracy subset).list entry column
+  list_same : (subset entry column : ℕ) → (bounds_with_carried keys subset).list entry column ≡ (bounds_by_keys schema query tables accuracy subset).list entry column
   list_same subset entry column = by (is_among (joined_columns query) entry column) refl (held.columns entry column)
     where
       by : (b : Bool) → is_among (joined_columns query) entry column ≡ b → list_of own entry column ≡ cond b (Some (scan_list query (statistics_of tables accuracy) entry column)) None
-          → (known_by_keys keys subset).list entry column
+          → (bounds_with_carried keys subset).list entry column
           ≡ (if is_among (joined_columns query) entry column then list_by_keys query tables accuracy entry column (carriers_to (carriers schema query) subset entry) else [])
       by true among is =
           ap (λ (o : Option (List ℕ)). unwrap_or (option_map (list_within carried subset entry column) o) []) is
@@ -123,11 +123,11 @@ module _ (schema : Schema) (query : Query) (tables : Tables) (accuracy : ℕ) (c
   same_bounds : (r s : ℕ → ℕ) (l m : ℕ → ℕ → List ℕ) → r ≡ s → l ≡ m → (let b : EntryBounds = record { rows = r; list = l } in b) ≡ record { rows = s; list = m }
   same_bounds r s l m h k = rw (h, k) refl
 
-  pub known_is : known_by_keys keys ≡ bounds_by_keys schema query tables accuracy
-  known_is = fun_ext (λ subset. same_bounds (known_by_keys keys subset).rows (bounds_by_keys schema query tables accuracy subset).rows (known_by_keys keys subset).list (bounds_by_keys schema query tables accuracy subset).list
+  pub known_is : bounds_with_carried keys ≡ bounds_by_keys schema query tables accuracy
+  known_is = fun_ext (λ subset. same_bounds (bounds_with_carried keys subset).rows (bounds_by_keys schema query tables accuracy subset).rows (bounds_with_carried keys subset).list (bounds_by_keys schema query tables accuracy subset).list
       (fun_ext (rows_same subset)) (fun_ext (λ entry. fun_ext (list_same subset entry))))
 
-  -- ---- what is required of the bounds of all sets
+  -- ---- the premises for the bounds of all sets
 
   pub are_keyed : (es : List Edge) → es ≡ equalities_of query → EachNamedColumn (λ entry column. entry < length query.from) (equalities_of query) → length query.from ≤ most_entries
       → (subset : ℕ) → subset < 2 ^ length query.from → HaveKeyLists keys es subset
@@ -135,7 +135,7 @@ module _ (schema : Schema) (query : Query) (tables : Tables) (accuracy : ℕ) (c
       subst (λ (s : List Edge). HaveKeyLists keys s subset) (sym split) (record {
         few = omega (arith, all, few);
         fits = subst (λ (n : ℕ). subset < 2 ^ n) (sym all) fits;
-        rows = λ entry low. is_some (rows_of own entry) (scan_rows query (statistics_of tables accuracy) entry)
+        rows = λ entry low. is_some (row_bound_of own entry) (scan_row_bound query (statistics_of tables accuracy) entry)
             (row_there query (statistics_of tables accuracy) (length query.from) (joined_columns query) own held entry (omega (arith, low, all)));
         lists = λ k d low.
             let among = both_among (equalities_of query) k d low in
@@ -158,14 +158,14 @@ module _ (schema : Schema) (query : Query) (tables : Tables) (accuracy : ℕ) (c
         carries c places lists.1,
       )
 
-  pub keys_look : (es : List Edge) → es ≡ equalities_of query → EachNamedColumn (λ entry column. entry < length query.from) (equalities_of query) → DependsOnPartsOnly (known_by_keys keys) es
+  pub keys_look : (es : List Edge) → es ≡ equalities_of query → EachNamedColumn (λ entry column. entry < length query.from) (equalities_of query) → DependsOnPartsOnly (bounds_with_carried keys) es
   keys_look es split named =
-      subst (λ (s : List Edge). DependsOnPartsOnly (known_by_keys keys) s) (sym split)
+      subst (λ (s : List Edge). DependsOnPartsOnly (bounds_with_carried keys) s) (sym split)
       (subst (λ (b : ℕ → EntryBounds). DependsOnPartsOnly b (equalities_of query)) (sym known_is) (looks_at_parts schema query tables accuracy named))
 
   pub keys_give : (es : List Edge) (scans : List ℕ) (known : QueryBounds) → es ≡ equalities_of query → scans ≡ map (bounds_of own).rows (range_with_len 0 count) → length scans ≡ length query.from
       → bounds_of own ≡ entry_bounds query (statistics_of tables accuracy)
-      → known.sets ≡ bounds_in_sets (known_by_keys keys) es (length scans) → known.scans ≡ scans
+      → known.sets ≡ bounds_in_sets (bounds_with_carried keys) es (length scans) → known.scans ≡ scans
       → HasBounds (set_bounds_by_keys schema query tables accuracy) (scan_bounds_of query tables accuracy) known
   keys_give es scans known split are long told made kept = record {
     sets =

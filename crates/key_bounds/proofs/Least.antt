@@ -1,4 +1,5 @@
--- The least of several lists still dominates the keys that each of them dominates. The least of several row bounds is still a row bound.
+-- Suppose that several lists dominate the same keys. The least of these lists dominates them too. The least of several row bounds is still a row
+-- bound.
 use Rattle.std.proofs.Common.{◌≡◌, ℕ, ◌≤◌, min, List, [], ◌∷◌, length, map, sum, refl, ap, ◌∙◌, arith}
 use Rattle.std.specs.List.{AllByRecursion}
 use Rattle.degree_sequences.specs.Domination.{DominatesKeys}

@@ -1,5 +1,6 @@
--- If bounds of entries are lowered, the bound of a set doesn't rise. For every K the lower bounds are near the upper ones, so K^n times the lower
--- set bound is at most (K + 1)^n times the upper set bound. For large K this says that the lower set bound is at most the upper one.
+-- If bounds of entries are lowered, the bound of a set doesn't rise. The proof uses nearness: for every K the lower bounds are near the upper ones.
+-- So the lower set bound, times K^n, is at most the upper set bound times (K + 1)^n. For large K this implies that the lower set bound is at most the
+-- upper set bound.
 use Rattle.std.proofs.Common.{◌≡◌, ℕ, zero, suc, ◌+◌, ◌*◌, ◌^◌, ◌<◌, ◌≤◌, List, [], ◌∷◌, length, refl, ap, arith, inl, inr}
 use Rattle.std.specs.List.{AllByRecursion}
 use Rattle.std.proofs.Math.Nat.{mul-le-mul_left, pow-succ', pow-zero}
@@ -16,7 +17,7 @@ use Rattle.tree_bounds.specs.SetBounds.{SetHasLists, bound_of_set}
 use Rattle.tree_bounds.specs.TreeBounds.{EntryBounds}
 use Rattle.tree_bounds.proofs.NearSets.{set_near}
 
--- ---- how (k + 1)^n grows against k^n
+-- ---- growth of (k + 1)^n relative to k^n
 
 abbrev excess : ℕ → ℕ
 excess zero = 0
@@ -30,7 +31,7 @@ grows j zero = rw (pow-zero (j + 2), pow-zero (j + 1)) (omega arith)
 grows j (suc n) =
     rw (pow-succ' (j + 2) n, pow-succ' (j + 1) n) (one_more j ((j + 2) ^ n) ((j + 1) ^ n) (excess n) (grows j n))
 
--- ---- a number that is near another for every k is at most the other
+-- ---- a number that is near another number for every k is at most that number
 
 never_above : (k p q e low high : ℕ) → k ≡ e * high + 1 → 0 < q → p * k ≤ q * (k + e) → q * low ≤ p * high → high < low → ⊥
 never_above k p q e low high is some growth near above =
@@ -59,7 +60,7 @@ at_most n low high near = elim (cases_lt high low) [
     near_here : (j : ℕ) → (j + 1) ^ n * low ≤ (j + 2) ^ n * high
     near_here j = let same : j + 1 + 1 ≡ j + 2 = omega arith in rw same at (near (j + 1))
 
--- ---- the bounds of a set
+-- ---- the bounds of a set from lowered bounds of entries
 
 weaker : (P Q : ℕ → Type 0) → ((x : ℕ) → P x → Q x) → (xs : List ℕ) → AllByRecursion P xs → AllByRecursion Q xs
 weaker P Q more [] all = tt

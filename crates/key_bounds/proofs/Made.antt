@@ -1,4 +1,4 @@
--- The code puts the row bounds and lists of entries in a set together one by one. These lemmas are about what is made so far.
+-- The code collects the row bounds and lists of entries in a set one by one. These lemmas are the invariants of its loops.
 use Rattle.std.proofs.Common.{◌≡◌, ◌≢◌, ◌⊎◌, inl, inr, ℕ, ◌<◌, ◌≤◌, ◌^◌, Bool, true, false, ◌&&◌, cond, eqb, List, [], ◌∷◌, length, map, min, sum, get_or, Option, None, Some, option_map, refl, ap, sym, ◌∙◌, subst, arith}
 use Rattle.std.specs.Prelude.{All, IsSome, if◌then◌else◌, unwrap_or}
 use Rattle.std.specs.List.{AllByRecursion, filter}
@@ -9,7 +9,7 @@ use Rattle.degree_sequences.specs.RunningSums.{lesser}
 use Rattle.join_graph.specs.Kept.{joins_within}
 use Rattle.tree_bounds.specs.TreeBounds.{EntryBounds}
 use Rattle.bound_fold.specs.declared.lists.EntryLists.{EntryLists}
-use Rattle.bound_fold.specs.Lists.{bounds_of, list_of, rows_of}
+use Rattle.bound_fold.specs.Lists.{bounds_of, list_of, row_bound_of}
 use Rattle.bound_fold.specs.Sets.{HaveLists, SetHasBounds}
 use Rattle.bound_fold.proofs.TestedSets.{each_in_set, each_named}
 use Rattle.entry_sets.proofs.Listing.{entry_below}
@@ -21,7 +21,7 @@ use Rattle.planning.proofs.SameBounds.{sets_same}
 use Rattle.key_stats.specs.declared.carried.CarriedBounds.{CarriedBounds}
 use Rattle.key_bounds.specs.declared.key_lists.KeyLists.{KeyLists}
 use Rattle.key_bounds.specs.Bounds.{least_list, least_rows}
-use Rattle.key_bounds.specs.InSets.{CarriesLists, CarriesTo, IsPartOf, carried_to, fewer_by, is_carried, known_by_keys, list_carried, list_within, narrowed_by, rows_carried, rows_within}
+use Rattle.key_bounds.specs.InSets.{CarriesLists, CarriesTo, IsPartOf, carried_to, fewer_by, is_carried, bounds_with_carried, list_carried, list_within, narrowed_by, rows_carried, rows_within}
 
 some_there : {X : Type 0} (o : Option X) → IsSome o → (x : X) × (o ≡ Some x)
 some_there None h = absurd (false≢true h)
@@ -30,7 +30,7 @@ some_there (Some x) h = (x, refl)
 pub is_some : {X : Type 0} (o : Option X) (x : X) → o ≡ Some x → IsSome o
 is_some o x is = subst (λ o. IsSome o) (sym is) refl
 
--- ---- the loop over the carried bounds
+-- ---- one more carried bound in the loop
 
 module _ (subset entry : ℕ) where
   next_carried : (c : CarriedBounds) (carried : List CarriedBounds)
@@ -83,17 +83,17 @@ module _ (subset entry : ℕ) where
         ap (λ (s : List ℕ). sum s) (next_list c carried list) ∙ within_sum carried (narrowed_by subset entry column c list) carry.1
         ∙ ap (rows_within carried subset entry) (narrowed_sum c list carry.0) ∙ sym (next_rows c carried (sum list))
 
--- ---- row bounds
+-- ---- row bounds that were collected
 
 module _ (bounds : EntryBounds) where
   pub record HasRowsTo (i : ℕ) (made : EntryLists) : Type 0 where
-    pub there : (entry : ℕ) → entry < i → rows_of made entry ≡ Some (bounds.rows entry)
-    pub past : (entry : ℕ) → i ≤ entry → rows_of made entry ≡ None
+    pub there : (entry : ℕ) → entry < i → row_bound_of made entry ≡ Some (bounds.rows entry)
+    pub past : (entry : ℕ) → i ≤ entry → row_bound_of made entry ≡ None
 
-  -- ---- lists
+  -- ---- lists that were collected
 
-  pub part_first : (count : ℕ) (made : EntryLists) → ((entry : ℕ) → entry < count → rows_of made entry ≡ Some (bounds.rows entry))
-      × ((entry : ℕ) → count ≤ entry → rows_of made entry ≡ None) → ((entry column : ℕ) → list_of made entry column ≡ None) → IsPartOf bounds count made
+  pub part_first : (count : ℕ) (made : EntryLists) → ((entry : ℕ) → entry < count → row_bound_of made entry ≡ Some (bounds.rows entry))
+      × ((entry : ℕ) → count ≤ entry → row_bound_of made entry ≡ None) → ((entry column : ℕ) → list_of made entry column ≡ None) → IsPartOf bounds count made
   part_first count made rows none = record {
     rows = rows.0;
     past = rows.1;
@@ -105,7 +105,7 @@ module _ (bounds : EntryBounds) where
 
   pub part_more : (count at in_column : ℕ) (list : List ℕ) (old new : EntryLists) → IsPartOf bounds count old → list ≡ bounds.list at in_column
       → list_of new at in_column ≡ Some list → ((e c : ℕ) → ((e ≢ at) ⊎ (c ≢ in_column)) → list_of new e c ≡ list_of old e c)
-      → ((entry : ℕ) → rows_of new entry ≡ rows_of old entry) → IsPartOf bounds count new
+      → ((entry : ℕ) → row_bound_of new entry ≡ row_bound_of old entry) → IsPartOf bounds count new
   part_more count at in_column list old new before is set others rows = record {
     rows = λ entry low. rows entry ∙ before.rows entry low;
     past = λ entry past. rows entry ∙ before.past entry past;
@@ -130,7 +130,7 @@ module _ (bounds : EntryBounds) where
     ]
   ]
 
-  -- ---- the bounds of a set when all are put together
+  -- ---- the bounds of a set, after all row bounds and lists were collected
 
   module _ (count : ℕ) (made : EntryLists) (part : IsPartOf bounds count made) (none : (entry : ℕ) → count ≤ entry → bounds.rows entry ≡ 0)
       (es : List Edge) (have : All (HaveLists made) es) (subset : ℕ) (fits : subset < 2 ^ count) where
@@ -157,29 +157,29 @@ module _ (bounds : EntryBounds) where
 
     pub set_listed : SetHasBounds made es subset
     set_listed = record {
-      rows = each_in_set (λ k. IsSome (rows_of made k)) subset (λ k low has. is_some (rows_of made k) (bounds.rows k) (part.rows k (entry_below count subset k fits has)));
+      rows = each_in_set (λ k. IsSome (row_bound_of made k)) subset (λ k low has. is_some (row_bound_of made k) (bounds.rows k) (part.rows k (entry_below count subset k fits has)));
       columns = each_named (λ entry column. IsSome (list_of made entry column)) subset es (λ k d low joins. have k d low);
     }
 
--- ---- the bounds that are known in a set
+-- ---- the collected bounds are those of `bounds_with_carried`
 
 module _ (keys : KeyLists) (subset : ℕ) where
   abbrev known : EntryBounds
-  known = known_by_keys keys subset
+  known = bounds_with_carried keys subset
 
-  pub rows_known : (entry : ℕ) → entry < keys.count → rows_within keys.carried subset entry (unwrap_or (rows_of keys.own entry) 0) ≡ known.rows entry
-  rows_known entry low = sym (ap (λ (b : Bool). if b then rows_within keys.carried subset entry (unwrap_or (rows_of keys.own entry) 0) else 0) (lt-ltb entry keys.count low))
+  pub rows_known : (entry : ℕ) → entry < keys.count → rows_within keys.carried subset entry (unwrap_or (row_bound_of keys.own entry) 0) ≡ known.rows entry
+  rows_known entry low = sym (ap (λ (b : Bool). if b then rows_within keys.carried subset entry (unwrap_or (row_bound_of keys.own entry) 0) else 0) (lt-ltb entry keys.count low))
 
   pub none_known : (entry : ℕ) → keys.count ≤ entry → known.rows entry ≡ 0
-  none_known entry past = ap (λ (b : Bool). if b then rows_within keys.carried subset entry (unwrap_or (rows_of keys.own entry) 0) else 0) (le-ltb entry keys.count past)
+  none_known entry past = ap (λ (b : Bool). if b then rows_within keys.carried subset entry (unwrap_or (row_bound_of keys.own entry) 0) else 0) (le-ltb entry keys.count past)
 
   module _ (entry column : ℕ) (own : List ℕ) (there : list_of keys.own entry column ≡ Some own) where
     pub list_known : list_within keys.carried subset entry column own ≡ known.list entry column
     list_known = sym (ap (λ (o : Option (List ℕ)). unwrap_or (option_map (list_within keys.carried subset entry column) o) []) there)
 
-    pub sum_known : (made : EntryLists) (list : List ℕ) → rows_of made entry ≡ Some (known.rows entry) → entry < keys.count
+    pub sum_known : (made : EntryLists) (list : List ℕ) → row_bound_of made entry ≡ Some (known.rows entry) → entry < keys.count
         → All (λ c. c.edge.left.entry ≡ entry → IsSome (list_of c.lists entry column)) keys.carried
-        → list ≡ list_within keys.carried subset entry column own → rows_of made entry ≡ Some (sum list)
+        → list ≡ list_within keys.carried subset entry column own → row_bound_of made entry ≡ Some (sum list)
     sum_known made list rows low carry is =
         rows ∙ ap Some (
         sym (rows_known entry low)

@@ -1,4 +1,4 @@
--- No bound is too low in a plan by carried conjuncts.
+-- No bound is too low in a plan with carried conjuncts.
 use Rattle.std.proofs.Common.{◌≡◌, ◌≤◌, ℕ, Ok, length}
 use Rattle.limits.specs.Profile.{most_budget, most_entries}
 use Rattle.plans.specs.declared.left_deep.Plan.{Plan}

@@ -1,4 +1,4 @@
--- These examples compute the bounds of small tables where conjuncts are carried.
+-- The bounds of small tables with carried conjuncts, by computation.
 use Rattle.std.proofs.Common.{◌≡◌, ℕ, zero, suc, true, Option, None, Some, List, [], ◌∷◌, length, map, refl, ap, ◌∙◌, arith}
 use Rattle.std.specs.Prelude.{nat_lt, pos, if◌then◌else◌}
 use Rattle.std.proofs.Math.Path.{fun_ext}
@@ -28,17 +28,17 @@ use Rattle.table_stats.specs.Statistics.{column_lists, entry_counts}
 use Rattle.planning.specs.Bounds.{set_bounds_of}
 use Rattle.planning.specs.ReducedExamples.{by_region, region_tables}
 use Rattle.key_carriers.specs.Carriers.{carriers, carriers_to}
-use Rattle.key_carriers.specs.Examples.{shop_schema, undeclared_schema}
+use Rattle.key_carriers.specs.Examples.{orders_and_customers, undeclared_schema}
 use Rattle.key_stats.specs.Lists.{carried_counts, carried_lists}
 use Rattle.key_bounds.specs.Bounds.{least_list, least_rows, set_bounds_by_keys}
-use Rattle.key_bounds.specs.Examples.{by_both, by_manager, is_number, trade_schema, trade_tables, with_a_stray, worker_schema, worker_tables}
+use Rattle.key_bounds.specs.Examples.{by_both, by_manager, column_equals, trade_schema, trade_tables, with_a_stray, worker_schema, worker_tables}
 use Rattle.key_bounds.proofs.SmallShops.{shop_carriers, trade_carriers, undeclared_carriers, worker_carriers}
 
--- ---- an own conjunct `column = 3`, and what it makes of lists and numbers of rows
+-- ---- lists and row counts, filtered by an own conjunct `column = 3`
 
 abbrev own_of : ℕ → Option ℕ → List Cond
 own_of entry None = []
-own_of entry (Some column) = is_number entry column 3 ∷ []
+own_of entry (Some column) = column_equals entry column 3 ∷ []
 
 module _ {A : Type 0} (answers : ComparisonAnswers A) where
   abbrev of_these : List Cond → A
@@ -77,7 +77,7 @@ list_is : (query : Query) (entry : ℕ) (known : Option (Option ℕ)) → AsKnow
 list_is query entry None stands lists = refl
 list_is query entry (Some own) stands lists = of_own (list_answers lists) query entry own stands
 
--- ---- bounds by equalities, by carriers, and by what own conjuncts make of lists and numbers of rows
+-- ---- bounds from equalities, carriers, and given filtered lists and row counts
 
 abbrev told_by : Tables → ℕ → List Edge → List Edge → (ℕ → RowCounts → ℕ) → (ℕ → ColumnLists → List ℕ) → ℕ → EntryBounds
 told_by tables n es cs counted listed subset = record {
@@ -149,16 +149,16 @@ stray_computed = refl
 pub region_plain : set_bounds_of by_region region_tables 1 ≡ 1 ∷ 5 ∷ 1 ∷ 4 ∷ []
 region_plain = parts_are by_region one_edge region_joined region_own region_known region_tables [] ∙ plain_computed
 
-pub region_keyed : set_bounds_by_keys shop_schema by_region region_tables 1 ≡ 1 ∷ 5 ∷ 1 ∷ 1 ∷ []
-region_keyed = by_keys by_region one_edge region_joined region_own region_known shop_schema region_tables one_edge shop_carriers ∙ keyed_computed
+pub region_keyed : set_bounds_by_keys orders_and_customers by_region region_tables 1 ≡ 1 ∷ 5 ∷ 1 ∷ 1 ∷ []
+region_keyed = by_keys by_region one_edge region_joined region_own region_known orders_and_customers region_tables one_edge shop_carriers ∙ keyed_computed
 
-pub region_stray : set_bounds_by_keys shop_schema by_region with_a_stray 1 ≡ 1 ∷ 6 ∷ 1 ∷ 1 ∷ []
-region_stray = by_keys by_region one_edge region_joined region_own region_known shop_schema with_a_stray one_edge shop_carriers ∙ stray_computed
+pub region_stray : set_bounds_by_keys orders_and_customers by_region with_a_stray 1 ≡ 1 ∷ 6 ∷ 1 ∷ 1 ∷ []
+region_stray = by_keys by_region one_edge region_joined region_own region_known orders_and_customers with_a_stray one_edge shop_carriers ∙ stray_computed
 
 pub region_undeclared : set_bounds_by_keys undeclared_schema by_region region_tables 1 ≡ 1 ∷ 5 ∷ 1 ∷ 4 ∷ []
 region_undeclared = by_keys by_region one_edge region_joined region_own region_known undeclared_schema region_tables [] undeclared_carriers ∙ plain_computed
 
--- ---- a worker and the boss
+-- ---- the example of workers and bosses
 
 manager_joined : equalities_of by_manager ≡ one_edge
 manager_joined = rw (equality_two 0 1 1 0 (λ e. absurd (omega (arith, e))), equality_literal (column_operand 1 2) (operand.Int (pos 3)) refl) refl
@@ -188,7 +188,7 @@ manager_plain = parts_are by_manager one_edge manager_joined manager_own manager
 pub manager_keyed : set_bounds_by_keys worker_schema by_manager worker_tables 1 ≡ 1 ∷ 5 ∷ 1 ∷ 2 ∷ []
 manager_keyed = by_keys by_manager one_edge manager_joined manager_own manager_known worker_schema worker_tables one_edge worker_carriers ∙ manager_computed
 
--- ---- a trade between two customers
+-- ---- the example of trades between customers
 
 abbrev two_edges : List Edge
 two_edges = edge_of 0 1 1 0 ∷ edge_of 0 2 2 0 ∷ []

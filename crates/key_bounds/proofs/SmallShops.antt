@@ -1,4 +1,4 @@
--- These examples compute who carries in small queries.
+-- The carriers in small queries, by computation.
 use Rattle.std.proofs.Common.{◌≡◌, [], ◌∷◌, refl, arith}
 use Rattle.std.specs.Prelude.{pos}
 use Rattle.berge_tree.specs.Testing.{edge_of}
@@ -9,10 +9,10 @@ use Rattle.join_graph.specs.Conjuncts.{column_operand}
 use Rattle.join_graph.proofs.Comparing.{equality_literal, equality_two}
 use Rattle.planning.specs.ReducedExamples.{by_region}
 use Rattle.key_carriers.specs.Carriers.{carriers}
-use Rattle.key_carriers.specs.Examples.{keyless_schema, shop_schema, undeclared_schema}
+use Rattle.key_carriers.specs.Examples.{keyless_schema, orders_and_customers, undeclared_schema}
 use Rattle.key_bounds.specs.Examples.{by_both, by_manager, trade_schema, worker_schema}
 
-pub shop_carriers : carriers shop_schema by_region ≡ edge_of 0 1 1 0 ∷ []
+pub shop_carriers : carriers orders_and_customers by_region ≡ edge_of 0 1 1 0 ∷ []
 shop_carriers = rw (
   equality_two 0 1 1 0 (λ e. absurd (omega (arith, e))),
   equality_literal (column_operand 1 1) (operand.Int (pos 3)) refl,

@@ -1,4 +1,4 @@
--- Bounds by carried conjuncts hold, in each set of entries, for the rows that may take part in a choice for the set.
+-- In each set of entries, bounds with carried conjuncts stand for the rows that may take part in a choice for the set.
 use Rattle.std.proofs.Common.{◌≡◌, ℕ, ◌<◌, ◌≤◌, ◌^◌, Bool, true, eqb, List, [], ◌∷◌, length, map, sum, get_or, ap, sym, ◌∙◌, subst, arith, inl, inr}
 use Rattle.std.specs.Prelude.{if◌then◌else◌}
 use Rattle.std.specs.List.{AllByRecursion, Contains, filter, range_with_len}
@@ -33,7 +33,7 @@ use Rattle.table_stats.proofs.Dominating.{lists_stand}
 use Rattle.table_stats.proofs.FewerRows.{PassesBoth, fewer_dominated}
 use Rattle.table_stats.proofs.Summing.{counts_stand, lists_descend, lists_sum}
 use Rattle.table_stats.proofs.ValueNumbers.{have_keys}
-use Rattle.query_bounds.specs.Bounds.{is_among, joined_columns, scan_list, scan_rows}
+use Rattle.query_bounds.specs.Bounds.{is_among, joined_columns, scan_list, scan_row_bound}
 use Rattle.query_bounds.proofs.Sets.{both_among}
 use Rattle.gathered_stats.specs.Statistics.{statistics_of}
 use Rattle.planning.specs.Standing.{StandForLists, StandInSet}
@@ -62,10 +62,10 @@ all_rows_pass : (p q : ℕ → Bool) → ((row : ℕ) → p row ≡ true → q r
 all_rows_pass p q more key [] = tt
 all_rows_pass p q more key (row ∷ rows) = (more row, all_rows_pass p q more key rows)
 
--- ---- an entry to which conjuncts are carried along any equalities
+-- ---- the bounds of an entry to which conjuncts are carried along any equalities
 
 module _ (query : Query) (tables : Tables) (accuracy entry : ℕ) (es : List Edge) where
-  base_sum : (column : ℕ) → sum (scan_list query (statistics_of tables accuracy) entry column) ≡ scan_rows query (statistics_of tables accuracy) entry
+  base_sum : (column : ℕ) → sum (scan_list query (statistics_of tables accuracy) entry column) ≡ scan_row_bound query (statistics_of tables accuracy) entry
   base_sum column =
       sum-filtered (column_lists tables accuracy entry column) (entry_counts tables entry) entry query.conjuncts (lists_sum tables accuracy entry column)
 
@@ -83,7 +83,7 @@ module _ (query : Query) (tables : Tables) (accuracy entry : ℕ) (es : List Edg
       (λ e. carried_sum query tables e accuracy column)
       ∙ ap (λ (n : ℕ). least_rows n (map (carried_rows query tables) es)) (base_sum column)
 
--- ---- the bounds in a set
+-- ---- the bounds of entries in a set
 
 module _ (schema : Schema) (query : Query) (tables : Tables) (accuracy subset : ℕ) where
   abbrev bounds : EntryBounds
@@ -152,7 +152,7 @@ module _ (schema : Schema) (query : Query) (tables : Tables) (accuracy subset : 
 
     pub rows_fit : (entry : ℕ) → entry < length query.from → length (taking_at schema query tables subset fits entry) ≤ rows_by_keys query tables accuracy entry (to entry)
     rows_fit entry low =
-        least_fits (carried_rows query tables) (length (taking_at schema query tables subset fits entry)) (scan_rows query (statistics_of tables accuracy) entry) (to entry)
+        least_fits (carried_rows query tables) (length (taking_at schema query tables subset fits entry)) (scan_row_bound query (statistics_of tables accuracy) entry) (to entry)
         (omega (
           arith,
           fewer_left (takes_part entry) (passes_own (conjuncts_of query tables) entry) (own_passes entry) (range_with_len 0 (row_counts tables entry)),
@@ -208,7 +208,7 @@ module _ (schema : Schema) (query : Query) (tables : Tables) (accuracy subset : 
         dominate = set_dominates;
       }
 
--- ---- the bounds in all sets
+-- ---- the bounds in all sets stand for the scans
 
 pub stand_by_keys : (schema : Schema) (query : Query) (tables : Tables) (accuracy : ℕ) → DeclaredKeysHold schema query tables
     → (key : Keys) × StandForLists query tables (scans_of query tables) key (bounds_by_keys schema query tables accuracy)

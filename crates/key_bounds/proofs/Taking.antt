@@ -1,5 +1,5 @@
--- A row of a set's entry may take part in a choice if it is in the scan and refers, along each carrier in the set, to a row of the carrier's scan. No
--- choice of the set's level has another row.
+-- A row of an entry may take part in a choice if it is in the entry's scan. It must also refer, for each carrier in the set, to a row of the
+-- carrier's scan. All rows in the choices of the set's level are such rows.
 use Rattle.std.proofs.Common.{◌≡◌, ◌⊎◌, inl, inr, ℕ, ◌<◌, ◌≤◌, ◌^◌, Bool, true, not, ◌&&◌, ◌||◌, cond, eqb, List, [], ◌∷◌, length, map, get_or, Option, None, Some, refl, ap, sym, ◌∙◌, subst, arith}
 use Rattle.std.specs.List.{position_or_len}
 use Rattle.std.specs.List.{Contains, filter, list_all, range_with_len}
@@ -37,7 +37,7 @@ use Rattle.join_steps.specs.Lists.{list_at, scans_of, AreOfScans, IsAscending}
 use Rattle.join_steps.proofs.WholeScans.{count_of, filter_ascends, levels_of_scans, range_ascends, scan_at}
 use Rattle.reduced_scans.proofs.SameLevel.{filter_all}
 use Rattle.table_stats.proofs.EqualValues.{equal_back, equal_chain}
-use Rattle.key_carriers.specs.Carriers.{both_ways, carriers, carriers_to, carries, has_own, is_declared_key, refers, refers_to_key, table_of, exchanged}
+use Rattle.key_carriers.specs.Carriers.{with_exchanged_sides, carriers, carriers_to, carries, has_own, is_declared_key, refers, refers_to_key, table_of, exchanged}
 use Rattle.key_carriers.specs.DeclaredKeys.{HaveUniqueValues, DeclaredKeysHold}
 use Rattle.key_carriers.specs.Widened.{is_scanned, referred_row, refers_to_scanned}
 
@@ -46,11 +46,11 @@ use Rattle.key_carriers.specs.Widened.{is_scanned, referred_row, refers_to_scann
 abbrev pub IsEitherWay : List Edge → Edge → Type 0
 IsEitherWay es e = Contains es e ⊎ ((f : Edge) × Contains es f × (e ≡ exchanged f))
 
-pub either_way : (es : List Edge) (e : Edge) → Contains (both_ways es) e → IsEitherWay es e
+pub either_way : (es : List Edge) (e : Edge) → Contains (with_exchanged_sides es) e → IsEitherWay es e
 either_way [] e here = absurd (in_none e here)
-either_way (f ∷ es) e here = elim (one_in f (exchanged f ∷ both_ways es) e here) [
+either_way (f ∷ es) e here = elim (one_in f (exchanged f ∷ with_exchanged_sides es) e here) [
   | inr first ↦ inl (in_front f es e first)
-  | inl more ↦ elim (one_in (exchanged f) (both_ways es) e more) [
+  | inl more ↦ elim (one_in (exchanged f) (with_exchanged_sides es) e more) [
     | inr second ↦ inr (f, in_front f es f refl, second)
     | inl rest ↦ elim (either_way es e rest) [
       | inl straight ↦ inl (in_rest f es e straight)
@@ -204,7 +204,7 @@ module _ (schema : Schema) (query : Query) (tables : Tables) (subset : ℕ) (fit
 
       carrier_true : (e : Edge) → Contains (carriers schema query) e → joins_within subset e ≡ true → refers_to_scanned query tables e (row_of e.left.entry) ≡ true
       carrier_true e carrier joins =
-          let made = from_filter (carries schema query) (both_ways (equalities_of query)) e carrier in
+          let made = from_filter (carries schema query) (with_exchanged_sides (equalities_of query)) e carrier in
           let way : IsEitherWay (equalities_of query) e = either_way (equalities_of query) e made.0 in
           let both = and_parts (has_entry subset e.left.entry) (has_entry subset e.right.entry) joins in
           let declared = (and_parts (refers_to_key schema query e) (has_own query e.right.entry) made.1).0 in

@@ -1,4 +1,4 @@
--- The bounds of a query's entries in a set of entries, where conjuncts are carried along references to keys.
+-- The bounds of a query's entries in a set of entries, with conjuncts carried along references to keys.
 use Rattle.std.specs.Prelude.{ℕ, min, nat_lt, if◌then◌else◌, List, [], ◌∷◌, length, map}
 use Rattle.degree_sequences.specs.RunningSums.{lesser}
 use Rattle.berge_tree.specs.declared.edges.Edge.{Edge}
@@ -8,7 +8,7 @@ use Rattle.join_graph.specs.Conjuncts.{equalities_of}
 use Rattle.tree_bounds.specs.TreeBounds.{EntryBounds}
 use Rattle.set_bounds.specs.AllSets.{bounds_in_sets}
 use Rattle.sql_meaning.specs.Tables.{Tables}
-use Rattle.query_bounds.specs.Bounds.{is_among, joined_columns, scan_list, scan_rows}
+use Rattle.query_bounds.specs.Bounds.{is_among, joined_columns, scan_list, scan_row_bound}
 use Rattle.gathered_stats.specs.Statistics.{statistics_of}
 use Rattle.key_carriers.specs.Carriers.{carriers, carriers_to}
 use Rattle.key_stats.specs.Lists.{carried_list, carried_rows}
@@ -18,7 +18,7 @@ abbrev pub least_list : List ℕ → List (List ℕ) → List ℕ
 least_list list [] = list
 least_list list (other ∷ lists) = least_list (lesser list other) lists
 
--- the least of these numbers
+-- the least of `rows` and the further numbers
 abbrev pub least_rows : ℕ → List ℕ → ℕ
 least_rows rows [] = rows
 least_rows rows (other ∷ others) = least_rows (min rows other) others
@@ -27,7 +27,7 @@ least_rows rows (other ∷ others) = least_rows (min rows other) others
 
 abbrev pub rows_by_keys : Query → Tables → ℕ → ℕ → List Edge → ℕ
 rows_by_keys query tables accuracy entry es =
-    least_rows (scan_rows query (statistics_of tables accuracy) entry) (map (carried_rows query tables) es)
+    least_rows (scan_row_bound query (statistics_of tables accuracy) entry) (map (carried_rows query tables) es)
 
 abbrev pub list_by_keys : Query → Tables → ℕ → ℕ → ℕ → List Edge → List ℕ
 list_by_keys query tables accuracy entry column es =
@@ -35,7 +35,7 @@ list_by_keys query tables accuracy entry column es =
 
 -- ---- the bounds of entries in a set
 
--- the row bound of each FROM entry, and the list of each joined column. Other entries have the bound 0, and other columns the empty list
+-- the row bound of each FROM entry, and the list of each joined column. Other entries have the row bound 0, and other columns the empty list
 abbrev pub bounds_by_keys : Schema → Query → Tables → ℕ → ℕ → EntryBounds
 bounds_by_keys schema query tables accuracy subset = record {
   rows = λ entry. if nat_lt entry (length query.from)
@@ -44,7 +44,7 @@ bounds_by_keys schema query tables accuracy subset = record {
       then list_by_keys query tables accuracy entry column (carriers_to (carriers schema query) subset entry) else [];
 }
 
--- the bound of each set of entries, at the index whose bits are the set
+-- the bound of each set of entries. A set's index is the number whose bits are the set's entries
 abbrev pub set_bounds_by_keys : Schema → Query → Tables → ℕ → List ℕ
 set_bounds_by_keys schema query tables accuracy =
     bounds_in_sets (bounds_by_keys schema query tables accuracy) (equalities_of query) (length query.from)

@@ -1,4 +1,4 @@
--- Queries over small tables, for worked examples of carried conjuncts.
+-- Queries over small tables, for examples of carried conjuncts.
 use Rattle.std.specs.Prelude.{ℕ, if◌then◌else◌, ◌==◌, [], ◌∷◌, ◌++◌, map, pos}
 use Rattle.schema_types.specs.declared.types.Reference.{Reference}
 use Rattle.schema_types.specs.declared.types.Schema.{Schema}
@@ -12,11 +12,11 @@ use Rattle.sql_meaning.specs.Tables.{Tables}
 use Rattle.key_carriers.specs.Examples.{id_key, customers_with, number_column}
 use Rattle.planning.specs.ReducedExamples.{columns_equal, numbers, region_tables, source}
 
--- column `column` of entry `entry` is equal to n
-abbrev pub is_number : ℕ → ℕ → ℕ → Cond
-is_number entry column n = Compare op.Eq (column_operand entry column) (operand.Int (pos n))
+-- the condition that column `column` of entry `entry` is equal to n
+abbrev pub column_equals : ℕ → ℕ → ℕ → Cond
+column_equals entry column n = Compare op.Eq (column_operand entry column) (operand.Int (pos n))
 
--- `region_tables`, where O(N, CID) has one more row, (6, 9), which refers to nothing
+-- `region_tables` with one more row of O(N, CID): (6, 9), which refers to no row
 abbrev pub with_a_stray : Tables
 with_a_stray entry = region_tables entry ++ (if entry == 0 then numbers (6 ∷ 9 ∷ []) ∷ [] else [])
 
@@ -24,11 +24,11 @@ with_a_stray entry = region_tables entry ++ (if entry == 0 then numbers (6 ∷ 9
 abbrev pub by_manager : Query
 by_manager = record {
   from = source 0 69 ∷ source 0 77 ∷ [];
-  conjuncts = columns_equal 0 1 1 0 ∷ is_number 1 2 3 ∷ [];
+  conjuncts = columns_equal 0 1 1 0 ∷ column_equals 1 2 3 ∷ [];
   select = record { column = record { from = 0; column = 0 }; name = 78 ∷ [] } ∷ [];
 }
 
--- W(N PRIMARY KEY, BOSS REFERENCES W (N), REG)
+-- the table W(N PRIMARY KEY, BOSS REFERENCES W (N), REG)
 abbrev pub workers : Table
 workers = record {
   name = 87 ∷ [];
@@ -47,7 +47,7 @@ worker_tables entry =
 
 -- ---- two references to one table
 
--- O(N, BUYER REFERENCES C (ID), PAYER REFERENCES C (ID))
+-- the table O(N, BUYER REFERENCES C (ID), PAYER REFERENCES C (ID))
 abbrev pub trades : Table
 trades = record {
   name = 79 ∷ [];
@@ -64,7 +64,7 @@ trade_schema = record { tables = trades ∷ customers_with id_key ∷ [] }
 abbrev pub by_both : Query
 by_both = record {
   from = source 0 79 ∷ source 1 66 ∷ source 1 80 ∷ [];
-  conjuncts = columns_equal 0 1 1 0 ∷ columns_equal 0 2 2 0 ∷ is_number 1 1 3 ∷ is_number 2 1 3 ∷ [];
+  conjuncts = columns_equal 0 1 1 0 ∷ columns_equal 0 2 2 0 ∷ column_equals 1 1 3 ∷ column_equals 2 1 3 ∷ [];
   select = record { column = record { from = 0; column = 0 }; name = 78 ∷ [] } ∷ [];
 }
 

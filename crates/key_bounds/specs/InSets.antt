@@ -10,24 +10,24 @@ use Rattle.join_graph.specs.Kept.{joins_within}
 use Rattle.tree_bounds.specs.Columns.{EachNamedColumn}
 use Rattle.tree_bounds.specs.TreeBounds.{EntryBounds}
 use Rattle.bound_fold.specs.declared.lists.EntryLists.{EntryLists}
-use Rattle.bound_fold.specs.Lists.{list_of, rows_of}
+use Rattle.bound_fold.specs.Lists.{list_of, row_bound_of}
 use Rattle.bound_fold.specs.Sets.{HaveLists}
 use Rattle.key_stats.specs.declared.carried.CarriedBounds.{CarriedBounds}
 use Rattle.key_bounds.specs.declared.key_lists.KeyLists.{KeyLists}
 use Rattle.key_bounds.specs.Bounds.{least_list, least_rows}
 
--- ---- what is carried to an entry within a set
+-- ---- the bounds that are carried to an entry within a set
 
 abbrev pub carried_to : List CarriedBounds → ℕ → ℕ → List CarriedBounds
 carried_to carried subset entry = filter (λ c. c.edge.left.entry == entry) (filter (λ c. joins_within subset c.edge) carried)
 
 abbrev pub rows_carried : ℕ → CarriedBounds → ℕ
-rows_carried entry c = unwrap_or (rows_of c.lists entry) 0
+rows_carried entry c = unwrap_or (row_bound_of c.lists entry) 0
 
 abbrev pub list_carried : ℕ → ℕ → CarriedBounds → List ℕ
 list_carried entry column c = unwrap_or (list_of c.lists entry column) []
 
--- the least of a row bound and of the row bounds that are carried to the entry within the set; below, the same for a list
+-- the least of an entry's row bound and the row bounds that are carried to it within the set. The definition after it does the same for a list
 abbrev pub rows_within : List CarriedBounds → ℕ → ℕ → ℕ → ℕ
 rows_within carried subset entry rows = least_rows rows (map (rows_carried entry) (carried_to carried subset entry))
 
@@ -47,13 +47,13 @@ narrowed_by subset entry column c list = if is_carried subset entry c then lesse
 
 -- ---- the bounds of all entries in a set
 
-abbrev pub known_by_keys : KeyLists → ℕ → EntryBounds
-known_by_keys keys subset = record {
-  rows = λ entry. if nat_lt entry keys.count then rows_within keys.carried subset entry (unwrap_or (rows_of keys.own entry) 0) else 0;
+abbrev pub bounds_with_carried : KeyLists → ℕ → EntryBounds
+bounds_with_carried keys subset = record {
+  rows = λ entry. if nat_lt entry keys.count then rows_within keys.carried subset entry (unwrap_or (row_bound_of keys.own entry) 0) else 0;
   list = λ entry column. unwrap_or (option_map (list_within keys.carried subset entry column) (list_of keys.own entry column)) [];
 }
 
--- ---- which lists must be known for a set
+-- ---- the row bounds and lists that are needed for a set
 
 -- if `c` is carried to the entry of `place` (an entry and one of its columns), `c` has a list of this column
 abbrev pub CarriesTo : Place → CarriedBounds → Type 0
@@ -64,19 +64,19 @@ abbrev pub CarriesLists : List Edge → CarriedBounds → Type 0
 CarriesLists es c = AllByRecursion (λ place. CarriesTo place c) (places_of es)
 
 -- the set has only entries below `keys.count`, which is at most `most_entries`. Each entry below `keys.count` has a row bound, and each column that
--- these equalities name has a list. Whatever is carried to an entry has a list of each of the entry's columns that the equalities name
+-- these equalities name has a list. Each carried bound has a list of each column of its left entry that the equalities name
 pub record HaveKeyLists (keys : KeyLists) (es : List Edge) (subset : ℕ) : Type 0 where
   pub few : keys.count ≤ most_entries
   pub fits : subset < 2 ^ keys.count
-  pub rows : (entry : ℕ) → entry < keys.count → IsSome (rows_of keys.own entry)
+  pub rows : (entry : ℕ) → entry < keys.count → IsSome (row_bound_of keys.own entry)
   pub lists : All (HaveLists keys.own) es
   pub entries : EachNamedColumn (λ entry column. entry < keys.count) es
   pub carried : All (CarriesLists es) keys.carried
 
--- ---- bounds while they are put together
+-- ---- bounds while they are collected
 
--- exactly the first `count` entries have row bounds in `lists`. These row bounds, and all lists in `lists`, are those of `bounds`
+-- exactly the first `count` entries have row bounds in `lists`. All row bounds and lists in `lists` are those of `bounds`
 pub record IsPartOf (bounds : EntryBounds) (count : ℕ) (lists : EntryLists) : Type 0 where
-  pub rows : (entry : ℕ) → entry < count → rows_of lists entry ≡ Some (bounds.rows entry)
-  pub past : (entry : ℕ) → count ≤ entry → rows_of lists entry ≡ None
+  pub rows : (entry : ℕ) → entry < count → row_bound_of lists entry ≡ Some (bounds.rows entry)
+  pub past : (entry : ℕ) → count ≤ entry → row_bound_of lists entry ≡ None
   pub columns : (entry column : ℕ) (list : List ℕ) → list_of lists entry column ≡ Some list → list ≡ bounds.list entry column

@@ -1,4 +1,4 @@
--- Plans where conjuncts are carried along references to keys.
+-- Plans with conjuncts that are carried along references to keys.
 use Rattle.std.specs.Prelude.{ℕ, length, Result}
 use Rattle.plans.specs.declared.left_deep.Plan.{Plan}
 use Rattle.order_search.specs.declared.refusal.PlanError.{PlanError}
@@ -10,7 +10,8 @@ use Rattle.planning.specs.Bounds.{scan_bounds_of}
 use Rattle.planning.specs.Plans.{planned_from}
 use Rattle.key_bounds.specs.Bounds.{bounds_by_keys}
 
--- the bounds of scans are without carried conjuncts, because a scan still has the rows that refer to no row of a carrier's scan
+-- the plan with carried conjuncts. Bounds of scans are without carried conjuncts, because a scan has rows that refer to no row of a carrier's scan
+-- too
 unfoldable pub planned_by_keys : Schema → Query → Tables → ℕ → ℕ → Result Plan PlanError
 planned_by_keys schema query tables accuracy budget =
     planned_from (bounds_by_keys schema query tables accuracy) (scan_bounds_of query tables accuracy) (equalities_of query) (length query.from) budget

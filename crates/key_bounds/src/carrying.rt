@@ -1,7 +1,7 @@
-//! From a query's tables, makes the bounds that are carried along the references of a schema. They bound the rows of an entry that refer to rows
+//! Makes the bounds that are carried along the references of a schema, from a query's tables. They bound those rows of an entry that refer to rows
 //! which pass another entry's own conjuncts.
 ghost use Rattle.std.specs.Prelude.{◌≡◌, All, IfOk, Some, length};
-ghost use Rattle.bound_fold.specs.Lists.{list_of, rows_of};
+ghost use Rattle.bound_fold.specs.Lists.{list_of, row_bound_of};
 ghost use Rattle.join_graph.specs.Conjuncts.{equalities_of, local_of};
 ghost use Rattle.predicate_bounds.specs.StatsLists.{columns_of, list_in_stats, row_bound_in_stats};
 ghost use Rattle.sql_meaning.specs.Databases.{IsDatabaseOf};
@@ -23,10 +23,10 @@ use predicate_bounds::QueryStats;
 use query_types::Query;
 use std::alloc::Global;
 
-// The row bound and the lists of the first entry of `stats`, kept as those of `entry`.
+// The row bound and the lists of the first entry of `stats`. They are returned as those of `entry`.
 fn first_lists(alloc: Global, stats: &QueryStats, entry: u8) -> Result<EntryLists, NoMemory>
     requires { AddUp stats.now }
-    ensures rows { IfOk result (λ made. rows_of made entry ≡ Some (row_bound_in_stats stats.now 0)) }
+    ensures rows { IfOk result (λ made. row_bound_of made entry ≡ Some (row_bound_in_stats stats.now 0)) }
     ensures lists { IfOk result (λ made. All (λ joined. list_of made entry joined.column ≡ Some (list_in_stats stats.now 0 joined.column)) (columns_of stats.now 0)) }
 {
     let mut made = EntryLists::new(alloc);
@@ -40,7 +40,7 @@ fn first_lists(alloc: Global, stats: &QueryStats, entry: u8) -> Result<EntryList
     Ok(made)
 }
 
-// What is carried along an equality: bounds of the widened table's rows that pass the right entry's own conjuncts.
+// The bounds that are carried along an equality. They bound the rows of the widened table that pass the right entry's own conjuncts.
 fn carried_over(
     alloc: Global,
     query: &Query,

@@ -1,17 +1,18 @@
-//! Theorems by computation over small queries and tables: which entries carry their conjuncts to others, widened tables, and bounds of sets.
+//! Theorems by computation over small queries and tables: carriers, widened tables, and bounds of sets.
 ghost use Rattle.std.specs.Prelude.{◌≡◌, ◌∷◌, []};
 ghost use Rattle.berge_tree.specs.Testing.{edge_of};
 ghost use Rattle.planning.specs.Bounds.{set_bounds_of};
 ghost use Rattle.planning.specs.ReducedExamples.{by_region, region_tables};
 ghost use Rattle.key_carriers.specs.Carriers.{carriers, carriers_to};
-ghost use Rattle.key_carriers.specs.Examples.{keyless_schema, shop_schema, undeclared_schema};
+ghost use Rattle.key_carriers.specs.Examples.{keyless_schema, orders_and_customers, undeclared_schema};
 ghost use Rattle.key_carriers.specs.Widened.{referred, referring};
 ghost use Rattle.key_bounds.specs.Bounds.{set_bounds_by_keys};
 ghost use Rattle.key_bounds.specs.Examples.{by_both, by_manager, trade_schema, trade_tables, with_a_stray, worker_schema, worker_tables};
 
-/// An entry carries its own conjuncts to another if the schema declares the reference and the key. Within a set, both entries have to be in the set.
+/// An entry carries its own conjuncts to another entry if the schema declares the reference and the key. Within a set, it does so only if the set has
+/// both entries.
 pub fn who_carries()
-    ensures declared { carriers shop_schema by_region ≡ edge_of 0 1 1 0 ∷ [] }
+    ensures declared { carriers orders_and_customers by_region ≡ edge_of 0 1 1 0 ∷ [] }
     ensures undeclared { carriers undeclared_schema by_region ≡ [] }
     ensures no_key { carriers keyless_schema by_region ≡ [] }
     ensures to_its_own_table { carriers worker_schema by_manager ≡ edge_of 0 1 1 0 ∷ [] }
@@ -20,24 +21,25 @@ pub fn who_carries()
     ensures outside { carriers_to (edge_of 0 1 1 0 ∷ []) 1 0 ≡ [] }
 {}
 
-/// The widened table of orders O(N, CID) and customers C(ID, REG). It is the same with one more order, which refers to no customer.
+/// The widened table of orders O(N, CID) and customers C(ID, REG). A further order that refers to no customer doesn't change it.
 pub fn widened_tables()
     ensures rows { referring region_tables (edge_of 0 1 1 0) ≡ 0 ∷ 1 ∷ 2 ∷ 3 ∷ 4 ∷ [] }
     ensures others { referred region_tables (edge_of 0 1 1 0) ≡ 0 ∷ 1 ∷ 1 ∷ 1 ∷ 1 ∷ [] }
     ensures stray_is_left_out { referring with_a_stray (edge_of 0 1 1 0) ≡ 0 ∷ 1 ∷ 2 ∷ 3 ∷ 4 ∷ [] }
 {}
 
-/// O and C, where C.REG = 3 for one customer, who has one order. The bound of the set of both entries is 4 without carried conjuncts and 1 with
-/// them. It stays 1 with one more order, which refers to no customer. If the schema doesn't declare the reference, the bound stays 4.
+/// O and C with the condition C.REG = 3, which one customer passes, who has one order. The bound of the set of both entries is 4 without carried
+/// conjuncts and 1 with them. A further order that refers to no customer doesn't change it. If the schema doesn't declare the reference, the bound
+/// stays 4.
 pub fn orders_of_a_region()
     ensures plain { set_bounds_of by_region region_tables 1 ≡ 1 ∷ 5 ∷ 1 ∷ 4 ∷ [] }
-    ensures keyed { set_bounds_by_keys shop_schema by_region region_tables 1 ≡ 1 ∷ 5 ∷ 1 ∷ 1 ∷ [] }
-    ensures stray { set_bounds_by_keys shop_schema by_region with_a_stray 1 ≡ 1 ∷ 6 ∷ 1 ∷ 1 ∷ [] }
+    ensures keyed { set_bounds_by_keys orders_and_customers by_region region_tables 1 ≡ 1 ∷ 5 ∷ 1 ∷ 1 ∷ [] }
+    ensures stray { set_bounds_by_keys orders_and_customers by_region with_a_stray 1 ≡ 1 ∷ 6 ∷ 1 ∷ 1 ∷ [] }
     ensures undeclared { set_bounds_by_keys undeclared_schema by_region region_tables 1 ≡ 1 ∷ 5 ∷ 1 ∷ 4 ∷ [] }
 {}
 
-/// Workers and their bosses, who are workers too. One boss, of two workers, is in region 3. The bound of the set of both entries is 3 without
-/// carried conjuncts and 2 with them.
+/// Workers and their bosses, who are workers too. Only one boss is in region 3, and has two workers. The bound of the set of both entries is 3
+/// without carried conjuncts and 2 with them.
 pub fn workers_of_a_region()
     ensures plain { set_bounds_of by_manager worker_tables 1 ≡ 1 ∷ 5 ∷ 1 ∷ 3 ∷ [] }
     ensures keyed { set_bounds_by_keys worker_schema by_manager worker_tables 1 ≡ 1 ∷ 5 ∷ 1 ∷ 2 ∷ [] }

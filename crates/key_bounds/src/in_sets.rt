@@ -1,10 +1,11 @@
-//! The bounds of the entries of a set. Each is the least of the entry's own bound and the bounds that are carried to the entry within the set.
+//! Computes the bounds of the entries of a set. Each is the least of the entry's own bound and the bounds that are carried to the entry within the
+//! set.
 ghost use Rattle.std.specs.Prelude.{◌≡◌, ◌<◌, ◌≤◌, ◌^◌, ℕ, All, IfOk, IsSome, MatchBool, None, OnOk, Some};
 ghost use Rattle.std.specs.List.{sum};
-ghost use Rattle.bound_fold.specs.Lists.{list_of, rows_of};
+ghost use Rattle.bound_fold.specs.Lists.{list_of, row_bound_of};
 ghost use Rattle.bound_fold.specs.Sets.{HaveLists};
 ghost use Rattle.tree_bounds.specs.Columns.{EachNamedColumn};
-ghost use Rattle.key_bounds.specs.InSets.{HaveKeyLists, CarriesLists, CarriesTo, IsPartOf, fewer_by, is_carried, known_by_keys, list_within, narrowed_by, rows_within};
+ghost use Rattle.key_bounds.specs.InSets.{HaveKeyLists, CarriesLists, CarriesTo, IsPartOf, fewer_by, is_carried, bounds_with_carried, list_within, narrowed_by, rows_within};
 
 use crate::key_lists::KeyLists;
 use base_io::NoMemory;
@@ -27,7 +28,7 @@ fn is_carried(carried: &CarriedBounds, subset: EntrySet, entry: u8) -> bool
     carried.edge.left.entry == entry
 }
 
-// The lesser of `rows` and the carried row bound, if this bound counts for the entry in the set; otherwise `rows`.
+// The lesser of `rows` and the carried row bound. If the carried bound doesn't count for the entry in the set, it is `rows`.
 fn lesser_rows(rows: u64, one: &CarriedBounds, subset: EntrySet, entry: u8) -> u64
     ensures { result ≡ fewer_by subset entry one.now rows }
 {
@@ -60,7 +61,8 @@ fn list_at(lists: &EntryLists, place: Place) -> &Pieces
     }
 }
 
-// The list `list`, lowered to the carried list of its column if this list counts for the entry in the set.
+// The list whose running sums are the lesser ones of `list` and of the carried list. If the carried list doesn't count for the entry in the set, it
+// is `list`.
 fn narrowed(
     list: Pieces,
     one: &CarriedBounds,
@@ -98,8 +100,8 @@ fn list_within(
 
 // The row bound of each entry in a set.
 fn with_rows(alloc: Global, keys: &KeyLists, subset: EntrySet) -> Result<EntryLists, NoMemory>
-    ensures rows { IfOk result (λ made. ((entry : ℕ) → entry < keys.now.count → rows_of made entry ≡ Some ((known_by_keys keys.now subset).rows entry))
-        × ((entry : ℕ) → keys.now.count ≤ entry → rows_of made entry ≡ None)) }
+    ensures rows { IfOk result (λ made. ((entry : ℕ) → entry < keys.now.count → row_bound_of made entry ≡ Some ((bounds_with_carried keys.now subset).rows entry))
+        × ((entry : ℕ) → keys.now.count ≤ entry → row_bound_of made entry ≡ None)) }
     ensures lists { IfOk result (λ made. (entry column : ℕ) → list_of made entry column ≡ None) }
 {
     let mut made = EntryLists::new(alloc);
@@ -123,9 +125,9 @@ fn add_new(
     requires own { IsSome (list_of keys.now.own place.entry place.column) }
     requires entry { place.entry < keys.now.count }
     requires carried { All (CarriesTo place) keys.now.carried }
-    requires part { IsPartOf (known_by_keys keys.now subset) keys.now.count made.old }
+    requires part { IsPartOf (bounds_with_carried keys.now subset) keys.now.count made.old }
     requires new { list_of made.old place.entry place.column ≡ None }
-    ensures part { OnOk result (IsPartOf (known_by_keys keys.now subset) keys.now.count made.new) }
+    ensures part { OnOk result (IsPartOf (bounds_with_carried keys.now subset) keys.now.count made.new) }
     ensures there { OnOk result (IsSome (list_of made.new place.entry place.column)) }
     ensures kept { OnOk result ((entry column : ℕ) → IsSome (list_of made.old entry column) → IsSome (list_of made.new entry column)) }
 {
@@ -151,8 +153,8 @@ fn add_list(
     requires own { IsSome (list_of keys.now.own place.entry place.column) }
     requires entry { place.entry < keys.now.count }
     requires carried { All (CarriesTo place) keys.now.carried }
-    requires part { IsPartOf (known_by_keys keys.now subset) keys.now.count made.old }
-    ensures part { OnOk result (IsPartOf (known_by_keys keys.now subset) keys.now.count made.new) }
+    requires part { IsPartOf (bounds_with_carried keys.now subset) keys.now.count made.old }
+    ensures part { OnOk result (IsPartOf (bounds_with_carried keys.now subset) keys.now.count made.new) }
     ensures there { OnOk result (IsSome (list_of made.new place.entry place.column)) }
     ensures kept { OnOk result ((entry column : ℕ) → IsSome (list_of made.old entry column) → IsSome (list_of made.new entry column)) }
 {
@@ -172,7 +174,7 @@ fn lists_in(
     requires lists { All (HaveLists keys.now.own) equalities.now }
     requires entries { EachNamedColumn (λ entry column. entry < keys.now.count) equalities.now }
     requires carried { All (CarriesLists equalities.now) keys.now.carried }
-    ensures part { IfOk result (IsPartOf (known_by_keys keys.now subset) keys.now.count) }
+    ensures part { IfOk result (IsPartOf (bounds_with_carried keys.now subset) keys.now.count) }
     ensures lists { IfOk result (λ made. All (HaveLists made) equalities.now) }
 {
     let mut made = with_rows(alloc, keys, subset)?;
@@ -185,7 +187,7 @@ fn lists_in(
 }
 
 impl KnownInSets for KeyLists {
-    ghost known = { known_by_keys };
+    ghost known = { bounds_with_carried };
 
     ghost is_listed = { HaveKeyLists };
 

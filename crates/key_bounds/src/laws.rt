@@ -1,4 +1,4 @@
-//! Laws of bounds and plans where conjuncts are carried along references to keys. No law computes anything; its contract is the law.
+//! Laws of bounds and plans, if conjuncts are carried along references to keys. Each function does nothing; its contract is the law.
 ghost use Rattle.std.specs.Prelude.{◌≡◌, ◌≢◌, ◌^◌, ◌<◌, ◌≤◌, ℕ, Ok, Err, length, slice_index};
 ghost use Rattle.limits.specs.Profile.{most_budget, most_entries};
 ghost use Rattle.plans.specs.declared.left_deep.Plan.{Plan};
@@ -24,9 +24,9 @@ pub fn keys_only_lower()
         → slice_index (set_bounds_by_keys schema query tables accuracy) subset ≤ slice_index (set_bounds_of query tables accuracy) subset }
 {}
 
-/// If the declared keys hold, no bound is too low. The bounds of entries in each set hold for the rows that may be in a choice for the set. No
-/// level over the scans of a set's entries has more rows than the bound of the set. A plan by these bounds is a plan over the scans, and
-/// `planned_by_keys` is never NoMemory. Rows that refer to no row need no exception, since they are in no choice with the other entry.
+/// If the declared keys hold, no bound is too low. The bounds of entries in each set stand for the rows that may be in a choice for the set. No level
+/// over the scans of a set's entries has more rows than the bound of the set. A plan by these bounds is a plan over the scans, and `planned_by_keys`
+/// is never NoMemory. Rows that refer to no row need no exception, since they are in no choice with the other entry.
 pub fn keys_are_never_under()
     ensures stand { (schema : Schema) (query : Query) (tables : Tables) (accuracy : ℕ) → DeclaredKeysHold schema query tables
         → (key : Keys) × StandForLists query tables (scans_of query tables) key (bounds_by_keys schema query tables accuracy) }
@@ -39,9 +39,9 @@ pub fn keys_are_never_under()
         → planned_by_keys schema query tables accuracy budget ≢ Err error.NoMemory }
 {}
 
-/// Suppose that equalities name only FROM entries, and that a set falls into two parts that no equality joins. Then each part has the same
-/// bound by what is carried within the set as by what is carried within the part. A carrier is joined with the entry to which it carries, so
-/// both are in one part.
+/// Suppose that equalities name only FROM entries, and that a set consists of two parts that no equality joins. The bound of each part is the same
+/// with the conjuncts that are carried within the set as with those carried within the part. The reason is that a carrier is joined with the entry to
+/// which it carries, so both are in the same part.
 pub fn keys_look_at_parts()
     ensures { (schema : Schema) (query : Query) (tables : Tables) (accuracy : ℕ)
         → EachNamedColumn (λ entry column. entry < length query.from) (equalities_of query)

@@ -1,13 +1,12 @@
-//! Bounds of all sets of a query's entries, and plans by them, where conjuncts are carried along references to keys.
+//! Computes bounds of all sets of a query's entries, and plans, with conjuncts carried along references to keys.
 //!
 //! In: a query, its schema and its tables. Suppose that the schema declares a reference to a key, and that an equality of the query joins the two
-//! columns. Then, in a set with both entries, only those rows of the referring entry count that refer to a row which passes the other entry's own
-//! conjuncts. Out: row bounds and lists of each entry in each set (`KeyLists`, which is a `KnownInSets`), and the bounds of all sets (`from_keys`).
-//! The bounds of scans come from each table alone.
+//! columns. Then, in a set with both entries, some rows of the referring entry don't count: those that refer to no row that passes the other entry's
+//! own conjuncts. Out: row bounds and lists of each entry in each set (`KeyLists`, which is a `KnownInSets`), and the bounds of all sets
+//! (`from_keys`). The bound of a scan comes only from statistics of its own table.
 //!
-//! Callers cite `bounds_by_keys` for the bounds of entries in a set, `planned_by_keys` for the plan, and `DeclaredKeysHold` of key_carriers for
-//! the keys that have to hold in the tables. The laws say that no bound is too low, and that no bound is above the one without carried
-//! conjuncts.
+//! In contracts `bounds_by_keys` gives the bounds of entries in a set, and `planned_by_keys` the plan. `DeclaredKeysHold` of key_carriers says that
+//! the tables have no declared key twice. The laws say that no bound is too low, and that no bound is above the bound without carried conjuncts.
 #![tactic(auto)]
 
 mod carrying;

@@ -1,4 +1,4 @@
-//! Bounds of all sets of a query's entries, by statistics of its tables and by carried conjuncts.
+//! Makes bounds of all sets of a query's entries from statistics of its tables and from carried conjuncts.
 ghost use Rattle.std.specs.Prelude.{◌<◌, ◌≤◌, ◌≡◌, ℕ, IfOk, length};
 ghost use Rattle.limits.specs.Profile.{most_entries};
 ghost use Rattle.schema_types.specs.declared.types.Schema.{Schema as SchemaText};
@@ -27,7 +27,7 @@ use query_types::Query;
 use schema_types::Schema;
 use std::alloc::Global;
 
-/// Makes the bounds of all sets from statistics of the query's entries, and from what is carried along the references of a schema. A scan's
+/// Makes the bounds of all sets from statistics of the query's entries, and from bounds that are carried along the references of a schema. A scan's
 /// bound is its entry's row bound without carried conjuncts. `parts` is the result of `split` for the query.
 pub fn from_carried(
     alloc: Global,
@@ -56,11 +56,11 @@ pub fn from_carried(
     Ok(known)
 }
 
-/// Makes the bounds of all sets from statistics of the query's tables, which are gathered once. Own conjuncts are carried along the references
-/// to keys that the schema declares (SafeBound, SIGMOD 2023). A scan's bound is its entry's row bound without carried conjuncts.
+/// Makes the bounds of all sets from statistics of the query's tables, which are gathered once. Own conjuncts are carried along the references to
+/// keys that the schema declares (SafeBound, SIGMOD 2023). A scan's bound is its entry's row bound without carried conjuncts.
 ///
-/// For each row of a referring entry, the row that it refers to is looked up once, and no row is copied. Apart from sorting columns and from
-/// bounding all sets, time and memory are linear in the rows times the references and the joined columns.
+/// Each row of a referring entry is looked up once, and no row is copied. Sorting columns and bounding all sets take further time. Otherwise time and
+/// memory are linear in the number of rows times the number of references and joined columns.
 ///
 /// `accuracy` is the accuracy of the compressed lists.
 pub fn from_keys(

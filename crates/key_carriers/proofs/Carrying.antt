@@ -1,4 +1,4 @@
--- These lemmas are about the loop that lists the carriers, one equality after another.
+-- The loop that lists the carriers, one equality after another.
 use Rattle.std.proofs.Common.{◌≡◌, ℕ, zero, suc, ◌+◌, ◌<◌, Bool, true, false, cond, ltb, List, [], ◌∷◌, ◌++◌, length, take, get_or, slice_get, Some, refl, ap, sym, ◌∙◌, subst, arith, inl, inr}
 use Rattle.std.specs.List.{filter, list_any}
 use Rattle.std.proofs.lemmas.Bool.{cases_Bool, lt-ltb}
@@ -11,7 +11,7 @@ use Rattle.schema_types.specs.declared.types.Schema.{Schema}
 use Rattle.query_types.specs.declared.types.Query.{Query}
 use Rattle.join_graph.specs.Conjuncts.{local_of, names_just, numbers_where}
 use Rattle.tree_bounds.specs.Columns.{EachNamedColumn}
-use Rattle.key_carriers.specs.Carriers.{both_ways, carries, has_own, exchanged}
+use Rattle.key_carriers.specs.Carriers.{with_exchanged_sides, carries, has_own, exchanged}
 
 pub some_listed : {A : Type 0} (test : A → Bool) (first : ℕ) (xs : List A) → list_any test xs ≡ ltb 0 (length (numbers_where test first xs))
 some_listed test first [] = refl
@@ -28,22 +28,22 @@ own_listed query local entry at numbers is low same there =
     ∙ get_or-map-range_with_len (λ entry. numbers_where (names_just entry) 0 query.conjuncts) 0 (length query.from) entry entry [] low (omega arith))
     ∙ sym (some_listed (names_just entry) 0 query.conjuncts)
 
-both_more : (es : List Edge) (e : Edge) → both_ways (es ++ e ∷ []) ≡ both_ways es ++ (e ∷ (exchanged e ∷ []))
+both_more : (es : List Edge) (e : Edge) → with_exchanged_sides (es ++ e ∷ []) ≡ with_exchanged_sides es ++ (e ∷ (exchanged e ∷ []))
 both_more [] e = refl
 both_more (f ∷ es) e = ap (λ (s : List Edge). f ∷ (exchanged f ∷ s)) (both_more es e)
 
 pub one_more : (schema : Schema) (query : Query) (es : List Edge) (i : ℕ) (d : Edge) (before between after : List Edge) → i < length es
-    → before ≡ filter (carries schema query) (both_ways (take i es))
+    → before ≡ filter (carries schema query) (with_exchanged_sides (take i es))
     → between ≡ before ++ filter (carries schema query) (get_or es i d ∷ []) → after ≡ between ++ filter (carries schema query) (exchanged (get_or es i d) ∷ [])
-    → after ≡ filter (carries schema query) (both_ways (take (i + 1) es))
+    → after ≡ filter (carries schema query) (with_exchanged_sides (take (i + 1) es))
 one_more schema query es i d before between after low is first second =
     let e : Edge = get_or es i d in
     let p : Edge → Bool = carries schema query in
     second ∙ ap (λ (s : List Edge). s ++ filter p (exchanged e ∷ [])) (first ∙ ap (λ (s : List Edge). s ++ filter p (e ∷ [])) is)
-    ∙ append_assoc (filter p (both_ways (take i es))) (filter p (e ∷ [])) (filter p (exchanged e ∷ []))
-    ∙ ap (λ (s : List Edge). filter p (both_ways (take i es)) ++ s) (sym (filter-append p (e ∷ []) (exchanged e ∷ [])))
-    ∙ sym (filter-append p (both_ways (take i es)) (e ∷ (exchanged e ∷ [])))
-    ∙ ap (filter p) (sym (both_more (take i es) e) ∙ ap both_ways (sym (take_more es i d low)))
+    ∙ append_assoc (filter p (with_exchanged_sides (take i es))) (filter p (e ∷ [])) (filter p (exchanged e ∷ []))
+    ∙ ap (λ (s : List Edge). filter p (with_exchanged_sides (take i es)) ++ s) (sym (filter-append p (e ∷ []) (exchanged e ∷ [])))
+    ∙ sym (filter-append p (with_exchanged_sides (take i es)) (e ∷ (exchanged e ∷ [])))
+    ∙ ap (filter p) (sym (both_more (take i es) e) ∙ ap with_exchanged_sides (sym (take_more es i d low)))
 
 pub named_low : (n : ℕ) (es all : List Edge) (i : ℕ) (d : Edge) → es ≡ all → EachNamedColumn (λ entry column. entry < n) all → i < length es
     → ((get_or es i d).left.entry < n) × ((get_or es i d).right.entry < n)

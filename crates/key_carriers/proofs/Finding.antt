@@ -86,7 +86,7 @@ module _ (db : Database) (e : Edge) (tables : AreTables db) (different : TextsAr
         (λ within. absurd (omega arith)) in
         sym (ap (λ (n : ℕ). cond (ltb n (length others)) (Some n) None) at ∙ ap (λ (b : Bool). cond b (Some (length others)) None) (le-ltb (length others) (length others) (omega arith)))
 
--- ---- the widened table, one row after another
+-- ---- the widened table after one more row of the left entry
 
 module _ (db : Database) (e : Edge) where
   to_more : (row : ℕ) → widened_to (tables_of db) e (row + 1) ≡ widened_to (tables_of db) e row ++ cons_option (widened_row (tables_of db) e row) []

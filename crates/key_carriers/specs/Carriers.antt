@@ -1,4 +1,4 @@
--- Which entries carry their own conjuncts to others, along the references to keys that a schema declares.
+-- The entries that carry their own conjuncts to other entries, along references to keys that a schema declares.
 use Rattle.std.specs.Prelude.{ℕ, Bool, false, ◌&&◌, ◌==◌, List, [], ◌∷◌, filter, slice_index_or}
 use Rattle.std.specs.List.{list_any}
 use Rattle.schema_types.specs.declared.types.Reference.{Reference}
@@ -10,7 +10,7 @@ use Rattle.berge_tree.specs.declared.edges.Edge.{Edge}
 use Rattle.join_graph.specs.Conjuncts.{equalities_of, names_just}
 use Rattle.join_graph.specs.Kept.{equalities_within}
 
--- ---- what a schema declares
+-- ---- keys and references that a schema declares
 
 abbrev pub no_table : Table
 no_table = record { name = []; columns = []; keys = []; references = [] }
@@ -18,7 +18,7 @@ no_table = record { name = []; columns = []; keys = []; references = [] }
 abbrev pub table_at : Schema → ℕ → Table
 table_at schema table = slice_index_or schema.tables table no_table
 
--- the list has this column and no other
+-- whether the list has only this column
 abbrev pub is_only_column : ℕ → List ℕ → Bool
 is_only_column column [] = false
 is_only_column column (first ∷ []) = first == column
@@ -28,7 +28,7 @@ is_only_column column (first ∷ (second ∷ columns)) = false
 abbrev pub is_declared_key : Schema → ℕ → ℕ → Bool
 is_declared_key schema table column = list_any (is_only_column column) (table_at schema table).keys
 
--- the reference is from just this column to just the column `target` of the table
+-- whether the reference has only this column, and its target is only the column `target` of the table
 abbrev pub is_reference_from_to : ℕ → ℕ → ℕ → Reference → Bool
 is_reference_from_to column table target reference = is_only_column column reference.columns && (reference.table == table && is_only_column target reference.targets)
 
@@ -36,7 +36,7 @@ is_reference_from_to column table target reference = is_only_column column refer
 abbrev pub refers : Schema → ℕ → ℕ → ℕ → ℕ → Bool
 refers schema table column other target = list_any (is_reference_from_to column other target) (table_at schema table).references
 
--- ---- what the schema declares of a query's entries
+-- ---- keys and references between a query's entries
 
 abbrev pub no_source : Source
 no_source = record { table = 0; alias = [] }
@@ -45,7 +45,7 @@ no_source = record { table = 0; alias = [] }
 abbrev pub table_of : Query → ℕ → ℕ
 table_of query entry = (slice_index_or query.from entry no_source).table
 
--- the left column is declared to refer to the right column, which is declared a key
+-- the schema declares that the left column refers to the right column, and that the right column is a key
 abbrev pub refers_to_key : Schema → Query → Edge → Bool
 refers_to_key schema query e =
     refers schema (table_of query e.left.entry) e.left.column (table_of query e.right.entry) e.right.column
@@ -55,7 +55,7 @@ refers_to_key schema query e =
 abbrev pub has_own : Query → ℕ → Bool
 has_own query entry = list_any (names_just entry) query.conjuncts
 
--- the right entry, which has conjuncts of its own, carries them to the left one
+-- the right entry carries its own conjuncts to the left entry: it has own conjuncts, and the left column refers to its key
 abbrev pub carries : Schema → Query → Edge → Bool
 carries schema query e = refers_to_key schema query e && has_own query e.right.entry
 
@@ -64,14 +64,14 @@ abbrev pub exchanged : Edge → Edge
 exchanged e = record { left = e.right; right = e.left }
 
 -- each equality, followed by the equality with its sides exchanged
-abbrev pub both_ways : List Edge → List Edge
-both_ways [] = []
-both_ways (e ∷ es) = e ∷ (exchanged e ∷ both_ways es)
+abbrev pub with_exchanged_sides : List Edge → List Edge
+with_exchanged_sides [] = []
+with_exchanged_sides (e ∷ es) = e ∷ (exchanged e ∷ with_exchanged_sides es)
 
--- the equalities along which conjuncts are carried, each with the entry to which they are carried on its left
+-- the equalities along which conjuncts are carried. On the left of each is the entry to which they are carried
 abbrev pub carriers : Schema → Query → List Edge
-carriers schema query = filter (carries schema query) (both_ways (equalities_of query))
+carriers schema query = filter (carries schema query) (with_exchanged_sides (equalities_of query))
 
--- the equalities of `es` along which conjuncts are carried to the entry within a set: both entries are in the set, and `entry` is the left one
+-- the equalities of `es` along which conjuncts are carried to `entry` within a set. Both entries are in the set, and `entry` is on the left
 abbrev pub carriers_to : List Edge → ℕ → ℕ → List Edge
 carriers_to es subset entry = filter (λ e. e.left.entry == entry) (equalities_within subset es)

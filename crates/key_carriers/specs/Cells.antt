@@ -1,4 +1,4 @@
--- How the widened table is found by the cells of columns.
+-- The widened table, found by the cells of columns.
 use Rattle.std.specs.Prelude.{◌≡◌, ℕ, Bool, List, [], ◌∷◌, ◌++◌, map, Option, Some, None}
 use Rattle.std.specs.List.{filter_map, range_with_len}
 use Rattle.berge_tree.specs.declared.edges.Edge.{Edge}
@@ -21,21 +21,21 @@ pub record AreOfOneKind (db : Database) (e : Edge) : Type 0 where
   pub left : IsColumnOfKind db (column_at_place e.left) text
   pub right : IsColumnOfKind db (column_at_place e.right) text
 
--- the cells of the column, row by row, by which rows are found
+-- the cells of the column, row by row
 abbrev pub cells_found : KeyRows → List ℕ
 cells_found (key.Ascending first rows) = range_with_len first rows
 cells_found (key.Chained chains) = chains.keys
 
--- the rows, with `row` added at the end if another row was found for it
+-- the rows, followed by `row` if another row was found for it
 abbrev pub with_found : List ℕ → ℕ → Option ℕ → List ℕ
 with_found rows row None = rows
 with_found rows row (Some other) = rows ++ row ∷ []
 
--- the rows, with the found row added at the end if one was found
+-- the rows, followed by the row that was found, if one was found
 abbrev pub with_other : List ℕ → Option ℕ → List ℕ
 with_other others None = others
 with_other others (Some other) = others ++ other ∷ []
 
--- the rows, among the left entry's first `count` rows, that refer to a row, each with the row to which it refers
+-- the widened table of the left entry's first `count` rows
 abbrev pub widened_to : Tables → Edge → ℕ → List (ℕ × ℕ)
 widened_to tables e count = filter_map (widened_row tables e) (range_with_len 0 count)

@@ -17,7 +17,7 @@ abbrev pub HaveUniqueValues : Tables → ℕ → ℕ → Type 0
 HaveUniqueValues tables entry column = (row other : ℕ) → row < row_counts tables entry → other < row_counts tables entry
     → is_eq (value_cmp (value_at tables entry column row) (value_at tables entry column other)) ≡ true → row ≡ other
 
--- values are unique in each column that the query's equalities name, if the column alone is declared a key of its table
+-- if a column that the query's equalities name is by itself a declared key of its table, its values are unique there
 abbrev pub DeclaredKeysHold : Schema → Query → Tables → Type 0
 DeclaredKeysHold schema query tables =
     EachNamedColumn (λ entry column. is_declared_key schema (table_of query entry) column ≡ true → HaveUniqueValues tables entry column) (equalities_of query)

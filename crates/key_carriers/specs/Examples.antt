@@ -1,4 +1,4 @@
--- Schemas of worked examples.
+-- Schemas for examples.
 use Rattle.std.specs.Prelude.{ℕ, List, [], ◌∷◌}
 use Rattle.schema_types.specs.declared.types.Column.{Column}
 use Rattle.schema_types.specs.declared.types.Kind.TheVariants as kind
@@ -9,7 +9,7 @@ use Rattle.schema_types.specs.declared.types.Table.{Table}
 abbrev pub number_column : List ℕ → Column
 number_column name = record { name = name; kind = kind.Int }
 
--- O(N, CID) with these references
+-- the table O(N, CID) with these references
 abbrev pub orders_with : List Reference → Table
 orders_with references = record {
   name = 79 ∷ [];
@@ -18,7 +18,7 @@ orders_with references = record {
   references = references;
 }
 
--- C(ID, REG) with these keys
+-- the table C(ID, REG) with these keys
 abbrev pub customers_with : List (List ℕ) → Table
 customers_with keys = record {
   name = 67 ∷ [];
@@ -35,11 +35,11 @@ to_customers = record { columns = 1 ∷ []; table = 1; targets = 0 ∷ [] }
 abbrev pub id_key : List (List ℕ)
 id_key = (0 ∷ []) ∷ []
 
--- O is table 0 and C is table 1
-abbrev pub shop_schema : Schema
-shop_schema = record { tables = orders_with (to_customers ∷ []) ∷ customers_with id_key ∷ [] }
+-- the schema in which O is table 0 and C is table 1
+abbrev pub orders_and_customers : Schema
+orders_and_customers = record { tables = orders_with (to_customers ∷ []) ∷ customers_with id_key ∷ [] }
 
--- the schema without REFERENCES, and the schema without PRIMARY KEY
+-- the schema without the REFERENCES, and the schema without the PRIMARY KEY
 abbrev pub undeclared_schema : Schema
 undeclared_schema = record { tables = orders_with [] ∷ customers_with id_key ∷ [] }
 

@@ -16,15 +16,15 @@ referred_row tables e row = position (are_equal_at tables e row) (range_with_len
 abbrev pub row_pair : ℕ → ℕ → ℕ × ℕ
 row_pair row other = (row, other)
 
--- a row with the row to which it refers, if there is one
+-- a row and the row to which it refers, if there is such a row
 abbrev pub widened_row : Tables → Edge → ℕ → Option (ℕ × ℕ)
 widened_row tables e row = option_map (row_pair row) (referred_row tables e row)
 
--- each row of the left entry with the row to which it refers, in file order. A row that refers to no row is left out
+-- the pairs of a row of the left entry and the row to which it refers, in file order. A row that refers to no row is left out
 abbrev pub widened : Tables → Edge → List (ℕ × ℕ)
 widened tables e = filter_map (widened_row tables e) (range_with_len 0 (row_counts tables e.left.entry))
 
--- the widened table's rows of the left entry, and its rows of the right entry
+-- in the widened table: the rows of the left entry, and the rows of the right entry
 abbrev pub referring : Tables → Edge → List ℕ
 referring tables e = map (λ pair. pair.0) (widened tables e)
 
@@ -43,7 +43,7 @@ values_at tables entry column rows = map (value_at tables entry column) rows
 
 -- ---- rows that refer to a row of the other entry's scan
 
--- a row was found, and it passes its entry's own conjuncts
+-- whether a row was found and passes its entry's own conjuncts
 abbrev pub is_scanned : Query → Tables → ℕ → Option ℕ → Bool
 is_scanned query tables entry None = false
 is_scanned query tables entry (Some row) = passes_own (conjuncts_of query tables) entry row

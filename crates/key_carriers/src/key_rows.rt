@@ -9,16 +9,16 @@ use base_io::NoMemory;
 use link_index::Chains;
 use std::alloc::Global;
 
-/// A column in which rows are found by their cells.
+/// A column whose rows can be found by their cells.
 #[derive(Drop)]
 pub(crate) enum KeyRows {
-    /// The first cell, and how many rows there are. From row to row the cell goes up by one, so a cell tells its row.
+    /// The first cell, and the number of rows. From row to row the cell increases by one, so a cell determines its row.
     Ascending(u64, u64),
     /// Any cells, in a hash table.
     Chained(Chains),
 }
 
-// Whether the cells start with this one and go up by one from row to row.
+// Whether the first cell is `first`, and each further cell is one more than the cell before.
 fn ascend_from(first: u64, cells: &[u64]) -> bool
     ensures { result ≡ true → cells.now ≡ range_with_len first (length cells.now) }
 {
@@ -44,7 +44,7 @@ fn chained(alloc: Global, cells: &[u64]) -> Result<Chains, NoMemory>
     Ok(chains)
 }
 
-// The index of a cell among `rows` cells that start with `first` and go up by one, if the cell is among them.
+// The index of a cell in a list of `rows` cells, if it is in the list. The list begins with `first` and ascends by one.
 fn place_from(first: u64, rows: u64, cell: u64) -> Option<u32>
     requires few { rows ≤ most_rows }
     ensures { IsPlaceOf (range_with_len first rows) cell 0 result }
@@ -61,8 +61,8 @@ fn place_from(first: u64, rows: u64, cell: u64) -> Option<u32>
 }
 
 impl KeyRows {
-    /// Prepares to find rows by these cells. In most files keys go up by one from row to row, and then no hash table is made. One pass over
-    /// the cells, without memory, tells whether they do.
+    /// Prepares to find rows by these cells. In most files keys ascend by one from row to row, and then no hash table is made. A first pass over the
+    /// cells, which takes no memory, tests this.
     pub(crate) fn new(alloc: Global, cells: &[u64]) -> Result<KeyRows, NoMemory>
         requires few { length cells.now ≤ most_rows }
         ensures { IfOk result (λ key. cells_found key ≡ cells.now) }

@@ -12,7 +12,7 @@ use query_types::Query;
 use schema_types::{Reference, Schema};
 use std::alloc::Global;
 
-// Whether a list has this column and no other.
+// Whether a list has only this column.
 fn is_only_column(column: u32, columns: &[u32]) -> bool
     ensures { result ≡ is_only_column column columns.now }
 {
@@ -22,7 +22,7 @@ fn is_only_column(column: u32, columns: &[u32]) -> bool
     }
 }
 
-// Whether a reference is from just this column to just the column `target` of the table.
+// Whether a reference has only this column, and its target is only the column `target` of the table.
 fn is_reference_from_to(column: u32, table: u32, target: u32, reference: &Reference) -> bool
     ensures { result ≡ is_reference_from_to column table target reference.now }
 {
@@ -142,9 +142,9 @@ fn exchanged(edge: Edge) -> Edge
     }
 }
 
-/// The equalities along which conjuncts are carried, in text order. Each has the carrying entry on its right, and on its left the entry to which
-/// it carries its own conjuncts. The schema declares a reference from the left column to the right one, which by itself is a PRIMARY KEY or UNIQUE.
-/// Some conjunct names only the right entry. `parts` is what `split` gives for the query.
+/// The equalities along which conjuncts are carried, in text order. On the right of each is the carrying entry, and on its left the entry to which
+/// conjuncts are carried. The schema declares a reference from the left column to the right column. The right column alone is a PRIMARY KEY or
+/// UNIQUE. Some conjunct names only the right entry. `parts` is what `split` gives for the query.
 pub fn carriers(
     alloc: Global,
     schema: &Schema,

@@ -1,4 +1,4 @@
-//! The widened table as row numbers.
+//! Makes the widened table, as row numbers.
 ghost use Rattle.std.specs.Prelude.{◌≡◌, ◌≤◌, IfOk, OnOk};
 ghost use Rattle.limits.specs.Profile.{most_rows};
 ghost use Rattle.sql_meaning.specs.Databases.{AreTables};
@@ -32,7 +32,7 @@ fn column_at_place(place: Place) -> ColumnRef
 }
 
 impl Widened {
-    // Adds a row with the row to which it refers, if there is one.
+    // Adds a row and the row to which it refers, if there is such a row.
     fn add(&mut self, row: u32, other: Option<u32>) -> Result<(), NoMemory>
         ensures rows { OnOk result (self.new.rows.items ≡ with_found self.old.rows.items row other) }
         ensures others { OnOk result (self.new.others.items ≡ with_other self.old.others.items other) }
@@ -45,8 +45,8 @@ impl Widened {
     }
 }
 
-/// The rows of an equality's left entry that refer to a row of its right entry, each with the row to which it refers. For each row of the left
-/// entry, the row to which it refers is looked up once, by the cell. Time and memory are linear in the rows of both entries.
+/// The rows of an equality's left entry that refer to a row of its right entry, each with the row to which it refers. Each row of the left entry is
+/// looked up once, by its cell. Time and memory are linear in the rows of both entries.
 pub fn widened_rows(alloc: Global, db: &Database, edge: Edge) -> Result<Widened, NoMemory>
     requires tables { AreTables db.now }
     requires kinds { AreOfOneKind db.now edge }

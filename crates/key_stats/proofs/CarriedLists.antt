@@ -1,4 +1,4 @@
--- Carried lists dominate the keys of the rows that refer to a row of the carrier's scan, and carried row bounds are at least the number of these rows.
+-- Carried lists dominate the keys of the rows that refer to a row of the carrier's scan. Carried row bounds are at least the number of these rows.
 use Rattle.std.proofs.Common.{◌≡◌, ◌↔◌, ℕ, ◌+◌, ◌<◌, ◌≤◌, Bool, true, cond, List, [], ◌∷◌, length, map, get_or, pos, Option, None, Some, option_map, refl, ap, sym, ◌∙◌, subst, sum, arith, inl, inr}
 use Rattle.std.specs.List.{Contains, cons_option, filter, filter_map, range_with_len}
 use Rattle.std.proofs.Math.ListN.{get_or-map as default_map}
@@ -25,7 +25,7 @@ use Rattle.filtered_lists.specs.Standing.{scan_of, ListsStandFor}
 use Rattle.filtered_lists.proofs.Counting.{count_is_enough, list_dominates}
 use Rattle.filtered_lists.proofs.Lists.{filtered_falls, sum-filtered}
 use Rattle.table_stats.specs.Columns.{value_of_row}
-use Rattle.table_stats.specs.Keys.{TellsListed, SeparatesValues}
+use Rattle.table_stats.specs.Keys.{SeparatesListed, SeparatesValues}
 use Rattle.table_stats.proofs.Dominating.{listed_stand}
 use Rattle.table_stats.proofs.Summing.{counts_stand, listed_fall, listed_sum}
 use Rattle.key_carriers.specs.Widened.{is_scanned, referred_row, referred, referring, refers_to_scanned, rows_referring, tables_at, values_at, widened, widened_row, row_pair}
@@ -33,7 +33,7 @@ use Rattle.key_stats.specs.Lists.{carried_counts, carried_list, carried_lists, c
 use Rattle.key_carriers.proofs.Referring.{referring_low}
 use Rattle.key_stats.proofs.RowsThere.{own_there}
 
--- ---- filtered lists
+-- ---- filtered lists of the widened table
 
 abbrev no_pair : ℕ × ℕ
 no_pair = (0, 0)
@@ -69,7 +69,7 @@ module _ (query : Query) (tables : Tables) (e : Edge) where
   abbrev refers : ℕ → Bool
   refers row = refers_to_scanned query tables e row
 
-  -- ---- pairs of rows
+  -- ---- pairs of a referring row and the row to which it refers
 
   module _ (key : ℕ → ℕ) where
     one_pair : (row : ℕ) (rows : List ℕ) (o : Option ℕ)
@@ -112,7 +112,7 @@ module _ (query : Query) (tables : Tables) (e : Edge) where
       ∙ of_items no_pair (λ (pair : ℕ × ℕ). key pair.0) (λ (pair : ℕ × ℕ). passes pair.1) pairs
       ∙ of_pairs key (range_with_len 0 (row_counts tables e.left.entry))
 
-  -- ---- the carried lists
+  -- ---- the carried lists dominate the keys of the referring rows
 
   module _ (accuracy column : ℕ) where
     abbrev joined : List Value
@@ -130,7 +130,7 @@ module _ (query : Query) (tables : Tables) (e : Edge) where
       abbrev key_there : ℕ → ℕ
       key_there n = key (get_or (referring tables e) n 0)
 
-      tell : TellsListed joined key_there
+      tell : SeparatesListed joined key_there
       tell row other low also =
           let below : row < length (referring tables e) = omega (arith, low, length-map (referring tables e) (value_at tables e.left.entry column)) in
           let beside : other < length (referring tables e) = omega (arith, also, length-map (referring tables e) (value_at tables e.left.entry column)) in

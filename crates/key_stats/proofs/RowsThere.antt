@@ -1,4 +1,4 @@
--- In tables that have only some rows, a condition holds for row n exactly if it holds for the row that was taken as row n.
+-- Let tables have only some rows of other tables. A condition holds for row n exactly if it holds for the row from which row n was taken.
 use Rattle.std.proofs.Common.{◌≡◌, ℕ, ◌<◌, Bool, not, ◌&&◌, ◌||◌, List, [], ◌∷◌, length, map, get_or, pos, refl, ap, ◌∙◌}
 use Rattle.std.specs.Prelude.{slice_index_or}
 use Rattle.std.specs.List.{list_all}

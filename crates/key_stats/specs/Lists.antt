@@ -17,7 +17,7 @@ carried_lists tables accuracy e column =
 abbrev pub carried_counts : Tables → Edge → RowCounts
 carried_counts tables e = entry_counts (tables_at tables (referred tables e)) e.right.entry
 
--- ---- filtered by the carrier's own conjuncts
+-- ---- the carried list and row bound, filtered by the carrier's own conjuncts
 
 abbrev pub carried_list : Query → Tables → ℕ → Edge → ℕ → List ℕ
 carried_list query tables accuracy e column = filtered_list (carried_lists tables accuracy e column) e.right.entry query.conjuncts

@@ -1,4 +1,4 @@
-//! Laws of carried lists. No law computes anything; its contract is the law.
+//! Laws of carried lists. Each function does nothing; its contract is the law.
 ghost use Rattle.std.specs.Prelude.{◌≡◌, ◌≤◌, ℕ, length, map, sum};
 ghost use Rattle.berge_tree.specs.declared.edges.Edge.{Edge};
 ghost use Rattle.degree_sequences.specs.Domination.{DominatesKeys};
@@ -10,7 +10,7 @@ ghost use Rattle.key_carriers.specs.Widened.{rows_referring};
 ghost use Rattle.key_stats.specs.Lists.{carried_list, carried_rows};
 
 /// A carried list is in descending order, and it sums to the carried row bound. It dominates the keys of the rows that refer to a row of the
-/// carrier's scan, and there are at most as many of these rows as this bound says.
+/// carrier's scan. The carried row bound is at least the number of these rows.
 pub fn carried_lists_stand()
     ensures dominates { (query : Query) (tables : Tables) (accuracy : ℕ) (e : Edge) (column : ℕ) (key : ℕ → ℕ)
         → SeparatesValues tables e.left.entry column key

@@ -35,7 +35,7 @@ use Rattle.sql_meaning.proofs.ColumnFacts.{column_at, value_at as cell_value}
 use Rattle.sql_meaning.proofs.LoopFacts.{rows_are}
 use Rattle.csv_tables.proofs.KeyFacts.{bits_back}
 use Rattle.level_bounds.specs.Keys.{HaveDifferentCharacters, JoinsEqualKeys, cell_at, value_at}
-use Rattle.level_bounds.specs.Whole.{keys_of}
+use Rattle.level_bounds.specs.WholeTables.{keys_of}
 use Rattle.level_bounds.proofs.EqualityFacts.{IsJoin, is_join}
 use Rattle.level_bounds.proofs.Lists.{all_from, from_filter_map}
 
@@ -128,7 +128,7 @@ keys_are_cells query db ref of exists =
     sym (fill_by_all (cell_at db ref.from ref.column) (get_or (cells_of db ref.from).columns ref.column []) (row_counts (tables_of db) ref.from) 0
     ((column_there db of.tables ref exists).height ∙ sym (rows_are db ref.from)) (λ k low. refl))
 
--- ---- texts
+-- ---- no two texts of a pool have the same characters
 
 pub characters_differ : (texts : List (List ℕ)) → All IsUtf8 texts → TextsAreDifferent texts → HaveDifferentCharacters texts
 characters_differ texts utf8 differ i j d less within same =

@@ -19,7 +19,7 @@ module _ {X : Type 0} (P : X → Type 0) where
   all_from [] h = tt
   all_from (x ∷ xs) h = (h x (in_front x xs x refl), all_from xs (λ y k. h y (in_rest x xs y k)))
 
--- ---- a list mapped
+-- ---- members of a list that `map` makes
 
 module _ {X Y : Type 0} (f : X → Y) where
   pub in_map : (xs : List X) (x : X) → Contains xs x → Contains (map f xs) (f x)
@@ -47,7 +47,7 @@ same_at f g (y ∷ ys) same x k = elim (one_in y ys x k) [
   | inl later ↦ (let rest : map f ys ≡ map g ys = cc in same_at f g ys rest x later)
 ]
 
--- ---- a list filtered
+-- ---- members of a list that `filter` makes
 
 module _ {X : Type 0} (p : X → Bool) where
   pub in_filter : (xs : List X) (x : X) → Contains xs x → p x ≡ true → Contains (filter p xs) x

@@ -27,7 +27,7 @@ use Rattle.sql_meaning.specs.Tables.{Tables, row_counts}
 use Rattle.berge_tree.proofs.Forest.{within_place}
 use Rattle.level_bounds.specs.Keys.{Keys}
 use Rattle.level_bounds.specs.Scans.{BoundsScans, own_conjuncts_of, query_scan}
-use Rattle.level_bounds.specs.Whole.{AreCompressed, keys_of, uncompressed}
+use Rattle.level_bounds.specs.WholeTables.{AreCompressed, keys_of, uncompressed}
 use Rattle.level_bounds.proofs.Lists.{all_from, each_of}
 use Rattle.level_bounds.proofs.OwnConjuncts.{scan_by_own}
 

@@ -1,4 +1,4 @@
--- If a level is made in another order of its entries, its choices are rearranged, and each entry keeps its row.
+-- Another order of the same entries gives the same choices. Within a choice the row numbers are rearranged, and each entry keeps its row.
 use Rattle.std.proofs.Common.{◌≡◌, ◌≢◌, ℕ, Bool, true, not, ◌||◌, List, length, map, ap, sym, ◌∙◌, subst}
 use Rattle.std.specs.Prelude.{AllPairs, IsPermutation}
 use Rattle.std.specs.List.{Contains, list_all}
@@ -35,7 +35,7 @@ module _ (conjuncts : List Conjunct) (rows : ℕ → ℕ) where
   pub level_differs : (order : List ℕ) → AllPairs ◌≢◌ (level_of conjuncts rows order)
   level_differs order = AllPairs-filter ◌≢◌ (λ choice. all_hold conjuncts order (row_in order choice)) (choices_of rows order) (choices_differ rows order)
 
-  -- ---- a choice goes to the other order and back
+  -- ---- a choice rearranged into the other order, and back
 
   same_test : (order other : List ℕ) (f : ℕ → ℕ) → ((x : ℕ) → is_in order x ≡ is_in other x) → all_hold conjuncts order f ≡ all_hold conjuncts other f
   same_test order other f same =
@@ -59,15 +59,15 @@ module _ (conjuncts : List Conjunct) (rows : ℕ → ℕ) where
     back choice k = choice_back order choice o.once (choice_length rows order choice (is_level_choice order choice k).chosen)
 
   module _ (set order other : List ℕ) (o : IsOrderOfSet set order) (p : IsOrderOfSet set other) where
-    one_source : (c d : List ℕ) → Contains (level_of conjuncts rows order) c → Contains (level_of conjuncts rows order) d
+    is_one_to_one : (c d : List ℕ) → Contains (level_of conjuncts rows order) c → Contains (level_of conjuncts rows order) d
         → reordered order other c ≡ reordered order other d → c ≡ d
-    one_source c d k l same =
+    is_one_to_one c d k l same =
         let rows_same : row_in order c ≡ row_in order d =
         sym (same_rows set order other o p c) ∙ ap (row_in other) same ∙ same_rows set order other o p d in
         sym (back set order other o p c k) ∙ ap (λ (f : ℕ → ℕ). map f order) rows_same ∙ back set order other o p d l
 
-    source_of : (d : List ℕ) → Contains (level_of conjuncts rows other) d → Contains (map (reordered order other) (level_of conjuncts rows order)) d
-    source_of d k =
+    is_onto : (d : List ℕ) → Contains (level_of conjuncts rows other) d → Contains (map (reordered order other) (level_of conjuncts rows order)) d
+    is_onto d k =
         subst (Contains (map (reordered order other) (level_of conjuncts rows order)))
         (ap (λ (f : ℕ → ℕ). map f other) (same_rows set other order p o d) ∙ back set other order p o d k)
         (in_map (reordered order other) (level_of conjuncts rows order) (reordered other order d) (moved set other order p o d k))
@@ -80,7 +80,7 @@ module _ (conjuncts : List Conjunct) (rows : ℕ → ℕ) where
     pub rearranged : IsPermutation (map (reordered order other) (level_of conjuncts rows order)) (level_of conjuncts rows other)
     rearranged =
         choices_permuted (map (reordered order other) (level_of conjuncts rows order)) (level_of conjuncts rows other)
-        (differ_mapped (reordered order other) (level_of conjuncts rows order) one_source (level_differs order)) (level_differs other) into_other source_of
+        (differ_mapped (reordered order other) (level_of conjuncts rows order) is_one_to_one (level_differs order)) (level_differs other) into_other is_onto
 
     pub as_many : length (level_of conjuncts rows order) ≡ length (level_of conjuncts rows other)
     as_many =

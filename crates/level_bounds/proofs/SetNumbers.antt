@@ -63,7 +63,7 @@ order_of_all n order low once long = record {
         length-le_from_is_member nat_eq_equiv (x ∷ order) (range_with_len 0 n)
         (IsDistinct-cons nat_eq x order (all_from (λ y. nat_eq x y ≡ false) order (apart x gone)) once) (members x below)
 
--- ---- the number of a set
+-- ---- the bits of a list's set are the list's entries
 
 pub bit_kept : (entry set other : ℕ) → bit_at set entry ≡ 0 → other ≢ entry → bit_at (2 ^ entry + set) other ≡ bit_at set other
 bit_kept zero set zero out apart = absurd (apart refl)

@@ -25,7 +25,7 @@ use Rattle.level_bounds.specs.Examples.{three_tables, triangle_level, triangle_s
 use Rattle.level_bounds.specs.Keys.{cell_at}
 use Rattle.level_bounds.specs.Orders.{IsOrderOfSet}
 use Rattle.level_bounds.specs.Scans.{BoundsEachScan, BoundsScans, DominatesScan, own_conjuncts_of}
-use Rattle.level_bounds.specs.Whole.{AreCompressed}
+use Rattle.level_bounds.specs.WholeTables.{AreCompressed}
 use Rattle.level_bounds.proofs.Lists.{is_in}
 use Rattle.level_bounds.proofs.NearWhole.{whole_bounds, whole_scan}
 

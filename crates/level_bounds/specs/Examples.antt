@@ -8,7 +8,7 @@ use Rattle.level_bounds.specs.Scans.{level_over_entries, query_scan}
 abbrev pub three_tables : Tables
 three_tables = tables_of triangle_tables
 
--- the scan of an entry, and the level over these entries, of the query that joins the three in a triangle
+-- the scan of an entry in the query that joins the three tables in a triangle; below, the level over these entries
 abbrev pub triangle_scan : ℕ → List ℕ
 triangle_scan entry = query_scan triangle three_tables entry
 

@@ -2,5 +2,5 @@ pub mod Orders
 pub mod Keys
 pub mod Scans
 pub mod Equalities
-pub mod Whole
+pub mod WholeTables
 pub mod Examples

@@ -1,4 +1,4 @@
-//! Three tables joined in a triangle, with their scans, levels and bounds: theorems by computation.
+//! Scans, levels and bounds of three tables that are joined in a triangle, as theorems that are proved by computation.
 ghost use Rattle.std.specs.Prelude.{◌≡◌, ◌∷◌, [], length};
 ghost use Rattle.entry_sets.specs.Sets.{entries_of_set};
 ghost use Rattle.join_graph.specs.Conjuncts.{equalities_of};
@@ -10,7 +10,7 @@ ghost use Rattle.level_bounds.specs.Examples.{three_tables, triangle_level, tria
 ghost use Rattle.level_bounds.specs.Keys.{HaveDifferentCharacters, cell_at};
 ghost use Rattle.level_bounds.specs.Orders.{IsOrderOfSet};
 ghost use Rattle.level_bounds.specs.Scans.{BoundsEachScan, BoundsScans};
-ghost use Rattle.level_bounds.specs.Whole.{AreCompressed};
+ghost use Rattle.level_bounds.specs.WholeTables.{AreCompressed};
 
 /// The order R, S, T has levels of 3, 5 and 4 rows, and bounds of 3, 5 and 9.
 pub fn triangles()

@@ -26,7 +26,7 @@ ghost use Rattle.level_bounds.specs.Equalities.{IsImplied};
 ghost use Rattle.level_bounds.specs.Keys.{AreKeys, HaveDifferentCharacters, Keys, are_equal_at, cell_at};
 ghost use Rattle.level_bounds.specs.Orders.{IsOrderOfSet, reordered};
 ghost use Rattle.level_bounds.specs.Scans.{BoundsEachScan, BoundsScans, equalities_in, own_conjuncts_of, level_over_entries, query_scan};
-ghost use Rattle.level_bounds.specs.Whole.{AreCompressed, keys_of, uncompressed};
+ghost use Rattle.level_bounds.specs.WholeTables.{AreCompressed, keys_of, uncompressed};
 
 /// The planner and the meaning of SQL agree which conjuncts are an entry's own. The entry's scan has the rows for which all
 /// of its own conjuncts hold; `local_of` has the numbers of these conjuncts.
@@ -50,7 +50,7 @@ pub fn equalities_are_conjuncts()
         → cond_holds tables row_of cond ≡ are_equal_at tables e (row_of e.left.entry) (row_of e.right.entry) }
 {}
 
-/// If no two texts of a database are the same, the database's cells can serve as keys: rows that an equality joins have equal cells. The
+/// If no two texts of a database are the same, its cells can serve as keys: rows that an equality joins have equal cells. The
 /// keys of a whole column are the column's cells.
 pub fn cells_are_keys()
     ensures cells { (query : Query) (db : Database) → IsDatabaseOf query db → HaveDifferentCharacters db.pool
@@ -70,8 +70,8 @@ pub fn orders_are_of_their_sets()
         → IsOrderOfSet (range_with_len 0 n) order }
 {}
 
-/// A level over the entries of a set, in any order, is a list of different choices of scanned rows that satisfy all
-/// equalities of the set.
+/// Take a level over the entries of a set, in any order. Its choices are different, and they are choices of scanned rows. Each of them
+/// satisfies all equalities of the set.
 pub fn levels_are_choices_of_scanned_rows()
     ensures satisfy { (query : Query) (tables : Tables) (key : Keys) (subset : ℕ) (order : List ℕ)
         → AreKeys tables key (equalities_in query subset) → IsOrderOfSet (entries_of_set subset) order
@@ -81,14 +81,14 @@ pub fn levels_are_choices_of_scanned_rows()
         → ChoicesAreDifferent (entries_of_set subset) (map (row_in order) (level_over_entries query tables order)) }
 {}
 
-/// No bound is too low: a level over the entries of a set, in any order, has at most as many rows as the bound of the set.
+/// No bound is too low: a level over the entries of a set, in any order, has no more rows than the set's bound.
 /// This needs bounds of the entries that hold for their scans.
 pub fn levels_are_never_under()
     ensures database { (query : Query) (db : Database) (b : EntryBounds) (subset : ℕ) (order : List ℕ)
         → IsDatabaseOf query db → HaveDifferentCharacters db.pool → BoundsScans b query (tables_of db) (cell_at db) subset
         → IsOrderOfSet (entries_of_set subset) order
         → length (level_over_entries query (tables_of db) order) ≤ bound_of_set b (equalities_of query) subset }
-    // for level k of an order of all entries; its set is the first k entries
+    // for level k of an order of all entries; the level's set has the order's first k entries
     ensures levels { (query : Query) (db : Database) (b : EntryBounds) (order : List ℕ) (k : ℕ)
         → IsDatabaseOf query db → HaveDifferentCharacters db.pool → BoundsEachScan b query (tables_of db) (cell_at db)
         → IsOrderOfSet (entries_of query) order
@@ -122,7 +122,7 @@ pub fn levels_are_of_sets()
         → length (level_of conjuncts rows order) ≡ length (level_of conjuncts rows other) }
 {}
 
-/// In any order of all entries, the outputs of the last level's choices are the rows of the query's answer, each as often
+/// The last level of any order of all entries gives the query's answer. The outputs of its choices are the rows of the answer, each as often
 /// as in the answer.
 pub fn last_levels_are_the_answer()
     ensures tables { (query : Query) (tables : Tables) (order : List ℕ) → NamesItsEntries query → IsOrderOfSet (entries_of query) order

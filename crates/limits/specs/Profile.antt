@@ -1,50 +1,59 @@
--- The limits within which texts are read and queries are planned.
+-- Limits of texts, tables, queries and plans.
 use Rattle.std.specs.Prelude.{ℕ, ◌-◌, ◌^◌}
 
--- ---- limits of what is read: the most of each
+-- ---- limits of schemas, queries and tables (each is the greatest accepted)
 
--- bytes of a schema text, and of a query text
+-- the most bytes of a schema text or a query text
 abbrev pub most_text : ℕ
 most_text = 1048576
 
--- bytes of a table's file
+-- the most bytes of a table's file
 abbrev pub most_file : ℕ
 most_file = 67108864
 
--- tables of a schema, and columns of a table
+-- the most tables of a schema, and the most columns of a table
 abbrev pub most_tables : ℕ
 most_tables = 64
 
 abbrev pub most_columns : ℕ
 most_columns = 64
 
--- characters that a column of texts may declare
+-- the greatest number of characters that a column of texts may declare
 abbrev pub most_length : ℕ
 most_length = 1000000
 
--- rows of a table
+-- the most rows of a table
 abbrev pub most_rows : ℕ
 most_rows = 4000000
 
--- FROM entries of a query
+-- the most FROM entries of a query
 abbrev pub most_entries : ℕ
 most_entries = 12
 
--- values of a list of IN
+-- The most entries of a set, which has a bit for each entry. Calls that bound sets or search for plans accept no more entries, even if a program
+-- allows more
+abbrev pub greatest_entries : ℕ
+greatest_entries = 16
+
+-- the most turns in which a set of entries is bounded
+abbrev pub most_turns : ℕ
+most_turns = 16
+
+-- the most values of an IN list
 abbrev pub most_values : ℕ
 most_values = 1000
 
--- conjuncts of a query, and its outputs
+-- the most conjuncts of a query, and the most outputs
 abbrev pub most_conjuncts : ℕ
 most_conjuncts = 256
 
 abbrev pub most_outputs : ℕ
 most_outputs = 1024
 
--- ---- limits of what is planned
+-- ---- limits of budgets, bounds and accuracies
 
--- a budget is the most rows that the bound of a level or node of a plan may say. These are the least budget, the greatest, and the default
--- of the program
+-- a budget is the greatest bound that a level or node of a plan may have, in rows. These are the least budget, the greatest, and the program's
+-- default
 abbrev pub least_budget : ℕ
 least_budget = 1
 
@@ -54,13 +63,17 @@ most_budget = 20000000
 abbrev pub default_budget : ℕ
 default_budget = 1000000
 
--- the most rows of a table that lists accept, and the greatest budget that searches accept, whatever a program allows. Twelve bounds within
--- this budget have a sum below 2^63
+-- limits of the library, for every program: the most rows of a table, and the greatest budget of a search. The bounds of `greatest_entries` levels
+-- within this budget sum to less than 2^64
 abbrev pub greatest_rows : ℕ
 greatest_rows = 2 ^ 48
 
 abbrev pub greatest_budget : ℕ
 greatest_budget = 2 ^ 59
+
+-- the greatest limit of the bytes of a plan's buffers. No plan within the limits above takes as many
+abbrev pub most_memory : ℕ
+most_memory = 2 ^ 40
 
 -- the least accuracy of compressed lists, the greatest, and the default
 abbrev pub least_accuracy : ℕ
@@ -72,6 +85,6 @@ most_accuracy = 64
 abbrev pub default_accuracy : ℕ
 default_accuracy = 1
 
--- the greatest number of 128 bits. As a bound it means this number or more
+-- the greatest 128-bit number. As a bound it means this number or more
 abbrev pub top_bound : ℕ
 top_bound = 2 ^ 128 - 1

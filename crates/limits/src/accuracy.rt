@@ -3,8 +3,8 @@ ghost use Rattle.limits.specs.Profile.{most_accuracy};
 
 use std::marker::Model;
 
-/// The accuracy of compressed lists, from 1 to 64. A higher accuracy gives lists that are nearer to the uncompressed ones and have more
-/// runs. In contracts an accuracy is its number.
+/// The accuracy of compressed lists, from 1 to 64. At a higher accuracy a compressed list is nearer to the uncompressed one, and has more runs.
+/// Contracts see an accuracy as a number.
 #[derive(Clone, Copy)]
 pub struct Accuracy {
     value: u8,
@@ -27,7 +27,7 @@ impl Model for Accuracy {
 }
 
 impl Accuracy {
-    /// The accuracy with this number.
+    /// Makes an accuracy.
     pub const fn of(value: u8) -> Accuracy
         requires { (0 < value) × (value ≤ most_accuracy) }
         ensures { result ≡ value }
@@ -35,7 +35,7 @@ impl Accuracy {
         Accuracy { value }
     }
 
-    /// The number of this accuracy.
+    /// The accuracy as a number.
     pub const fn value(self) -> u8
         ensures value { result ≡ self }
         ensures range { (0 < self) × (self ≤ most_accuracy) }

@@ -1,6 +1,7 @@
-//! The limits within which texts are read and queries are planned: constants for the code, and their names in specs/Profile for contracts.
+//! Limits of texts, tables, queries and plans: constants for the code, and definitions for contracts.
 //!
-//! A contract says `most_rows` where the code says `MOST_ROWS`. An accuracy has the type `Accuracy`, so that it is within its limits.
+//! A contract says `most_rows` where the code says `MOST_ROWS`; `specs/Profile.antt` defines it. A value of the type `Accuracy` is always within its
+//! limits.
 #![tactic(auto)]
 
 ghost use Rattle.std.specs.Prelude.{◌≡◌};
@@ -22,7 +23,7 @@ pub const MOST_TABLES: usize = 64;
 /// How many columns a table has at most.
 pub const MOST_COLUMNS: usize = 64;
 
-/// How many characters a column of texts may declare at most.
+/// The greatest number of characters that a column of texts may declare.
 pub const MOST_LENGTH: u64 = 1_000_000;
 
 /// How many rows a table has at most.
@@ -31,7 +32,13 @@ pub const MOST_ROWS: u32 = 4_000_000;
 /// How many FROM entries a query has at most.
 pub const MOST_ENTRIES: usize = 12;
 
-/// How many values a list of IN has at most.
+/// How many entries a set has at most. Calls that bound sets or search for plans accept no more entries, even if a program allows more.
+pub const GREATEST_ENTRIES: usize = 16;
+
+/// In how many turns a set of entries is bounded at most.
+pub const MOST_TURNS: usize = 16;
+
+/// How many values an IN list has at most.
 pub const MOST_VALUES: usize = 1000;
 
 /// How many conjuncts a query has at most.
@@ -46,11 +53,14 @@ pub const LEAST_BUDGET: u64 = 1;
 /// The greatest budget, in rows.
 pub const MOST_BUDGET: u64 = 20_000_000;
 
-/// The most rows of a table that lists, bounds and compression accept, whatever a program allows.
+/// The most rows of a table in lists, bounds and compression, for every program.
 pub const GREATEST_ROWS: u64 = 1 << 48;
 
-/// The greatest budget that the searches accept, in rows, whatever a program allows.
+/// The greatest budget that the searches accept, in rows, for every program.
 pub const GREATEST_BUDGET: u64 = 1 << 59;
+
+/// The greatest limit of the bytes of a plan's buffers.
+pub const MOST_MEMORY: u64 = 1 << 40;
 
 /// The default budget, in rows.
 pub const DEFAULT_BUDGET: u64 = 1_000_000;
@@ -64,16 +74,18 @@ pub const MOST_ACCURACY: u8 = 64;
 /// The default accuracy.
 pub const DEFAULT_ACCURACY: u8 = 1;
 
-/// The greatest number of 128 bits. As a bound it means this number or more.
+/// The greatest 128-bit number. As a bound it means this number or more.
 pub const TOP_BOUND: u128 = u128::MAX;
 
-/// Each constant here equals the number of the same name in specs/Profile. The function does nothing.
+/// Proves that each constant equals the definition of the same name in specs/Profile. The call does nothing.
 pub fn limits_are_named()
     ensures texts { MOST_TEXT ≡ profile.most_text }
     ensures files { MOST_FILE ≡ profile.most_file }
     ensures tables { (MOST_TABLES ≡ profile.most_tables) × (MOST_COLUMNS ≡ profile.most_columns) × (MOST_LENGTH ≡ profile.most_length) }
     ensures rows { MOST_ROWS ≡ profile.most_rows }
-    ensures entries { MOST_ENTRIES ≡ profile.most_entries }
+    ensures entries { (MOST_ENTRIES ≡ profile.most_entries) × (GREATEST_ENTRIES ≡ profile.greatest_entries) }
+    ensures turns { MOST_TURNS ≡ profile.most_turns }
+    ensures memory { MOST_MEMORY ≡ profile.most_memory }
     ensures queries { (MOST_VALUES ≡ profile.most_values) × (MOST_CONJUNCTS ≡ profile.most_conjuncts)
         × (MOST_OUTPUTS ≡ profile.most_outputs) }
     ensures budget { (LEAST_BUDGET ≡ profile.least_budget) × (MOST_BUDGET ≡ profile.most_budget) × (DEFAULT_BUDGET ≡ profile.default_budget) }

@@ -1,11 +1,11 @@
--- Two parsers are alike on some lists of tokens if they answer the same for each of these lists. Two parsers that are built in the same way, from
--- parts that are alike on these lists, are alike on them too.
+-- Parsers that are alike on some lists of tokens: they give the same answer for each of these lists. If parsers are built in the same way from parts
+-- that are alike, they are alike too.
 use Rattle.std.proofs.Common.{◌≡◌, ℕ, zero, suc, cond, Option, Some, None, List, [], ◌∷◌, ◌++◌, length, refl, ap, subst, ◌∙◌}
 use Rattle.ll_grammars.specs.declared.lexeme.Lexeme.{Lexeme}
 use Rattle.ll_grammars.specs.declared.terminal.Terminal.{Terminal}
 use Rattle.ll_grammars.specs.Language.{Language}
 use Rattle.ll_grammars.specs.Reading.{Parser, Answer, next, ◌>>=◌, starts, give, read_second, read_then, read_mapped, read_maybe, read_others, read_up_to, read_many}
-use Rattle.ll_grammars.specs.Reads.{FirstAndFollow, Splits, Reads}
+use Rattle.ll_grammars.specs.Parses.{FirstAndFollow, Splits, Parses}
 
 abbrev pub AreAlikeOn : {A : Type 0} → (List Lexeme → Type 0) → Parser A → Parser A → Type 0
 AreAlikeOn P p q = (text : List Lexeme) → P text → p text ≡ q text
@@ -17,7 +17,7 @@ module _ (P : List Lexeme → Type 0) where
   pub itself_alike : {A : Type 0} (p : Parser A) → AreAlikeOn P p p
   itself_alike p text holds = refl
 
-  pub stays : {A : Type 0} {L : Language A} {s : FirstAndFollow} {p : Parser A} → Reads L s p → ((front rest : List Lexeme) (value : A) → L front value → P (front ++ rest) → P rest) → StaysIn P p
+  pub stays : {A : Type 0} {L : Language A} {s : FirstAndFollow} {p : Parser A} → Parses L s p → ((front rest : List Lexeme) (value : A) → L front value → P (front ++ rest) → P rest) → StaysIn P p
   stays {A = A} {L = L} {p = p} reads h text value rest e holds = at (p text).0 (p text).1 e (reads.splits text) where
     at : (o : Option A) (r : List Lexeme) → ◌≡◌ {A = Answer A} (o, r) (Some value, rest) → Splits L text o r → P rest
     at None r e d = absurd (let k : ◌≡◌ {A = Option A} None (Some value) = ap (λ x. x.0) e in cc)

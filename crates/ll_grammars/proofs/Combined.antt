@@ -1,4 +1,4 @@
--- These are the lemmas of the theory without the arguments that can be inferred, and lemmas for forms of rules that grammars share.
+-- The lemmas of the theory with inferred arguments, and lemmas for forms of rules that grammars share.
 use Rattle.std.proofs.Common.{◌≡◌, false, true, inl, inr, Option, Some, None, List, [], ◌∷◌, ◌++◌, refl}
 use Rattle.ll_grammars.specs.declared.lexeme.Lexeme.{Lexeme}
 use Rattle.ll_grammars.specs.declared.terminal.Terminal.{Terminal}
@@ -6,25 +6,25 @@ use Rattle.ll_grammars.specs.declared.terminal.Terminal.TheVariants as terminal
 use Rattle.ll_grammars.specs.Terminals.{among, apart}
 use Rattle.ll_grammars.specs.Language.{Language, ◌▸◌, mapped, ◌∪◌, maybe, many}
 use Rattle.ll_grammars.specs.Reading.{Parser, read_then, read_mapped, read_either, read_maybe, read_many}
-use Rattle.ll_grammars.specs.Reads.{FirstAndFollow, Reads, BeginsIn, Splits}
+use Rattle.ll_grammars.specs.Parses.{FirstAndFollow, Parses, BeginsIn, Splits}
 use Rattle.ll_grammars.specs.Rules.{middle, word, in_parentheses, read_word, read_in_parentheses}
 use Rattle.ll_grammars.proofs.Sets.{among_right, BeginsOutside-right}
 use Rattle.ll_grammars.proofs.Steps.{one_shape, then_shape, either_shape, maybe_shape, reads_one, reads_then, reads_mapped, reads_either, reads_maybe}
 use Rattle.ll_grammars.proofs.Repeats.{many_shape, reads_many}
 
-pub row : {A B : Type 0} {L : Language A} {M : Language B} {s t : FirstAndFollow} {p : Parser A} {q : Parser B} → Reads L s p → Reads M t q → apart s.more t.first ≡ true → Reads (L ▸ M) (then_shape s t) (read_then p q)
+pub row : {A B : Type 0} {L : Language A} {M : Language B} {s t : FirstAndFollow} {p : Parser A} {q : Parser B} → Parses L s p → Parses M t q → apart s.more t.first ≡ true → Parses (L ▸ M) (then_shape s t) (read_then p q)
 row first second h = reads_then _ _ _ _ _ _ first second h
 
-pub value : {A B : Type 0} {L : Language A} {s : FirstAndFollow} {p : Parser A} → (f : A → B) → Reads L s p → Reads (mapped f L) s (read_mapped f p)
+pub value : {A B : Type 0} {L : Language A} {s : FirstAndFollow} {p : Parser A} → (f : A → B) → Parses L s p → Parses (mapped f L) s (read_mapped f p)
 value f reads = reads_mapped _ f _ _ reads
 
-pub choice : {A : Type 0} {L M : Language A} {s t : FirstAndFollow} {p q : Parser A} → Reads L s p → Reads M t q → s.nullable ≡ false → t.nullable ≡ false → apart s.first t.first ≡ true → Reads (L ∪ M) (either_shape s t) (read_either s.first p q)
+pub choice : {A : Type 0} {L M : Language A} {s t : FirstAndFollow} {p q : Parser A} → Parses L s p → Parses M t q → s.nullable ≡ false → t.nullable ≡ false → apart s.first t.first ≡ true → Parses (L ∪ M) (either_shape s t) (read_either s.first p q)
 choice first second full full' h = reads_either _ _ _ _ _ _ first second full full' h
 
-pub option : {A : Type 0} {L : Language A} {s : FirstAndFollow} {p : Parser A} → Reads L s p → s.nullable ≡ false → Reads (maybe L) (maybe_shape s) (read_maybe s.first p)
+pub option : {A : Type 0} {L : Language A} {s : FirstAndFollow} {p : Parser A} → Parses L s p → s.nullable ≡ false → Parses (maybe L) (maybe_shape s) (read_maybe s.first p)
 option reads full = reads_maybe _ _ _ reads full
 
-pub repeat : {A : Type 0} {L : Language A} {s : FirstAndFollow} {p : Parser A} → Reads L s p → s.nullable ≡ false → apart s.more s.first ≡ true → Reads (many L) (many_shape s) (read_many s.first p)
+pub repeat : {A : Type 0} {L : Language A} {s : FirstAndFollow} {p : Parser A} → Parses L s p → s.nullable ≡ false → apart s.more s.first ≡ true → Parses (many L) (many_shape s) (read_many s.first p)
 repeat reads full h = reads_many _ _ _ reads full h
 
 abbrev pub some_token : Terminal → Lexeme
@@ -33,13 +33,13 @@ some_token t = record { terminal = t; start = 0; end = 0 }
 abbrev pub word_shape : Terminal → FirstAndFollow
 word_shape t = one_shape (t ∷ [])
 
-pub a_word : (t : Terminal) → among (t ∷ []) t ≡ true → Reads (word t) (word_shape t) (read_word t)
+pub a_word : (t : Terminal) → among (t ∷ []) t ≡ true → Parses (word t) (word_shape t) (read_word t)
 a_word t e = reads_one (t ∷ []) (some_token t) e
 
 abbrev pub parentheses_shape : FirstAndFollow → FirstAndFollow
 parentheses_shape s = then_shape (word_shape terminal.Open) (then_shape s (word_shape terminal.Close))
 
-pub inside : {A : Type 0} {L : Language A} {s : FirstAndFollow} {p : Parser A} → Reads L s p → apart s.more (terminal.Close ∷ []) ≡ true → Reads (in_parentheses L) (parentheses_shape s) (read_in_parentheses p)
+pub inside : {A : Type 0} {L : Language A} {s : FirstAndFollow} {p : Parser A} → Parses L s p → apart s.more (terminal.Close ∷ []) ≡ true → Parses (in_parentheses L) (parentheses_shape s) (read_in_parentheses p)
 inside reads h = value middle (row (a_word terminal.Open refl) (row reads (a_word terminal.Close refl) h) refl)
 
 abbrev pub next_shape : Terminal → FirstAndFollow → FirstAndFollow
@@ -50,7 +50,7 @@ listed_shape separator s = then_shape s (many_shape (next_shape separator s))
 
 -- ---- a language with the same texts and values as another
 
-pub reads_same : {A : Type 0} {L M : Language A} {s : FirstAndFollow} {p : Parser A} → ((text : List Lexeme) (v : A) → L text v → M text v) → ((text : List Lexeme) (v : A) → M text v → L text v) → Reads L s p → Reads M s p
+pub reads_same : {A : Type 0} {L M : Language A} {s : FirstAndFollow} {p : Parser A} → ((text : List Lexeme) (v : A) → L text v → M text v) → ((text : List Lexeme) (v : A) → M text v → L text v) → Parses L s p → Parses M s p
 reads_same {A = A} {L = L} {M = M} {s = s} {p = p} to from reads = record {
   some = record { more = reads.some.more; value = reads.some.value; spelled = to reads.some.more reads.some.value reads.some.spelled };
   begins = λ text v l. reads.begins text v (from text v l);
@@ -64,7 +64,7 @@ reads_same {A = A} {L = L} {M = M} {s = s} {p = p} to from reads = record {
 
 -- ---- a choice between two languages, if one of them has no text
 
-pub right_only : {A : Type 0} {L M : Language A} {t : FirstAndFollow} {q : Parser A} → (s : FirstAndFollow) → ((text : List Lexeme) (v : A) → L text v → ⊥) → Reads M t q → t.nullable ≡ false → Reads (L ∪ M) (either_shape s t) q
+pub right_only : {A : Type 0} {L M : Language A} {t : FirstAndFollow} {q : Parser A} → (s : FirstAndFollow) → ((text : List Lexeme) (v : A) → L text v → ⊥) → Parses M t q → t.nullable ≡ false → Parses (L ∪ M) (either_shape s t) q
 right_only {A = A} {L = L} {M = M} {t = t} {q = q} s none reads full = record {
   some = record { more = reads.some.more; value = reads.some.value; spelled = inr reads.some.spelled };
   begins = λ text v l. elim l [ inl a ↦ absurd (none text v a) | inr m ↦ wider text (reads.begins text v m) ];

@@ -9,5 +9,5 @@ pub mod Ends
 pub mod Otherwise
 pub mod Growing
 pub mod Alike
-pub mod Keeping
-pub mod KeepingRules
+pub mod Preserving
+pub mod PreservingRules

@@ -8,7 +8,7 @@ use Rattle.ll_grammars.specs.Language.{Language}
 use Rattle.ll_grammars.specs.Reading.{Parser, Answer, next, ◌>>=◌, starts, give, read_then, read_mapped, read_others, read_many, with_front}
 use Rattle.ll_grammars.specs.Rules.{IsReadAs}
 use Rattle.ll_grammars.specs.Rules.{first_and_others}
-use Rattle.ll_grammars.specs.Reads.{FirstAndFollow, Splits, Reads}
+use Rattle.ll_grammars.specs.Parses.{FirstAndFollow, Splits, Parses}
 use Rattle.ll_grammars.proofs.Repeats.{many_step, many_stop, begins_length}
 
 pub front_others : {A : Type 0} → (front : List A) (a : A) (o : Option (List A)) (end : List Lexeme) → with_front front (next o end (λ others. give (a ∷ others))) ≡ with_front (front ++ a ∷ []) (o, end)
@@ -28,7 +28,7 @@ many_start answer = at answer.0 answer.1 where
   at None end = refl
   at (Some others) end = refl
 
-module _ {A : Type 0} (L : Language A) (s : FirstAndFollow) (p : Parser A) (reads : Reads L s p) (full : s.nullable ≡ false) where
+module _ {A : Type 0} (L : Language A) (s : FirstAndFollow) (p : Parser A) (reads : Parses L s p) (full : s.nullable ≡ false) where
   pub shorter : (text : List Lexeme) (a : A) (rest : List Lexeme) → p text ≡ (Some a, rest) → length rest < length text
   shorter text a rest e = at (p text).0 (p text).1 e (reads.splits text) where
     at : (o : Option A) (r : List Lexeme) → ◌≡◌ {A = Answer A} (o, r) (Some a, rest) → Splits L text o r → length rest < length text

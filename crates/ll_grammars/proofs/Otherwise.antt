@@ -1,16 +1,16 @@
--- The second alternative of a choice may be empty. The parser takes it if no text of the first alternative begins with the next token.
+-- A choice whose second alternative may be empty. The parser takes this alternative if no text of the first begins with the next token.
 use Rattle.std.proofs.Common.{◌≡◌, Bool, true, false, cond, List, [], ◌∷◌, ◌++◌, Option, Some, None, sym, inl, inr}
 use Rattle.ll_grammars.specs.declared.lexeme.Lexeme.{Lexeme}
 use Rattle.ll_grammars.specs.Terminals.{apart}
 use Rattle.ll_grammars.specs.Language.{Language, ◌∪◌}
 use Rattle.ll_grammars.specs.Reading.{Parser, starts, read_either}
-use Rattle.ll_grammars.specs.Reads.{FirstAndFollow, BeginsIn, BeginsOutside, SameHead, Splits, Reads}
+use Rattle.ll_grammars.specs.Parses.{FirstAndFollow, BeginsIn, BeginsOutside, SameHead, Splits, Parses}
 use Rattle.ll_grammars.proofs.Sets.{apart_false, among_left, among_right, BeginsOutside-left, BeginsOutside-right, BeginsOutside-starts, starts_same, starts_front}
 
 abbrev pub otherwise_shape : FirstAndFollow → FirstAndFollow → FirstAndFollow
 otherwise_shape s t = record { first = s.first ++ t.first; nullable = t.nullable; more = s.first ++ (s.more ++ t.more) }
 
-module _ {A : Type 0} {L M : Language A} {s t : FirstAndFollow} {p q : Parser A} (first : Reads L s p) (second : Reads M t q) (full : s.nullable ≡ false) (apart_ : apart s.first t.first ≡ true) where
+module _ {A : Type 0} {L M : Language A} {s t : FirstAndFollow} {p q : Parser A} (first : Parses L s p) (second : Parses M t q) (full : s.nullable ≡ false) (apart_ : apart s.first t.first ≡ true) where
   left_splits : (text : List Lexeme) (o : Option A) (r : List Lexeme) → Splits L text o r → Splits (L ∪ M) text o r
   left_splits text None r d = record { front = d.front; whole = d.whole; spelled = record { more = d.spelled.more; value = d.spelled.value; spelled = inl d.spelled.spelled } }
   left_splits text (Some a) r d = record { front = d.front; whole = d.whole; spelled = inl d.spelled }
@@ -44,7 +44,7 @@ module _ {A : Type 0} {L M : Language A} {s t : FirstAndFollow} {p q : Parser A}
   looks_if front rest other same true stop = first.looks front rest other same stop
   looks_if front rest other same false stop = second.looks front rest other same stop
 
-  pub otherwise : Reads (L ∪ M) (otherwise_shape s t) (read_either s.first p q)
+  pub otherwise : Parses (L ∪ M) (otherwise_shape s t) (read_either s.first p q)
   otherwise = record {
     some = record { more = first.some.more; value = first.some.value; spelled = inl first.some.spelled };
     begins = begins_in;

@@ -1,4 +1,4 @@
--- A parser that repeats another parser reads any number of texts of the other's language.
+-- If a parser reads a language, `read_many` of this parser reads any number of its texts.
 use Rattle.std.proofs.Common.{◌≡◌, ℕ, zero, suc, ◌+◌, ◌≤◌, ◌<◌, Bool, true, false, cond, List, [], ◌∷◌, ◌++◌, length, Option, Some, None, refl, sym, ap, subst, ◌∙◌, append_assoc, arith}
 use Rattle.std.proofs.lemmas.List.{append-nil, append_cancel_right, length-append}
 use Rattle.ll_grammars.specs.declared.lexeme.Lexeme.{Lexeme}
@@ -6,7 +6,7 @@ use Rattle.ll_grammars.specs.declared.terminal.Terminal.{Terminal}
 use Rattle.ll_grammars.specs.Terminals.{apart}
 use Rattle.ll_grammars.specs.Language.{Language, many}
 use Rattle.ll_grammars.specs.Reading.{Parser, Answer, next, ◌>>=◌, starts, give, read_others, read_many, read_up_to}
-use Rattle.ll_grammars.specs.Reads.{FirstAndFollow, BeginsIn, BeginsOutside, SameHead, Spelled, Splits, Reads}
+use Rattle.ll_grammars.specs.Parses.{FirstAndFollow, BeginsIn, BeginsOutside, SameHead, Spelled, Splits, Parses}
 use Rattle.ll_grammars.proofs.Sets.{BeginsOutside-left, BeginsOutside-right, BeginsOutside-next, BeginsOutside-starts, starts_same, SameHead-append, self_append, starts_front}
 use Rattle.ll_grammars.proofs.Steps.{next_give_rest}
 
@@ -25,7 +25,7 @@ pub starts_none : (cs : List Terminal) (text : List Lexeme) → length text ≤ 
 starts_none cs [] h = refl
 starts_none cs (x ∷ text) h = absurd (omega arith)
 
-module _ {A : Type 0} (L : Language A) (s : FirstAndFollow) (p : Parser A) (reads : Reads L s p) (full : s.nullable ≡ false) where
+module _ {A : Type 0} (L : Language A) (s : FirstAndFollow) (p : Parser A) (reads : Parses L s p) (full : s.nullable ≡ false) where
   many_splits_others : (text f r : List Lexeme) (a : A) → text ≡ f ++ r → L f a → (o : Option (List A)) (end : List Lexeme) → Splits (many L) r o end
       → Splits (many L) text (next {B = List A} o end (λ others. give (a ∷ others))).0 (next {B = List A} o end (λ others. give (a ∷ others))).1
   many_splits_others text f r a whole l None end split = record {
@@ -168,7 +168,7 @@ module _ {A : Type 0} (L : Language A) (s : FirstAndFollow) (p : Parser A) (read
   unfolding read_many
   many_stop text h = up_stops (length text) text h
 
-pub reads_many : {A : Type 0} → (L : Language A) (s : FirstAndFollow) (p : Parser A) → Reads L s p → s.nullable ≡ false → apart s.more s.first ≡ true → Reads (many L) (many_shape s) (read_many s.first p)
+pub reads_many : {A : Type 0} → (L : Language A) (s : FirstAndFollow) (p : Parser A) → Parses L s p → s.nullable ≡ false → apart s.more s.first ≡ true → Parses (many L) (many_shape s) (read_many s.first p)
 unfolding read_many
 reads_many L s p reads full apart_ = record {
   some = record { more = []; value = []; spelled = refl };

@@ -1,4 +1,4 @@
--- These lemmas are about sets of terminals, and about the token that a text begins with.
+-- Sets of terminals, and the first token of a text.
 use Rattle.std.proofs.Common.{◌≡◌, Bool, true, false, cond, ◌||◌, eqb, List, [], ◌∷◌, ◌++◌, refl, sym, subst, ◌∙◌}
 use Rattle.std.proofs.lemmas.List.{append_cancel_right}
 use Rattle.std.proofs.lemmas.Bool.{eqb-true, or_parts, or_left, or_right}
@@ -6,8 +6,8 @@ use Rattle.ll_grammars.specs.declared.lexeme.Lexeme.{Lexeme}
 use Rattle.ll_grammars.specs.declared.terminal.Terminal.{Terminal}
 use Rattle.ll_grammars.specs.Terminals.{code, among, apart}
 use Rattle.ll_grammars.specs.Reading.{starts}
-use Rattle.ll_grammars.specs.Reads.{FirstAndFollow, BeginsIn, BeginsOutside, SameHead}
-use Rattle.ll_grammars.specs.Reads.SameHead.{nothing, token}
+use Rattle.ll_grammars.specs.Parses.{FirstAndFollow, BeginsIn, BeginsOutside, SameHead}
+use Rattle.ll_grammars.specs.Parses.SameHead.{nothing, token}
 
 pub same_code : (ds : List Terminal) (c d : Terminal) → code c ≡ code d → among ds c ≡ among ds d
 same_code [] c d e = refl

@@ -1,4 +1,4 @@
--- If parsers read languages, parsers that are built from them read the languages that are built in the same way.
+-- If parsers read languages, parsers combined from them read the languages combined in the same way.
 use Rattle.std.proofs.Common.{◌≡◌, Bool, true, false, cond, ◌&&◌, List, [], ◌∷◌, ◌++◌, Option, Some, None, refl, sym, ap, subst, ◌∙◌, append_assoc, inl, inr}
 use Rattle.std.proofs.lemmas.List.{append_cancel_right}
 use Rattle.ll_grammars.specs.declared.lexeme.Lexeme.{Lexeme}
@@ -6,8 +6,8 @@ use Rattle.ll_grammars.specs.declared.terminal.Terminal.{Terminal}
 use Rattle.ll_grammars.specs.Terminals.{among, apart}
 use Rattle.ll_grammars.specs.Language.{Language, ◌▸◌, one, mapped, maybe, ◌∪◌, IsViablePrefix}
 use Rattle.ll_grammars.specs.Reading.{Parser, Answer, next, ◌>>=◌, starts, give, read_second, read_one, read_then, read_mapped, read_either, read_maybe}
-use Rattle.ll_grammars.specs.Reads.{FirstAndFollow, BeginsIn, BeginsOutside, SameHead, Splits, Reads}
-use Rattle.ll_grammars.specs.Reads.SameHead.{nothing, token}
+use Rattle.ll_grammars.specs.Parses.{FirstAndFollow, BeginsIn, BeginsOutside, SameHead, Splits, Parses}
+use Rattle.ll_grammars.specs.Parses.SameHead.{nothing, token}
 use Rattle.ll_grammars.proofs.Sets.{apart_false, among_left, among_right, BeginsOutside-left, BeginsOutside-right, BeginsOutside-next, BeginsOutside-starts, starts_same, SameHead-append, self_append, starts_front}
 
 -- ---- the tokens that a step leaves
@@ -16,7 +16,7 @@ pub next_give_rest : {A B : Type 0} → (o : Option A) (end : List Lexeme) (f : 
 next_give_rest None end f = refl
 next_give_rest (Some a) end f = refl
 
--- ---- one token
+-- ---- `read_one`: one token
 
 abbrev pub one_shape : List Terminal → FirstAndFollow
 one_shape terminals = record { first = terminals; nullable = false; more = [] }
@@ -54,7 +54,7 @@ one_all_splits : (terminals : List Terminal) → IsViablePrefix (one terminals) 
 one_all_splits terminals some [] = record { front = []; whole = refl; spelled = some }
 one_all_splits terminals some (t ∷ rest) = one_splits terminals t rest some (among terminals t.terminal) refl
 
-pub reads_one : (terminals : List Terminal) (t : Lexeme) → among terminals t.terminal ≡ true → Reads (one terminals) (one_shape terminals) (read_one terminals)
+pub reads_one : (terminals : List Terminal) (t : Lexeme) → among terminals t.terminal ≡ true → Parses (one terminals) (one_shape terminals) (read_one terminals)
 reads_one terminals t e =
     let some : IsViablePrefix (one terminals) [] = record { more = t ∷ []; value = t; spelled = (refl, e) } in
     record {
@@ -70,7 +70,7 @@ reads_one terminals t e =
 abbrev pub then_shape : FirstAndFollow → FirstAndFollow → FirstAndFollow
 then_shape s t = record { first = s.first ++ cond s.nullable t.first []; nullable = s.nullable && t.nullable; more = t.more ++ cond t.nullable s.more [] }
 
-module _ {A B : Type 0} (L : Language A) (M : Language B) (s t : FirstAndFollow) (p : Parser A) (q : Parser B) (first : Reads L s p) (second : Reads M t q) where
+module _ {A B : Type 0} (L : Language A) (M : Language B) (s t : FirstAndFollow) (p : Parser A) (q : Parser B) (first : Parses L s p) (second : Parses M t q) where
   then_splits_second : (text f r : List Lexeme) (a : A) → text ≡ f ++ r → L f a → (o : Option B) (end : List Lexeme) → Splits M r o end
       → Splits (L ▸ M) text (next {B = A × B} o end (λ b. give (a, b))).0 (next {B = A × B} o end (λ b. give (a, b))).1
   then_splits_second text f r a whole l None end split =
@@ -146,7 +146,7 @@ module _ {A B : Type 0} (L : Language A) (M : Language B) (s t : FirstAndFollow)
       let right : ◌≡◌ {A = Answer (A × B)} ((read_second q a (two.front ++ rest)).0, other) ((read_second q a r).0, other) = ap (λ x. ((read_second q a x).0, other)) (sym whole_r) in
       left ∙ done ∙ right
 
-pub reads_then : {A B : Type 0} → (L : Language A) (M : Language B) (s t : FirstAndFollow) (p : Parser A) (q : Parser B) → Reads L s p → Reads M t q → apart s.more t.first ≡ true → Reads (L ▸ M) (then_shape s t) (read_then p q)
+pub reads_then : {A B : Type 0} → (L : Language A) (M : Language B) (s t : FirstAndFollow) (p : Parser A) (q : Parser B) → Parses L s p → Parses M t q → apart s.more t.first ≡ true → Parses (L ▸ M) (then_shape s t) (read_then p q)
 reads_then L M s t p q first second apart_ = record {
   some = record {
     more = first.some.more ++ second.some.more;
@@ -159,9 +159,9 @@ reads_then L M s t p q first second apart_ = record {
   looks = λ front rest other same stop. then_looks L M s t p q first second front rest other same (p (front ++ rest)).0 (p (front ++ rest)).1 refl stop;
 }
 
--- ---- `read_mapped`: a value made of another value
+-- ---- `read_mapped`: a text with another value
 
-module _ {A B : Type 0} (L : Language A) (f : A → B) (s : FirstAndFollow) (p : Parser A) (reads : Reads L s p) where
+module _ {A B : Type 0} (L : Language A) (f : A → B) (s : FirstAndFollow) (p : Parser A) (reads : Parses L s p) where
   made_splits : (text : List Lexeme) (o : Option A) (r : List Lexeme) → Splits L text o r → Splits (mapped f L) text (next o r (λ a. give (f a))).0 (next o r (λ a. give (f a))).1
   made_splits text None r split = record { front = split.front; whole = split.whole; spelled = record { more = split.spelled.more; value = f split.spelled.value; spelled = (split.spelled.value, refl, split.spelled.spelled) } }
   made_splits text (Some a) r split = record { front = split.front; whole = split.whole; spelled = (a, refl, split.spelled) }
@@ -171,7 +171,7 @@ module _ {A B : Type 0} (L : Language A) (f : A → B) (s : FirstAndFollow) (p :
   made_looks front rest other same None r e stop = rw (reads.looks front rest other same (ap (λ x. x.1) e ∙ stop), e) refl
   made_looks front rest other same (Some a) r e stop = rw (reads.looks front rest other same (ap (λ x. x.1) e ∙ stop), e) refl
 
-pub reads_mapped : {A B : Type 0} → (L : Language A) (f : A → B) (s : FirstAndFollow) (p : Parser A) → Reads L s p → Reads (mapped f L) s (read_mapped f p)
+pub reads_mapped : {A B : Type 0} → (L : Language A) (f : A → B) (s : FirstAndFollow) (p : Parser A) → Parses L s p → Parses (mapped f L) s (read_mapped f p)
 reads_mapped L f s p reads = record {
   some = record { more = reads.some.more; value = f reads.some.value; spelled = (reads.some.value, refl, reads.some.spelled) };
   begins = λ text value l. reads.begins text l.0 l.2;
@@ -189,7 +189,7 @@ starts_not cs t (x ∷ front) rest full h b = apart_false cs t.first x.terminal 
 abbrev pub either_shape : FirstAndFollow → FirstAndFollow → FirstAndFollow
 either_shape s t = record { first = s.first ++ t.first; nullable = false; more = s.more ++ t.more }
 
-module _ {A : Type 0} (L M : Language A) (s t : FirstAndFollow) (p q : Parser A) (first : Reads L s p) (second : Reads M t q) (full : s.nullable ≡ false) (full' : t.nullable ≡ false) (apart_ : apart s.first t.first ≡ true) where
+module _ {A : Type 0} (L M : Language A) (s t : FirstAndFollow) (p q : Parser A) (first : Parses L s p) (second : Parses M t q) (full : s.nullable ≡ false) (full' : t.nullable ≡ false) (apart_ : apart s.first t.first ≡ true) where
   left_viable : (front : List Lexeme) → IsViablePrefix L front → IsViablePrefix (L ∪ M) front
   left_viable front v = record { more = v.more; value = v.value; spelled = inl v.spelled }
 
@@ -223,7 +223,7 @@ module _ {A : Type 0} (L M : Language A) (s t : FirstAndFollow) (p q : Parser A)
   either_looks front rest other same true stop = first.looks front rest other same stop
   either_looks front rest other same false stop = second.looks front rest other same stop
 
-pub reads_either : {A : Type 0} → (L M : Language A) (s t : FirstAndFollow) (p q : Parser A) → Reads L s p → Reads M t q → s.nullable ≡ false → t.nullable ≡ false → apart s.first t.first ≡ true → Reads (L ∪ M) (either_shape s t) (read_either s.first p q)
+pub reads_either : {A : Type 0} → (L M : Language A) (s t : FirstAndFollow) (p q : Parser A) → Parses L s p → Parses M t q → s.nullable ≡ false → t.nullable ≡ false → apart s.first t.first ≡ true → Parses (L ∪ M) (either_shape s t) (read_either s.first p q)
 reads_either L M s t p q first second full full' apart_ = record {
   some = left_viable L M s t p q first second full full' apart_ [] first.some;
   begins = either_begins L M s t p q first second full full' apart_;
@@ -237,7 +237,7 @@ reads_either L M s t p q first second full full' apart_ = record {
 abbrev pub maybe_shape : FirstAndFollow → FirstAndFollow
 maybe_shape s = record { first = s.first; nullable = true; more = s.first ++ s.more }
 
-module _ {A : Type 0} (L : Language A) (s : FirstAndFollow) (p : Parser A) (reads : Reads L s p) (full : s.nullable ≡ false) where
+module _ {A : Type 0} (L : Language A) (s : FirstAndFollow) (p : Parser A) (reads : Parses L s p) (full : s.nullable ≡ false) where
   maybe_splits_some : (text : List Lexeme) (o : Option A) (r : List Lexeme) → Splits L text o r → Splits (maybe L) text (next {B = Option A} o r (λ a. give (Some a))).0 (next {B = Option A} o r (λ a. give (Some a))).1
   maybe_splits_some text None r split = record { front = split.front; whole = split.whole; spelled = record { more = split.spelled.more; value = Some split.spelled.value; spelled = split.spelled.spelled } }
   maybe_splits_some text (Some a) r split = record { front = split.front; whole = split.whole; spelled = split.spelled }
@@ -265,7 +265,7 @@ module _ {A : Type 0} (L : Language A) (s : FirstAndFollow) (p : Parser A) (read
   maybe_looks front rest other same true stop = maybe_looks_some front rest other same (p (front ++ rest)).0 (p (front ++ rest)).1 refl stop
   maybe_looks front rest other same false stop = let k : front ≡ [] = self_append front rest stop in rw k refl
 
-pub reads_maybe : {A : Type 0} → (L : Language A) (s : FirstAndFollow) (p : Parser A) → Reads L s p → s.nullable ≡ false → Reads (maybe L) (maybe_shape s) (read_maybe s.first p)
+pub reads_maybe : {A : Type 0} → (L : Language A) (s : FirstAndFollow) (p : Parser A) → Parses L s p → s.nullable ≡ false → Parses (maybe L) (maybe_shape s) (read_maybe s.first p)
 reads_maybe L s p reads full = record {
   some = record { more = []; value = None; spelled = refl };
   begins = maybe_begins L s p reads full;

@@ -1,4 +1,4 @@
--- These lemmas are about a parser of lists: items, each after a separator, and perhaps one more separator at the end.
+-- `read_tails` reads a list of items, each after a separator, and perhaps one more separator at the end.
 use Rattle.std.proofs.Common.{◌≡◌, ℕ, zero, suc, ◌+◌, ◌≤◌, Bool, true, false, cond, List, [], ◌∷◌, ◌++◌, length, Option, Some, None, refl, sym, ap, subst, ◌∙◌, append_assoc, arith, inl, inr, ◌⊎◌}
 use Rattle.std.proofs.lemmas.List.{append-nil, append_cancel_right, length-append}
 use Rattle.ll_grammars.specs.declared.lexeme.Lexeme.{Lexeme}
@@ -7,11 +7,11 @@ use Rattle.ll_grammars.specs.Terminals.{among, apart}
 use Rattle.ll_grammars.specs.Language.{Language, one, ◌▸◌, mapped, maybe, many}
 use Rattle.ll_grammars.specs.Rules.{second}
 use Rattle.ll_grammars.specs.Reading.{Parser, Answer, next, ◌>>=◌, starts, give, read_others, read_tails, read_tails_up_to}
-use Rattle.ll_grammars.specs.Reads.{FirstAndFollow, BeginsIn, BeginsOutside, SameHead, Splits, Reads}
+use Rattle.ll_grammars.specs.Parses.{FirstAndFollow, BeginsIn, BeginsOutside, SameHead, Splits, Parses}
 use Rattle.ll_grammars.proofs.Sets.{BeginsOutside-left, BeginsOutside-right, BeginsOutside-next, BeginsOutside-starts, starts_same, SameHead-append, self_append, starts_front}
 use Rattle.ll_grammars.proofs.Steps.{next_give_rest}
 
--- `tails` has the texts of `repeated`, by recursion on the items
+-- the language `repeated`, defined by recursion on the items
 abbrev pub tails : {A : Type 0} → List Terminal → Language A → Language (List A)
 tails separators L text [] = (text ≡ []) ⊎ ((t : Lexeme) × (text ≡ t ∷ []) × (among separators t.terminal ≡ true))
 tails separators L text (value ∷ values) = (t : Lexeme) × (front : List Lexeme) × (rest : List Lexeme) × (text ≡ t ∷ (front ++ rest)) × (among separators t.terminal ≡ true) × L front value × tails separators L rest values
@@ -53,7 +53,7 @@ tails_shape separators s = record { first = separators; nullable = true; more = 
 none_goes : (cs : List Terminal) (rest other : List Lexeme) → SameHead rest other → starts cs rest ≡ false → starts cs other ≡ false
 none_goes cs rest other same h = sym (starts_same cs [] rest other same) ∙ h
 
-module _ {A : Type 0} (separators : List Terminal) (L : Language A) (s : FirstAndFollow) (p : Parser A) (reads : Reads L s p) (full : s.nullable ≡ false) where
+module _ {A : Type 0} (separators : List Terminal) (L : Language A) (s : FirstAndFollow) (p : Parser A) (reads : Parses L s p) (full : s.nullable ≡ false) where
   abbrev tail : ℕ → Parser (List A)
   tail n = read_tails_up_to n separators s.first p
 
@@ -191,7 +191,7 @@ module _ {A : Type 0} (separators : List Terminal) (L : Language A) (s : FirstAn
   tails_looks (suc n) m [] (t ∷ r) other same le le' stop = looks_here n m t r other same (among separators t.terminal) refl stop
   tails_looks (suc n) m (f ∷ fs) rest other same le le' stop = looks_at n m (tails_looks n) f fs rest other same le le' (among separators f.terminal) refl stop
 
-pub reads_tails : {A : Type 0} (separators : List Terminal) {L : Language A} {s : FirstAndFollow} {p : Parser A} → Reads L s p → s.nullable ≡ false → apart s.more separators ≡ true → Reads (tails separators L) (tails_shape separators s) (read_tails separators s.first p)
+pub reads_tails : {A : Type 0} (separators : List Terminal) {L : Language A} {s : FirstAndFollow} {p : Parser A} → Parses L s p → s.nullable ≡ false → apart s.more separators ≡ true → Parses (tails separators L) (tails_shape separators s) (read_tails separators s.first p)
 unfolding read_tails
 reads_tails separators {L = L} {s = s} {p = p} reads full apart_ = record {
   some = record { more = []; value = []; spelled = inl refl };
@@ -201,9 +201,9 @@ reads_tails separators {L = L} {s = s} {p = p} reads full apart_ = record {
   looks = λ front rest other same stop. tails_looks separators L s p reads full (length (front ++ rest)) (length (front ++ other)) front rest other same (omega arith) (omega arith) stop;
 }
 
--- ---- the steps of a loop
+-- ---- the steps of a loop that reads items with separators
 
-module _ {A : Type 0} (separators : List Terminal) (L : Language A) (s : FirstAndFollow) (p : Parser A) (reads : Reads L s p) (full : s.nullable ≡ false) where
+module _ {A : Type 0} (separators : List Terminal) (L : Language A) (s : FirstAndFollow) (p : Parser A) (reads : Parses L s p) (full : s.nullable ≡ false) where
   same_turn : (n m : ℕ) (rest : List Lexeme) → ((r : List Lexeme) → length r ≤ n → length r ≤ m → read_tails_up_to n separators s.first p r ≡ read_tails_up_to m separators s.first p r) → length rest ≤ n → length rest ≤ m
       → (o : Option A) (r : List Lexeme) → Splits L rest o r → next {B = List A} o r (read_others (read_tails_up_to n separators s.first p)) ≡ next {B = List A} o r (read_others (read_tails_up_to m separators s.first p))
   same_turn n m rest ih le le' None r d = refl

@@ -1,13 +1,13 @@
--- A parser that reads a language finds the value of each text. If a list of tokens is no text, the parser stops where the list goes wrong: no text
--- begins with the tokens that were read and the next token. This follows from two facts: the parser finds every text, and it looks at no token
--- after the one at which it stops.
+-- A parser that reads a language finds the value of each text. If a list of tokens is no text, the parser stops at the syntax error: no text begins
+-- with the tokens that were read and the next token. This follows from two facts: the parser finds every text, and it looks at no token after the one
+-- at which it stops.
 use Rattle.std.proofs.Common.{◌≡◌, List, [], ◌∷◌, ◌++◌, Option, Some, None, sym, ap, subst, ◌∙◌, append_assoc}
 use Rattle.std.proofs.lemmas.List.{append-nil}
 use Rattle.ll_grammars.specs.declared.lexeme.Lexeme.{Lexeme}
 use Rattle.ll_grammars.specs.Language.{Language, IsViablePrefix, Fails, GoesWrong}
 use Rattle.ll_grammars.specs.Reading.{Parser}
-use Rattle.ll_grammars.specs.Reads.{FirstAndFollow, Spelled, Reads}
-use Rattle.ll_grammars.specs.Reads.SameHead.{token}
+use Rattle.ll_grammars.specs.Parses.{FirstAndFollow, Spelled, Parses}
+use Rattle.ll_grammars.specs.Parses.SameHead.{token}
 
 not_empty : (t : Lexeme) (ys : List Lexeme) {A : Type 0} → (o q : Option A) → ◌≡◌ {A = Option A × List Lexeme} (o, t ∷ ys) (q, []) → ⊥
 not_empty t ys o q e = let k : t ∷ ys ≡ [] = ap (λ x. x.1) e in cc
@@ -16,7 +16,7 @@ viable_front : {A : Type 0} (L : Language A) (front : List Lexeme) (o : Option A
 viable_front L front None v = v
 viable_front L front (Some a) l = record { more = []; value = a; spelled = rw append-nil l }
 
-fails_at : {A : Type 0} (L : Language A) (s : FirstAndFollow) (p : Parser A) → Reads L s p → (front rest : List Lexeme) → (p (front ++ rest)).1 ≡ rest
+fails_at : {A : Type 0} (L : Language A) (s : FirstAndFollow) (p : Parser A) → Parses L s p → (front rest : List Lexeme) → (p (front ++ rest)).1 ≡ rest
     → (((value : A) → p (front ++ rest) ≡ (Some value, []) → ⊥)) → Fails L front rest
 fails_at L s p reads front [] stop no_value = λ value l. no_value value (reads.complete front [] value l tt)
 fails_at L s p reads front (t ∷ rest) stop no_value = λ viable.
@@ -26,7 +26,7 @@ fails_at L s p reads front (t ∷ rest) stop no_value = λ viable.
     let done' : p (front ++ t ∷ viable.more) ≡ (Some viable.value, []) = rw append-nil at done in
     not_empty t viable.more (p (front ++ t ∷ rest)).0 (Some viable.value) (sym whole ∙ done')
 
-pub goes_wrong : {A : Type 0} (L : Language A) (s : FirstAndFollow) (p : Parser A) → Reads L s p → (text : List Lexeme)
+pub goes_wrong : {A : Type 0} (L : Language A) (s : FirstAndFollow) (p : Parser A) → Parses L s p → (text : List Lexeme)
     → ((value : A) → p text ≡ (Some value, []) → ⊥) → GoesWrong L text (p text).1
 goes_wrong L s p reads text no_value =
     let split = reads.splits text in
@@ -38,7 +38,7 @@ goes_wrong L s p reads text no_value =
       fails = fails_at L s p reads split.front (p text).1 stop (λ value e. no_value value (ap p split.whole ∙ e));
     }
 
-pub spells : {A : Type 0} (L : Language A) (s : FirstAndFollow) (p : Parser A) → Reads L s p → (text : List Lexeme) (value : A) → p text ≡ (Some value, []) → L text value
+pub spells : {A : Type 0} (L : Language A) (s : FirstAndFollow) (p : Parser A) → Parses L s p → (text : List Lexeme) (value : A) → p text ≡ (Some value, []) → L text value
 spells L s p reads text value e =
     let split = reads.splits text in
     let rest_empty : (p text).1 ≡ [] = ap (λ x. x.1) e in
@@ -47,10 +47,10 @@ spells L s p reads text value e =
     let l : Spelled L split.front (Some value) = subst (λ o. Spelled L split.front o) (ap (λ x. x.0) e) split.spelled in
     subst (λ x. L x value) here l
 
-pub found : {A : Type 0} (L : Language A) (s : FirstAndFollow) (p : Parser A) → Reads L s p → (text : List Lexeme) (value : A) → L text value → p text ≡ (Some value, [])
+pub found : {A : Type 0} (L : Language A) (s : FirstAndFollow) (p : Parser A) → Parses L s p → (text : List Lexeme) (value : A) → L text value → p text ≡ (Some value, [])
 found L s p reads text value l = let done : p (text ++ []) ≡ (Some value, []) = reads.complete text [] value l tt in rw append-nil at done
 
-pub one_value : {A : Type 0} (L : Language A) (s : FirstAndFollow) (p : Parser A) → Reads L s p → (text : List Lexeme) (a b : A) → L text a → L text b → a ≡ b
+pub one_value : {A : Type 0} (L : Language A) (s : FirstAndFollow) (p : Parser A) → Parses L s p → (text : List Lexeme) (a b : A) → L text a → L text b → a ≡ b
 one_value L s p reads text a b la lb =
     let e = sym (found L s p reads text a la) ∙ found L s p reads text b lb in
     let k : Some a ≡ Some b = ap (λ x. x.0) e in cc

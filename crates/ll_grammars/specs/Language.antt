@@ -1,10 +1,10 @@
--- Formal languages whose texts have values: which lists of tokens spell which values, and where a list goes wrong if it spells no value.
+-- Formal languages: which lists of tokens spell which values, and where the syntax error of a list is.
 use Rattle.std.specs.Prelude.{◌≡◌, true, ◌⊎◌, Option, Some, None, List, [], ◌∷◌, ◌++◌}
 use Rattle.ll_grammars.specs.declared.lexeme.Lexeme.{Lexeme}
 use Rattle.ll_grammars.specs.declared.terminal.Terminal.{Terminal}
 use Rattle.ll_grammars.specs.Terminals.{among}
 
--- a language L relates lists of tokens to values: `L text value` says that the list spells the value. The texts of L are the lists that spell some value
+-- L relates lists of tokens to values: `L text value` says that the list spells the value. The texts of L are the lists that spell some value
 abbrev pub Language : Type 0 → Type 1
 Language A = List Lexeme → A → Type 0
 
@@ -24,7 +24,7 @@ infixr 20 ◌▸◌
 abbrev pub ◌▸◌ : {A B : Type 0} → Language A → Language B → Language (A × B)
 L ▸ M = Then L M
 
--- a text of L; its value here is `f` of its value in L
+-- a text of L. Its value is `f` of the value that it has in L
 abbrev pub mapped : {A B : Type 0} → (A → B) → Language A → Language B
 mapped {A} f L text value = (a : A) × (f a ≡ value) × L text a
 
@@ -43,18 +43,18 @@ abbrev pub many : {A : Type 0} → Language A → Language (List A)
 many L text [] = text ≡ []
 many L text (value ∷ values) = (front : List Lexeme) × (rest : List Lexeme) × (text ≡ front ++ rest) × L front value × many L rest values
 
--- `front` is a viable prefix: it is a text of L after some tokens, perhaps no token, are added at its end
+-- `front` is a viable prefix: some text of L begins with it
 pub record IsViablePrefix {A : Type 0} (L : Language A) (front : List Lexeme) : Type 0 where
   pub more : List Lexeme
   pub value : A
   pub spelled : L (front ++ more) value
 
--- reading can't go on after `front`: `front` and the next token are no viable prefix. If no token is left, `front` itself is no text of L
+-- `front` followed by the next token of the second list is no viable prefix. If this list is empty, `front` itself is no text of L
 abbrev pub Fails : {A : Type 0} → Language A → List Lexeme → List Lexeme → Type 0
 Fails {A} L front [] = (value : A) → L front value → ⊥
 Fails L front (token ∷ rest) = IsViablePrefix L (front ++ token ∷ []) → ⊥
 
--- the list `text` is no text of L, and `rest` is what follows its longest viable prefix
+-- `text` is no text of L, and `rest` is what follows its longest viable prefix
 pub record GoesWrong {A : Type 0} (L : Language A) (text rest : List Lexeme) : Type 0 where
   pub front : List Lexeme
   pub whole : text ≡ front ++ rest

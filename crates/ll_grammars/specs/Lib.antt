@@ -1,7 +1,7 @@
 pub mod Terminals
 pub mod Language
 pub mod Reading
-pub mod Reads
+pub mod Parses
 pub mod Rules
 pub mod Places
-pub mod Keeping
+pub mod Preserving

@@ -45,7 +45,7 @@ read_then p q text = p text >>= read_second q
 abbrev pub read_mapped : {A B : Type 0} → (A → B) → Parser A → Parser B
 read_mapped f p text = p text >>= λ a. give (f a)
 
--- the first token decides: p reads if the token is in `first`, the terminals with which texts for p begin; otherwise q reads
+-- p reads if the first token is in `first`, otherwise q reads. `first` has the terminals with which texts for p begin
 abbrev pub read_either : {A : Type 0} → List Terminal → Parser A → Parser A → Parser A
 read_either first p q text = if starts first text then p text else q text
 
@@ -55,20 +55,20 @@ read_maybe first p text = if starts first text then (p text >>= λ a. give (Some
 abbrev pub read_others : {A : Type 0} → Parser (List A) → A → Parser (List A)
 read_others q a rest = q rest >>= λ others. give (a ∷ others)
 
--- at most this many items, while the first token is in `first`
+-- at most n items. Another item is read only if the next token is in `first`
 abbrev pub read_up_to : {A : Type 0} → ℕ → List Terminal → Parser A → Parser (List A)
 read_up_to zero first p text = give [] text
 read_up_to (suc n) first p text = if starts first text then (p text >>= read_others (read_up_to n first p)) else give [] text
 
--- items, while the first token is in `first`. Each item takes a token, so there are at most as many items as tokens
+-- any number of items. Each item takes a token, so there are at most as many items as tokens
 unfoldable pub read_many : {A : Type 0} → List Terminal → Parser A → Parser (List A)
 read_many first p text = read_up_to (length text) first p text
 
--- the answer, with the items of `front` before its own items
+-- the same answer, with the items of `front` before the other items
 abbrev pub with_front : {A : Type 0} → List A → Answer (List A) → Answer (List A)
 with_front front answer = answer >>= λ others. give (front ++ others)
 
--- items, each after a separator, and maybe a last separator alone: the token after a separator decides whether an item follows
+-- items, each after a separator, and maybe a last separator alone. The token after a separator decides whether an item follows
 abbrev pub read_tails_up_to : {A : Type 0} → ℕ → List Terminal → List Terminal → Parser A → Parser (List A)
 read_tails_up_to zero separators first p text = give [] text
 read_tails_up_to (suc n) separators first p [] = give [] []

@@ -20,7 +20,7 @@ second parts = parts.1
 abbrev pub middle : {A B C : Type 0} → A × (B × C) → B
 middle parts = parts.1.0
 
--- ---- rules
+-- ---- forms of rules
 
 -- one terminal
 abbrev pub word : Terminal → Language Lexeme
@@ -34,7 +34,7 @@ listed separator L = mapped first_and_others (L ▸ many (mapped second (word se
 abbrev pub in_parentheses : {A : Type 0} → Language A → Language A
 in_parentheses L = mapped middle (word terminal.Open ▸ L ▸ word terminal.Close)
 
--- ---- parsers of these rules
+-- ---- parsers of these forms
 
 abbrev pub read_word : Terminal → Parser Lexeme
 read_word t = read_one (t ∷ [])
@@ -42,16 +42,16 @@ read_word t = read_one (t ∷ [])
 abbrev pub read_in_parentheses : {A : Type 0} → Parser A → Parser A
 read_in_parentheses p = read_mapped middle (read_then (read_word terminal.Open) (read_then p (read_word terminal.Close)))
 
--- the result of a function and the tokens that it left are the parser's answer, unless memory ran out
+-- a function gives the parser's value and leaves the same tokens, unless memory runs out
 abbrev pub IsReadAs : {A : Type 0} → Result A Stop → List Lexeme → Answer A → Type 0
 IsReadAs (Ok a) rest answer = answer ≡ (Some a, rest)
 IsReadAs (Err stop.Syntax) rest answer = answer ≡ (None, rest)
 IsReadAs (Err stop.NoMemory) rest answer = ⊤
 
 -- the start of the next token, or the text's end if no token is left
-abbrev pub place : List Lexeme → ℕ → ℕ
-place [] end = end
-place (token ∷ rest) end = token.start
+abbrev pub next_token_start : List Lexeme → ℕ → ℕ
+next_token_start [] end = end
+next_token_start (token ∷ rest) end = token.start
 
 abbrev pub is_empty : List Lexeme → Bool
 is_empty [] = true

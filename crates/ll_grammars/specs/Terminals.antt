@@ -66,7 +66,7 @@ abbrev pub among : List Terminal → Terminal → Bool
 among [] t = false
 among (s ∷ rest) t = (code s == code t) || among rest t
 
--- whether no terminal is in both sets: the condition that an LL(1) grammar puts on FIRST sets and on what may follow
+-- whether no terminal is in both sets. An LL(1) grammar requires this of the FIRST sets of alternatives, and of what may follow
 abbrev pub apart : List Terminal → List Terminal → Bool
 apart [] others = true
 apart (s ∷ rest) others = if among others s then false else apart rest others

@@ -1,7 +1,7 @@
 //! The tokens that grammars read.
 use crate::Terminal;
 
-/// A token of a text, as a grammar reads it: its terminal symbol, and where it is in the text, from byte `start` up to but not including byte `end`.
+/// A token of a text, as a grammar reads it: its terminal symbol, and its bytes in the text, from `start` to `end`. Byte `end` isn't included.
 #[derive(Clone, Copy, Debug)]
 pub struct Lexeme {
     pub terminal: Terminal,

@@ -1,7 +1,7 @@
 //! A reader of tokens from left to right.
 ghost use Rattle.std.specs.Prelude.{◌≡◌};
 ghost use Rattle.ll_grammars.specs.Reading.{starts, read_one};
-ghost use Rattle.ll_grammars.specs.Rules.{IsReadAs, is_empty, place};
+ghost use Rattle.ll_grammars.specs.Rules.{IsReadAs, is_empty, next_token_start};
 
 use crate::terminal::is_among;
 use crate::{Lexeme, Stop, Terminal};
@@ -83,8 +83,8 @@ impl<'a> Reader<'a> {
     }
 
     /// The byte at which the next token begins, or `end`, the text's end, if no token is left.
-    pub fn place(&self, end: u32) -> u32
-        ensures { result ≡ place self.now end }
+    pub fn next_token_start(&self, end: u32) -> u32
+        ensures { result ≡ next_token_start self.now end }
     {
         match self.rest.first() {
             Some(token) => token.start,

@@ -4,8 +4,8 @@ ghost use Rattle.ll_grammars.specs.declared.stop.Stop.TheVariants as reason;
 
 use base_io::NoMemory;
 
-/// Why a reader gave no value. `Syntax`: no text of the rule begins with the tokens so far and the next one, or no token is left and more are needed.
-/// `NoMemory`: memory ran out.
+/// Why a reader gave no value. `Syntax`: the next token can't follow in any text of the rule, or the tokens end too early. `NoMemory`: memory ran
+/// out.
 #[derive(Clone, Copy, Debug, PartialEq, Eq)]
 pub enum Stop {
     Syntax,

@@ -1,7 +1,7 @@
-//! Why a list of tokens got no value.
+//! Why a list of tokens has no value.
 
-/// Why a list of tokens got no value. `At` is the byte at which the text goes wrong: the start of the first token for which the tokens up to it,
-/// itself included, begin no text of the language. If more tokens are needed, `At` is the text's length. `NoMemory`: memory ran out.
+/// Why a list of tokens has no value. `At` is the byte of the syntax error: the start of the first token that can't follow the tokens before it in
+/// any text of the language. If the tokens end too early, `At` is the text's length. `NoMemory`: memory ran out.
 #[derive(Clone, Copy, Debug, PartialEq, Eq)]
 pub enum SyntaxError {
     At(u32),

@@ -2,8 +2,8 @@
 ghost use Rattle.std.specs.Prelude.{◌≡◌};
 ghost use Rattle.ll_grammars.specs.Terminals.{among, code};
 
-/// A terminal symbol of the grammars of schema and query texts. A reserved word of SQL that no rule
-/// reads is `Reserved`. The number zero is `Zero`, since it can't be a length.
+/// A terminal symbol of the grammars of schema and query texts. A reserved word of SQL that no rule reads is `Reserved`. The number 0 is `Zero`, a
+/// terminal of its own, since it can't be a length.
 #[derive(Clone, Copy, Debug)]
 pub enum Terminal {
     Name,
@@ -63,7 +63,7 @@ pub enum Terminal {
     Minus,
 }
 
-/// The terminals that a name may have: KEY, NO, ACTION and CASCADE are keywords only where a rule asks for them.
+/// The terminals that a name may have. KEY, NO, ACTION and CASCADE are keywords only where the grammar expects them; elsewhere they are names.
 pub const NAME: &[Terminal] = &[
     Terminal::Name,
     Terminal::Key,

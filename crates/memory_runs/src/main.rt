@@ -23,7 +23,7 @@ const NOT_MADE: u8 = 12;
 #[derive(Clone, Copy)]
 enum Outcome {
     Done,
-    WantsMemory,
+    RanOutOfMemory,
     NotMade,
     Other,
 }
@@ -32,7 +32,7 @@ impl Outcome {
     fn status(self) -> u8 {
         match self {
             Outcome::Done | Outcome::Other => 0,
-            Outcome::WantsMemory => MEMORY_RAN_OUT,
+            Outcome::RanOutOfMemory => MEMORY_RAN_OUT,
             Outcome::NotMade => NOT_MADE,
         }
     }
@@ -72,7 +72,7 @@ fn judged(run: &Run, code: u8, notes: &[u8], out: &[u8]) -> Outcome {
     if code == 0 && notes == run.notes && is_text(out, run.out) {
         Outcome::Done
     } else if code == MEMORY_RAN_OUT && notes == b"error memory\n".as_slice() && out.is_empty() {
-        Outcome::WantsMemory
+        Outcome::RanOutOfMemory
     } else {
         Outcome::Other
     }
@@ -90,7 +90,7 @@ fn print_outcome(rt: &HostRuntime, name: &str, outcome: Outcome) -> io::Result<(
     let told = match outcome {
         Outcome::Done => "done",
         Outcome::Other => "another answer",
-        Outcome::WantsMemory | Outcome::NotMade => return Ok(()),
+        Outcome::RanOutOfMemory | Outcome::NotMade => return Ok(()),
     };
     println!(rt; "{name}: {told}")
 }
@@ -118,7 +118,7 @@ fn is_asked(word: &Option<String>, name: &str) -> bool {
     }
 }
 
-// Makes the runs that are asked for, up to the first whose status isn't 0, and gives that status.
+// Makes the runs that are asked for, up to the first run whose status isn't 0. Returns the status of the last run.
 fn status_of_all(rt: &HostRuntime, runs: &[Run], word: &Option<String>) -> io::Result<u8> {
     for run in runs {
         if is_asked(word, run.name) {

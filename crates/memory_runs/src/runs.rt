@@ -64,7 +64,7 @@ const SIX_ONES: Text<'static> = Text::Column {
 };
 
 /// A join of two tables, in four ways: plain, over reduced scans, as a tree, and as a tree over reduced scans. Then a condition that is
-/// carried through a key, a table of texts, a triangle, and two pairs of tables with the same bounds and different answers. Last the
+/// carried through a key, a table of texts, and a triangle. Then two pairs of tables with the same bounds and different answers. Last the
 /// statistics file of a table, a plan from it, and the file after a row is appended.
 pub const RUNS: [Run<'static>; 12] = [
     Run {

@@ -1,7 +1,8 @@
--- The first table has the least cost, and the best order is read off the second table.
+-- The first array gives the least cost, and the best order is read off the second array.
 use Rattle.std.proofs.Common.{◌≡◌, ℕ, ◌-◌, ◌^◌, ◌<◌, ◌≤◌, List, length, get_or, sym, ◌∙◌, subst, arith, inl, inr}
 use Rattle.std.proofs.lemmas.Nat.{pow_pos}
 use Rattle.std.proofs.lemmas.Bool.{cases_lt}
+use Rattle.limits.specs.Profile.{greatest_entries}
 use Rattle.order_search.specs.declared.weight.Weighing.TheVariants as weight
 use Rattle.order_search.specs.Orders.{IsBest, IsLeastCost, cost, total}
 use Rattle.plans.specs.LeftDeep.{IsOrder}
@@ -29,29 +30,29 @@ least_cost_from bounds table n least size is_table is =
       none_cheaper = λ other is_order. (let way : IsWay (2 ^ n - 1) other = way_from_order n other is_order in omega (arith, is, lightest.none_lighter other way, weighs_cost bounds (2 ^ n - 1) other way));
     }
 
--- ---- orders of least cost
+-- ---- the weight of orders of least cost is their sum
 
 abbrev sum_weight : ℕ → List ℕ → ℕ → List ℕ → ℕ
 sum_weight least bounds n order = weight_of (weight.SumOfBoundsUpTo least) bounds (2 ^ n - 1) (2 ^ n - 1) order
 
--- the sum of the order's bounds is below 2 ^ 63, so it isn't the greatest weight
-weighs_sum : (bounds : List ℕ) (n least : ℕ) (order : List ℕ) → n ≤ 12 → least ≤ 2 ^ 59 → IsOrder n order → cost bounds order ≤ least
-    → (sum_weight least bounds n order ≡ total bounds order) × (total bounds order < 2 ^ 63)
+-- the sum of the order's bounds is below 2 ^ 64, so it isn't the greatest weight
+weighs_sum : (bounds : List ℕ) (n least : ℕ) (order : List ℕ) → n ≤ greatest_entries → least ≤ 2 ^ 59 → IsOrder n order → cost bounds order ≤ least
+    → (sum_weight least bounds n order ≡ total bounds order) × (total bounds order < 2 ^ 64)
 weighs_sum bounds n least order few small is_order low =
-    let sum_small : total bounds order < 2 ^ 63 = total-small bounds n order few is_order (omega arith) in
+    let sum_small : total bounds order < 2 ^ 64 = total-small bounds n order few is_order (omega arith) in
     (omega (arith, weighs_total least bounds (2 ^ n - 1) order (way_from_order n order is_order) low, sum_small), sum_small)
 
-pub sum_is_light : (bounds table : List ℕ) (n least : ℕ) → n ≤ 12 → least ≤ 2 ^ 59 → IsLeastCost bounds n least → length bounds ≡ 2 ^ n
+pub sum_is_light : (bounds table : List ℕ) (n least : ℕ) → n ≤ greatest_entries → least ≤ 2 ^ 59 → IsLeastCost bounds n least → length bounds ≡ 2 ^ n
     → HasLeastWeights (weight.SumOfBoundsUpTo least) bounds (length bounds - 1) table (2 ^ n) → get_or table (length bounds - 1) 0 < 2 ^ 128 - 1
 sum_is_light bounds table n least few small found size is_table =
     let value : ℕ = get_or table (length bounds - 1) 0 in
     let lightest : IsLeastWeight (weight.SumOfBoundsUpTo least) bounds (2 ^ n - 1) (2 ^ n - 1) (get_or table (length bounds - 1) 0) =
     subst (λ k. IsLeastWeight (weight.SumOfBoundsUpTo least) bounds k k (get_or table (length bounds - 1) 0)) (last_place bounds n size) (is_table (length bounds - 1) (omega (arith, pow_pos n))) in
-    let weighs : (sum_weight least bounds n found.order ≡ total bounds found.order) × (total bounds found.order < 2 ^ 63) =
+    let weighs : (sum_weight least bounds n found.order ≡ total bounds found.order) × (total bounds found.order < 2 ^ 64) =
     weighs_sum bounds n least found.order few small found.is_order (omega (arith, found.costs)) in
     omega (arith, lightest.none_lighter found.order (way_from_order n found.order found.is_order), weighs.0, weighs.1)
 
-best_of_whole : (bounds : List ℕ) (n least : ℕ) (order : List ℕ) → n ≤ 12 → least ≤ 2 ^ 59 → IsLeastCost bounds n least
+best_of_whole : (bounds : List ℕ) (n least : ℕ) (order : List ℕ) → n ≤ greatest_entries → least ≤ 2 ^ 59 → IsLeastCost bounds n least
     → IsFirstLightest (weight.SumOfBoundsUpTo least) bounds (2 ^ n - 1) (2 ^ n - 1) order → IsBest bounds n order × (cost bounds order ≡ least)
 best_of_whole bounds n least order few small found first = (best, costs)
   where
@@ -60,7 +61,7 @@ best_of_whole bounds n least order few small found first = (best, costs)
 
     costs : cost bounds order ≡ least
     costs = elim (cases_lt least (cost bounds order)) [
-      | inl above ↦ (let weighs : (sum_weight least bounds n found.order ≡ total bounds found.order) × (total bounds found.order < 2 ^ 63) =
+      | inl above ↦ (let weighs : (sum_weight least bounds n found.order ≡ total bounds found.order) × (total bounds found.order < 2 ^ 64) =
           weighs_sum bounds n least found.order few small found.is_order (omega (arith, found.costs)) in
           absurd (omega (arith, first.none_lighter found.order (way_from_order n found.order found.is_order), weighs.0, weighs.1, weighs_most least bounds (2 ^ n - 1) order first.is_way above)))
       | inr below ↦ omega (arith, found.none_cheaper order is_order)
@@ -80,7 +81,7 @@ best_of_whole bounds n least order few small found first = (best, costs)
       none_earlier = λ other other_order same equal. first.none_earlier other (way_from_order n other other_order) (theirs other other_order same ∙ equal ∙ sym own);
     }
 
-pub best_found : (bounds order : List ℕ) (n least : ℕ) → n ≤ 12 → least ≤ 2 ^ 59 → IsLeastCost bounds n least → length bounds ≡ 2 ^ n
+pub best_found : (bounds order : List ℕ) (n least : ℕ) → n ≤ greatest_entries → least ≤ 2 ^ 59 → IsLeastCost bounds n least → length bounds ≡ 2 ^ n
     → IsFirstLightest (weight.SumOfBoundsUpTo least) bounds (length bounds - 1) (length bounds - 1) order → IsBest bounds n order × (cost bounds order ≡ least)
 best_found bounds order n least few small found size first =
     best_of_whole bounds n least order few small found (subst (λ k. IsFirstLightest (weight.SumOfBoundsUpTo least) bounds k k order) (last_place bounds n size) first)

@@ -1,4 +1,4 @@
--- These lemmas are about the loop that lists the levels of an order, entry by entry.
+-- The loop that lists the levels of an order, entry by entry.
 use Rattle.std.proofs.Common.{◌≡◌, ℕ, zero, suc, ◌+◌, ◌-◌, ◌/◌, ◌%◌, ◌^◌, ◌<◌, ◌≤◌, List, [], ◌∷◌, ◌++◌, length, get_or, drop, ap, sym, ◌∙◌, subst, arith}
 use Rattle.std.specs.Int.{bit_at}
 use Rattle.std.proofs.lemmas.Nat.{pow_pos}
@@ -11,7 +11,7 @@ use Rattle.entry_sets.proofs.Bits.{entry_below, power_within, twice}
 use Rattle.order_search.proofs.Prefixes.{levels_after, levels_are}
 use Rattle.order_search.proofs.WholeWays.{way_from_order}
 
--- This is the state of the loop after i entries. The other entries are a way through the set of entries that are left.
+-- the state of the loop after i entries. The other entries are a way through the set of entries that are left
 pub record LevelsOfPrefix (bounds : List ℕ) (n : ℕ) (order : List ℕ) (i placed : ℕ) (so_far_levels : List ℕ) : Type 0 where
   pub within : placed ≤ 2 ^ n - 1
   pub is_way : IsWay (2 ^ n - 1 - placed) (drop i order)

@@ -23,7 +23,7 @@ combined-mono (weight.SumOfBoundsUpTo most) bound a b h = elim (cases_lt most bo
   | inr within ↦ omega (arith, combined-within most bound a within, combined-within most bound b within)
 ]
 
--- this is the state of the loop over the first entries of ways: the entries below `end` were tried
+-- the state of the loop over the first entries of ways. The entries below `end` were tried
 pub record Tried (w : Weighing) (bounds table : List ℕ) (all left end least : ℕ) : Type 0 where
   pub below : (entry : ℕ) → entry < end → bit_at left entry ≡ 1 → (least ≤ weight_through w bounds table all left entry) × (weight_through w bounds table all left entry < 2 ^ 128)
   pub found : (least ≡ 2 ^ 128 - 1) ⊎ ((entry : ℕ) × (bit_at left entry ≡ 1) × (weight_through w bounds table all left entry ≡ least))
@@ -53,7 +53,7 @@ tried_more w bounds table all left end least through tried has is fits = record 
   ];
 }
 
--- the way begins with the entry and goes on with a lightest way through the other entries
+-- the way begins with the entry and continues with a lightest way through the other entries
 pub record Through (w : Weighing) (bounds table : List ℕ) (all left entry : ℕ) : Type 0 where
   pub way : List ℕ
   pub is_way : IsWay left way

@@ -1,5 +1,5 @@
--- One order is no worse than another if it has a lower cost. If the costs are equal, the sums decide, and if the sums are equal, the lexicographic
--- order decides.
+-- An order that is no worse than another. The lower cost decides; if the costs are equal, the smaller sum; if the sums are equal too, the
+-- lexicographic order.
 use Rattle.std.proofs.Common.{◌≡◌, ℕ, ◌<◌, ◌≤◌, List, [], ◌∷◌, refl, sym, ◌∙◌, arith, inl, inr}
 use Rattle.std.specs.Prelude.{◌⊎◌}
 use Rattle.std.proofs.lemmas.Bool.{cases_order}

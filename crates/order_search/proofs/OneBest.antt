@@ -1,4 +1,4 @@
--- There is at most one best order, and at most one answer.
+-- There is at most one best order, and at most one result.
 use Rattle.std.proofs.Common.{◌≡◌, ℕ, ◌^◌, ◌≤◌, List, [], ◌∷◌, refl, ap, sym, arith, inl, inr}
 use Rattle.std.specs.Prelude.{◌⊎◌}
 use Rattle.order_search.specs.Causes.{IsCause, IsCauseOf}
@@ -30,7 +30,7 @@ one_best bounds n a b p q =
 one_least : (bounds : List ℕ) (n a b : ℕ) → IsLeastCost bounds n a → IsLeastCost bounds n b → a ≡ b
 one_least bounds n a b p q = omega (arith, p.none_cheaper q.order q.is_order, q.none_cheaper p.order p.is_order, p.costs, q.costs)
 
--- ---- refusals, for any predicate `IsLeast`
+-- ---- at most one refusal, for any predicate `IsLeast`
 
 pub none_refused : (IsLeast : ℕ → Type 0) (budget cost : ℕ) (e : PlanError) → budget ≤ 2 ^ 59 → cost ≤ budget → ((least : ℕ) → IsLeast least → least ≤ cost) → IsCauseOf IsLeast budget e → e ≡ error.NoMemory
 none_refused IsLeast budget cost (error.Budget least) few within below cause = absurd (omega (arith, below least cause.0))
@@ -46,7 +46,7 @@ one_refusal IsLeast budget (error.Budget a) error.PastBits one p q = absurd (ome
 one_refusal IsLeast budget error.PastBits (error.Budget b) one p q = absurd (omega (arith, one p.0 b p.1 q.0))
 one_refusal IsLeast budget error.PastBits error.PastBits one p q = inr (inr refl)
 
--- ---- refusals of orders
+-- ---- at most one refusal of a search for orders
 
 pub accepted : (bounds : List ℕ) (n budget : ℕ) (best : List ℕ) (e : PlanError) → budget ≤ 2 ^ 59 → IsBest bounds n best → cost bounds best ≤ budget → IsCause bounds n budget e → e ≡ error.NoMemory
 accepted bounds n budget best e few is_best within cause =

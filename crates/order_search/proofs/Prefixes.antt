@@ -1,6 +1,7 @@
--- The bounds of an order's prefixes are computed one entry at a time.
+-- The bounds of an order's prefixes, computed one entry at a time.
 use Rattle.std.proofs.Common.{◌≡◌, ℕ, ◌+◌, ◌*◌, ◌^◌, ◌<◌, ◌≤◌, suc, List, [], ◌∷◌, length, map, get_or, refl, ap, ◌∙◌, sum, arith}
 use Rattle.std.proofs.lemmas.List.Sums.{sum_by-cons}
+use Rattle.limits.specs.Profile.{greatest_entries}
 use Rattle.order_search.specs.Orders.{cost, greatest, levels, prefixes, total}
 use Rattle.entry_sets.specs.Sets.{set_of}
 use Rattle.plans.specs.declared.left_deep.Plan.{Plan}
@@ -52,7 +53,7 @@ sum-at_most most (x ∷ xs) h = omega (arith, sum-cons x xs, sum-at_most most xs
     product : suc (length xs) * most ≡ most + length xs * most
     product = omega arith
 
-pub total-small : (bounds : List ℕ) (n : ℕ) (order : List ℕ) → n ≤ 12 → IsOrder n order → cost bounds order ≤ 2 ^ 59 → total bounds order < 2 ^ 63
+pub total-small : (bounds : List ℕ) (n : ℕ) (order : List ℕ) → n ≤ greatest_entries → IsOrder n order → cost bounds order ≤ 2 ^ 59 → total bounds order < 2 ^ 64
 total-small bounds n order few is_order h =
     let size : length (levels_after bounds 0 order) ≡ n = length-levels_after bounds 0 order ∙ is_order.all in
     omega (arith, size, total_is bounds order, sum-at_most (2 ^ 59) (levels_after bounds 0 order) (omega (arith, cost_is bounds order)))

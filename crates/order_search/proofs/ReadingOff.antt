@@ -1,4 +1,4 @@
--- The first of the lightest ways is read off the table entry by entry.
+-- The first of the lightest ways is read off the array entry by entry.
 use Rattle.std.proofs.Common.{◌≡◌, ℕ, ◌+◌, ◌-◌, ◌^◌, ◌<◌, ◌≤◌, List, [], ◌∷◌, ◌++◌, get_or, ap, sym, ◌∙◌, subst, arith, inl, inr}
 use Rattle.std.proofs.lemmas.Bool.{cases_lt, cases_eq, cases_order}
 use Rattle.std.proofs.lemmas.List.{append_assoc, append-nil}
@@ -57,7 +57,7 @@ looked_more w bounds table n all left end place some h fits is_table looked not 
           | inr behind ↦ omega (arith, entry_below n left one.0 fits one.1.is_left)
         ]
 
--- ---- an entry, and then the first lightest way through the other entries
+-- ---- the first lightest way: an entry, followed by the first lightest way through the other entries
 
 first_none : (w : Weighing) (bounds : List ℕ) (all left : ℕ) → left ≡ 0 → IsFirstLightest w bounds all left []
 first_none w bounds all left none = record {
@@ -66,7 +66,7 @@ first_none w bounds all left none = record {
   none_earlier = λ other way same. tt;
 }
 
--- if sums of one bound and two rests are equal, the rests are equal. The sums have to be below the greatest weight, which every larger sum becomes
+-- if the sums `bound` + a and `bound` + b are equal, a and b are equal. The sums must be below the greatest weight, at which sums are capped
 behind_is : (most bound a b : ℕ) → combined (weight.SumOfBoundsUpTo most) bound a ≡ combined (weight.SumOfBoundsUpTo most) bound b → combined (weight.SumOfBoundsUpTo most) bound a < 2 ^ 128 - 1 → a ≡ b
 behind_is most bound a b same light = elim (cases_lt most bound) [
   | inl beyond ↦ absurd (omega (arith, combined-beyond most bound a beyond))
@@ -116,7 +116,7 @@ first_more most bounds table all left end entry entries h is_table light is firs
             behind_is most (bound_with bounds all left entry) (weight_of (weight.SumOfBoundsUpTo most) bounds all (left - 2 ^ entry) ys) (weight_of (weight.SumOfBoundsUpTo most) bounds all (left - 2 ^ entry) entries)
             there (omega (arith, there, weighs))
 
--- ---- the loop that reads the first lightest way off the table
+-- ---- the loop that reads the first lightest way off the array
 
 pub record ReadOff (most : ℕ) (bounds table : List ℕ) (all left : ℕ) (front : List ℕ) : Type 0 where
   pub within : left ≤ all

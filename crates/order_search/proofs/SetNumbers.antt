@@ -1,4 +1,4 @@
--- In the number of a set of different entries, bit i is 1 if and only if entry i is in the set.
+-- A set is given as a number. Bit i of the number is 1 exactly if entry i is in the set.
 use Rattle.std.proofs.Common.{◌≡◌, ℕ, zero, suc, ◌+◌, ◌-◌, ◌^◌, ◌<◌, false, eqb, List, [], ◌∷◌, length, refl, ap, sym, ◌∙◌, subst, get_or, arith, inl, inr}
 use Rattle.std.specs.Int.{bit_at}
 use Rattle.std.specs.List.{AllByRecursion, Contains, IsDistinct}

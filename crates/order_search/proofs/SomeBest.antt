@@ -141,7 +141,7 @@ best_behind bounds (suc size) n left front fits some =
     (best_below bounds front left n
     (λ entry has. best_behind bounds size n (left - 2 ^ entry) (front ++ entry ∷ []) (omega arith) (omega (arith, size-without n entry left (entry_below n left entry fits has) has))))
 
--- ---- whole orders
+-- ---- some order of all entries is best
 
 pub some_best : (bounds : List ℕ) (n : ℕ) → (best : List ℕ) × IsBest bounds n best
 some_best bounds n = (best.way, best_of bounds n best.way (order_from_way n best.way best.is_way) (λ other is_order. best.none_better other (way_from_order n other is_order)))

@@ -1,4 +1,4 @@
--- A test goes through all orders, and the prover can compute it. It proves small examples of a best order.
+-- A test that goes through all orders and that the prover can compute. It proves the best order in small examples.
 use Rattle.std.proofs.Common.{◌≡◌, ℕ, zero, suc, ◌-◌, ◌^◌, ◌<◌, Bool, true, false, eqb, leb, cond, List, [], ◌∷◌, ◌++◌, refl, ap, sym, ◌∙◌, subst, eq-eqb, arith, inl, inr}
 use Rattle.std.specs.Prelude.{◌⊎◌}
 use Rattle.std.specs.Int.{bit_at}
@@ -12,7 +12,7 @@ use Rattle.entry_sets.proofs.Bits.{entry_below, less_without}
 use Rattle.order_search.proofs.NoWorse.{NoWorse, best_of}
 use Rattle.order_search.proofs.WholeWays.{order_from_way, way_from_order}
 
--- ---- all ways through a set of entries below n
+-- ---- a test of all ways through a set of entries below n
 
 abbrev pub each_below : ℕ → (ℕ → Bool) → Bool
 each_below zero test = true

@@ -43,7 +43,7 @@ heaviest_from most bounds all left (entry ∷ entries) h is_way high =
           omega (arith, combined-within most (bound_with bounds all left entry) (weight_of (weight.SumOfBoundsUpTo most) bounds all (left - 2 ^ entry) entries) within, behind))
     ]
 
--- ---- whole orders
+-- ---- the weight of an order of all entries
 
 pub weighs_cost : (bounds : List ℕ) (all : ℕ) (order : List ℕ) → IsWay all order → weight_of weight.Greatest bounds all all order ≡ cost bounds order
 weighs_cost bounds all order way =

@@ -1,4 +1,4 @@
--- A bound for each set of three or four entries, for worked examples.
+-- Bounds of all sets of three or four entries, for examples.
 use Rattle.std.specs.Prelude.{ℕ, ◌-◌, ◌^◌, List, [], ◌∷◌}
 
 abbrev pub three_entries : List ℕ
@@ -7,7 +7,7 @@ three_entries = 1 ∷ 2 ∷ 2 ∷ 9 ∷ 2 ∷ 5 ∷ 5 ∷ 6 ∷ []
 abbrev pub equal_bounds : List ℕ
 equal_bounds = 3 ∷ 3 ∷ 3 ∷ 3 ∷ 3 ∷ 3 ∷ 3 ∷ 3 ∷ []
 
--- for the entries 0, 1 and 2 the order 0, 1, 2 has the lower cost, and the order 2, 1, 0 has the smaller sum
+-- for the entries 0, 1 and 2: the order 0, 1, 2 has the lower cost, but the order 2, 1, 0 the smaller sum
 abbrev pub dearer_prefix : List ℕ
 dearer_prefix = 1 ∷ 5 ∷ 9 ∷ 5 ∷ 1 ∷ 9 ∷ 6 ∷ 3 ∷ 9 ∷ 9 ∷ 9 ∷ 9 ∷ 9 ∷ 9 ∷ 9 ∷ 10 ∷ []
 

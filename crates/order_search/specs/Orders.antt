@@ -1,5 +1,5 @@
--- Orders in which entries are joined, and which order is best. `bounds` has a bound for every set of entries. The index of a set is the number
--- whose bits are the set: that of {0, 2} is 5.
+-- Orders in which entries are joined, and the best order. `bounds` has a bound for every set of entries. The index of {0, 2} is 5, which is 101 in
+-- binary.
 use Rattle.std.specs.Prelude.{◌≡◌, ℕ, ◌+◌, ◌^◌, ◌<◌, ◌≤◌, ◌⊎◌, max, List, [], ◌∷◌, map, slice_index, ⊤}
 use Rattle.std.specs.List.{sum}
 use Rattle.entry_sets.specs.Sets.{set_of}
@@ -10,7 +10,7 @@ abbrev pub prefixes : List ℕ → List (List ℕ)
 prefixes [] = []
 prefixes (entry ∷ entries) = (entry ∷ []) ∷ map (λ prefix. entry ∷ prefix) (prefixes entries)
 
--- the bounds of the sets of the first k entries, k from 1
+-- the bounds of the order's first k entries, for k from 1
 abbrev pub levels : List ℕ → List ℕ → List ℕ
 levels bounds order = map (λ prefix. slice_index bounds (set_of prefix)) (prefixes order)
 
@@ -32,7 +32,7 @@ IsNotAfter [] ys = ⊤
 IsNotAfter (x ∷ xs) [] = ⊥
 IsNotAfter (x ∷ xs) (y ∷ ys) = (x < y) ⊎ ((x ≡ y) × IsNotAfter xs ys)
 
--- `best` has the least cost of all orders, the least sum among orders of that cost, and comes first among orders of that sum
+-- `best` has the least cost of all orders. Among orders of this cost it has the least sum, and among those of this cost and sum it comes first
 pub record IsBest (bounds : List ℕ) (n : ℕ) (best : List ℕ) : Type 0 where
   pub is_order : IsOrder n best
   pub none_cheaper : (other : List ℕ) → IsOrder n other → cost bounds best ≤ cost bounds other
@@ -40,7 +40,7 @@ pub record IsBest (bounds : List ℕ) (n : ℕ) (best : List ℕ) : Type 0 where
   pub none_earlier : (other : List ℕ) → IsOrder n other → cost bounds other ≡ cost bounds best → total bounds other ≡ total bounds best
       → IsNotAfter best other
 
--- an order has this cost, and no order has a lower cost
+-- some order has this cost, and no order has a lower cost
 pub record IsLeastCost (bounds : List ℕ) (n least : ℕ) : Type 0 where
   pub order : List ℕ
   pub is_order : IsOrder n order

@@ -1,4 +1,4 @@
-//! What the definitions say, as laws. Each call does nothing.
+//! Laws of the definitions. Each call does nothing.
 ghost use Rattle.std.specs.Prelude.{◌≡◌, ◌==◌, ◌≤◌, ◌⊎◌, ◌↔◌, [], ◌∷◌, ℕ, List};
 ghost use Rattle.std.specs.Int.{bit_at};
 ghost use Rattle.std.specs.List.{Contains, IsDistinct};
@@ -10,7 +10,7 @@ ghost use Rattle.entry_sets.specs.Sets.{set_of};
 ghost use Rattle.order_search.specs.declared.refusal.PlanError.{PlanError};
 ghost use Rattle.order_search.specs.declared.refusal.PlanError.TheVariants as error;
 
-/// In the number of a set of different entries, bit i is 1 if and only if entry i is in the set.
+/// A set is given as a number. Bit i of the number is 1 exactly if entry i is in the set.
 pub fn sets_have_their_bits()
     ensures { (entries : List ℕ) (entry : ℕ) → IsDistinct ◌==◌ entries → (bit_at (set_of entries) entry ≡ 1) ↔ Contains entries entry }
 {}
@@ -21,7 +21,8 @@ pub fn one_best_order()
     ensures one { (bounds : List ℕ) (n : ℕ) (a b : List ℕ) → IsBest bounds n a → IsBest bounds n b → a ≡ b }
 {}
 
-/// If the best order costs at most the budget, no refusal other than `NoMemory` has a cause. In any case at most one refusal other than `NoMemory` has a cause.
+/// If the best order costs at most the budget, only `NoMemory` is a possible refusal. In any case, at most one refusal other than `NoMemory` has a
+/// cause.
 pub fn one_answer()
     ensures accepted { (bounds : List ℕ) (n budget : ℕ) (best : List ℕ) (e : PlanError) → budget ≤ greatest_budget
         → IsBest bounds n best → cost bounds best ≤ budget → IsCause bounds n budget e → e ≡ error.NoMemory }
@@ -30,7 +31,7 @@ pub fn one_answer()
         → (e ≡ error.NoMemory) ⊎ ((f ≡ error.NoMemory) ⊎ (e ≡ f)) }
 {}
 
-/// What the definitions give for three and four entries.
+/// The definitions, computed for three and four entries.
 pub fn examples()
     ensures set { set_of (0 ∷ 2 ∷ []) ≡ 5 }
     ensures prefixes { prefixes (0 ∷ 2 ∷ 1 ∷ []) ≡ (0 ∷ []) ∷ (0 ∷ 2 ∷ []) ∷ (0 ∷ 2 ∷ 1 ∷ []) ∷ [] }

@@ -1,10 +1,10 @@
-//! The best order. From the bound of every set of entries to the left-deep order in which they are joined.
+//! Finds the best left-deep order of a query's entries, from the bound of every set of entries.
 //!
 //! In: a bound for each set of FROM entries, and the bound of each entry's scan. The bound of the set {0, 2} has the index 5, which is 101 in binary.
 //! The cost of an order is the greatest bound among its prefixes. Out: the order of least cost, with the bounds of its prefixes. If the least cost is
-//! above the budget, there is no order: the answer is this cost, or that it is past 128 bits.
+//! above the budget, the result is a refusal: it names this cost, or says that it is past 128 bits.
 //!
-//! Callers cite `IsBest`, `levels`, `cost` and `IsPlan` (from the crate plans) for a plan, and `IsCause` for a refusal.
+//! In contracts `IsBest`, `levels`, `cost` and `IsPlan` (of the crate plans) describe a plan, and `IsCause` a refusal.
 //!
 //! ```text
 //! let plan = choose(alloc, &bounds, &scans, budget)?;

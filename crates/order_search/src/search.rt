@@ -1,6 +1,6 @@
 //! Searches for the best order: least cost first, then the least sum among the orders of that cost.
 ghost use Rattle.std.specs.Prelude.{◌≡◌, ◌≤◌, ◌<◌, ◌^◌, length, IfErr, IfOk};
-ghost use Rattle.limits.specs.Profile.{greatest_budget, most_entries};
+ghost use Rattle.limits.specs.Profile.{greatest_budget, greatest_entries};
 ghost use Rattle.order_search.specs.Causes.{IsCause};
 ghost use Rattle.order_search.specs.Orders.{IsBest, IsLeastCost, cost, levels as levels_of};
 ghost use Rattle.plans.specs.LeftDeep.{IsOrder, IsPlan};
@@ -15,16 +15,16 @@ use limits::TOP_BOUND;
 use plans::Plan;
 use std::alloc::Global;
 
-/// The best order of n entries, n from 1 to 12, over a bound for each of the 2^n sets. The cost of an order is the greatest bound of its
-/// first k entries, k from 1 to n. The best order has the least cost. Among the orders of this cost it has the least sum of these bounds,
-/// and among those of this sum it comes first in lexicographic order.
+/// The best order of n entries, n from 1 to `GREATEST_ENTRIES`, over a bound for each of the 2^n sets. The cost of an order is the greatest bound of
+/// its first k entries, k from 1 to n. The best order has the least cost. Among the orders of this cost it has the least sum of these bounds. Among
+/// the orders of this cost and sum it comes first in lexicographic order.
 ///
-/// All bounds and the budget are in rows. A bound of 2^128 - 1 means 2^128 - 1 rows or more. The search fills two tables of 2^n numbers, one after
-/// the other, in n 2^n steps each. For each set of entries that are still to be joined, the first table has the least cost of going on with them. The
-/// second has the least sum of going on without a bound above the least cost of an order. Tables over sets for left-deep orders are from *Access Path
+/// All bounds and the budget are in rows. A bound of 2^128 - 1 means 2^128 - 1 rows or more. The search fills two arrays of 2^n numbers, one after
+/// the other, in n 2^n steps each. A set has the entries that are still to be joined. In the first array its number is the least cost of joining
+/// them. In the second it is the least sum of joining them without a bound above the least cost of an order. The method is from *Access Path
 /// Selection in a Relational Database Management System* (Selinger and others, SIGMOD 1979).
 ///
-/// It answers `Budget` and `PastBits` exactly if `IsCause` says so, and `NoMemory` if there is too little memory.
+/// The call returns `Budget` or `PastBits` exactly if `IsCause` says so, and `NoMemory` if there is too little memory.
 pub fn choose(
     alloc: Global,
     bounds: &Seq<u128>,
@@ -32,7 +32,7 @@ pub fn choose(
     budget: u64,
 ) -> Result<Plan, PlanError>
     requires some { 1 ≤ length scans.now }
-    requires few { length scans.now ≤ most_entries }
+    requires few { length scans.now ≤ greatest_entries }
     requires bounds { length bounds.now ≡ 2 ^ length scans.now }
     requires budget { budget ≤ greatest_budget }
 
@@ -63,7 +63,7 @@ pub fn choose(
 }
 
 fn least_cost(alloc: Global, count: u8, bounds: &[u128]) -> Result<u128, NoMemory>
-    requires count { count ≤ most_entries }
+    requires count { count ≤ greatest_entries }
     requires bounds { length bounds.now ≡ 2 ^ count }
     ensures { IfOk result (λ least. IsLeastCost bounds.now count least) }
 {
@@ -71,9 +71,9 @@ fn least_cost(alloc: Global, count: u8, bounds: &[u128]) -> Result<u128, NoMemor
     Ok(costs[bounds.len() - 1])
 }
 
-// The best order: among the orders of least cost, the first of least sum. `least` is the least cost.
+// The best order: among the orders of least cost and least sum, the first. `least` is the least cost.
 fn best_order(alloc: Global, count: u8, bounds: &[u128], least: u128) -> Result<Vec<u8>, NoMemory>
-    requires count { count ≤ most_entries }
+    requires count { count ≤ greatest_entries }
     requires bounds { length bounds.now ≡ 2 ^ count }
     requires least { IsLeastCost bounds.now count least }
     requires small { least ≤ greatest_budget }
@@ -92,7 +92,7 @@ fn levels_along(
     bounds: &[u128],
     order: &[u8],
 ) -> Result<Vec<u64>, NoMemory>
-    requires count { count ≤ most_entries }
+    requires count { count ≤ greatest_entries }
     requires bounds { length bounds.now ≡ 2 ^ count }
     requires order { IsOrder count order.now }
     requires small { cost bounds.now order.now < 2 ^ 64 }

@@ -1,8 +1,8 @@
-//! A table of the least weight for each set of entries that are still to be joined (weight.rt says what a weight is). A subset has a smaller number
-//! than the set, so it is filled in earlier.
+//! Fills an array with the least weight for each set of entries that are still to be joined. weight.rt defines weights. A subset has a smaller number
+//! than the set, so its weight is found earlier.
 ghost use Rattle.std.specs.Prelude.{◌≡◌, ◌-◌, ◌^◌, ◌<◌, ◌≤◌, length, IfOk};
 ghost use Rattle.std.specs.Int.{bit_at};
-ghost use Rattle.limits.specs.Profile.{most_entries};
+ghost use Rattle.limits.specs.Profile.{greatest_entries};
 ghost use Rattle.order_search.specs.Ways.{IsLeastWeight, HasLeastWeights, weight_through as weight_through_of};
 
 use crate::weight::Weighing;
@@ -19,7 +19,7 @@ pub(crate) fn weight_through(
     left: EntrySet,
     entry: u8,
 ) -> u128
-    requires entry { entry < most_entries }
+    requires entry { entry < greatest_entries }
     requires has { bit_at left entry ≡ 1 }
     requires left { left < length bounds.now }
     requires table { left ≤ length table.now }
@@ -29,7 +29,7 @@ pub(crate) fn weight_through(
     weight.combined(bounds[bounds.len() - 1 - rest], table[rest])
 }
 
-// The least weight of a way through the set `left`, by the table of the sets with smaller numbers.
+// The least weight of a way through the set `left`, from the weights of the sets with smaller numbers.
 fn least_weight(
     weight: Weighing,
     count: u8,
@@ -37,7 +37,7 @@ fn least_weight(
     table: &[u128],
     left: EntrySet,
 ) -> u128
-    requires count { count ≤ most_entries }
+    requires count { count ≤ greatest_entries }
     requires bounds { length bounds.now ≡ 2 ^ count }
     requires left { left < length bounds.now }
     requires filled { length table.now ≡ left }
@@ -56,14 +56,14 @@ fn least_weight(
     least
 }
 
-// The table of the least weights for all sets.
+// The least weights of all sets, by the set's number.
 pub(crate) fn least_weights(
     alloc: Global,
     weight: Weighing,
     count: u8,
     bounds: &[u128],
 ) -> Result<Vec<u128>, NoMemory>
-    requires count { count ≤ most_entries }
+    requires count { count ≤ greatest_entries }
     requires bounds { length bounds.now ≡ 2 ^ count }
     ensures filled { IfOk result (λ table. length table.items ≡ 2 ^ count) }
     ensures table { IfOk result (λ table. HasLeastWeights weight bounds.now (length bounds.now - 1) table.items (2 ^ count)) }

@@ -1,6 +1,6 @@
-//! Reads the first of the lightest ways off the table, entry by entry. A way is an order of the entries that are still to be joined.
+//! Reads the first of the lightest ways off the array of least weights, entry by entry. A way is an order of the entries that are still to be joined.
 ghost use Rattle.std.specs.Prelude.{◌≡◌, ◌-◌, ◌^◌, ◌<◌, ◌≤◌, ◌↔◌, ℕ, length, slice_index, IfOk, IsTrue};
-ghost use Rattle.limits.specs.Profile.{most_entries, top_bound};
+ghost use Rattle.limits.specs.Profile.{greatest_entries, top_bound};
 ghost use Rattle.order_search.specs.Ways.{BeginsLightest, IsFirstLightest, HasLeastWeights};
 
 use crate::table::weight_through;
@@ -16,7 +16,7 @@ fn begins_lightest(
     left: EntrySet,
     entry: u8,
 ) -> bool
-    requires entry { entry < most_entries }
+    requires entry { entry < greatest_entries }
     requires left { left < length bounds.now }
     requires filled { length table.now ≡ length bounds.now }
     ensures { IsTrue result ↔ BeginsLightest weight bounds.now table.now (length bounds.now - 1) left entry }
@@ -25,9 +25,9 @@ fn begins_lightest(
         && weight_through(weight, bounds, table, left, entry) == table[left.bits() as usize]
 }
 
-// The first entry that begins a lightest way through the set `left`.
+// The first entry with which a lightest way through the set `left` begins.
 fn next_entry(weight: Weighing, count: u8, bounds: &[u128], table: &[u128], left: EntrySet) -> u8
-    requires count { count ≤ most_entries }
+    requires count { count ≤ greatest_entries }
     requires bounds { length bounds.now ≡ 2 ^ count }
     requires some { 0 < left }
     requires left { left < length bounds.now }
@@ -44,7 +44,7 @@ fn next_entry(weight: Weighing, count: u8, bounds: &[u128], table: &[u128], left
     entry
 }
 
-// The first of the lightest ways through all entries. The weight of the lightest ways has to be below TOP_BOUND.
+// The first of the lightest ways through all entries. The weight of the lightest ways must be below TOP_BOUND.
 pub(crate) fn first_lightest(
     alloc: Global,
     most: u128,
@@ -52,7 +52,7 @@ pub(crate) fn first_lightest(
     bounds: &[u128],
     table: &[u128],
 ) -> Result<Vec<u8>, NoMemory>
-    requires count { count ≤ most_entries }
+    requires count { count ≤ greatest_entries }
     requires bounds { length bounds.now ≡ 2 ^ count }
     requires filled { length table.now ≡ length bounds.now }
     requires table { HasLeastWeights (Weighing.SumOfBoundsUpTo most) bounds.now (length bounds.now - 1) table.now (length bounds.now) }

@@ -5,12 +5,12 @@ ghost use Rattle.order_search.specs.Ways.{combined};
 
 use limits::TOP_BOUND;
 
-// How the bounds along a way make its weight.
+// How a weight is made from the bounds along a way.
 #[derive(Clone, Copy)]
 pub(crate) enum Weighing {
     /// The greatest of the bounds.
     Greatest,
-    /// The sum of the bounds, or TOP_BOUND if the sum is greater. If any bound is above this number, the weight is TOP_BOUND too.
+    /// The sum of the bounds, or TOP_BOUND if the sum is greater. If a bound is above the given number, the weight is TOP_BOUND too.
     SumOfBoundsUpTo(u128),
 }
 

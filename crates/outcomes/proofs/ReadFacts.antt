@@ -4,7 +4,7 @@ use Rattle.base_io.specs.Causes.{Rose}
 use Rattle.base_io.specs.Files.{Files}
 use Rattle.base_io.specs.Devices.{Reading}
 use Rattle.base_io.proofs.CountFacts.{later_then_rose}
-use Rattle.outcomes.specs.Reads.{◌>>=◌, Ends, Gives, IsNotMissing, MissesNothing, Reads, StopsBy}
+use Rattle.outcomes.specs.Reads.{◌>>=◌, EndsEarly, Gives, IsNotMissing, MissesNothing, Reads, StopsBy}
 use Rattle.outcomes.specs.declared.failure.Failure.{Failure}
 use Rattle.outcomes.specs.declared.failure.Failure.TheVariants as failure
 use Rattle.outcomes.specs.declared.names.FileId.{FileId}
@@ -57,7 +57,7 @@ module _ {A B : Type 0} (one : OfFiles A) (two : A → OfFiles B) where
     same = h.same;
   }
     where
-      ends : (e : Failure) → Ends store one C e → Ends store both D e
+      ends : (e : Failure) → EndsEarly store one C e → EndsEarly store both D e
       ends (failure.Refused r) k = ((λ files told. at_err (one files) (λ x. two x files) r (k.0 files told)), k.1, k.2)
       ends (failure.Fault file) k = (k.0, λ files told. more files file (k.1 files told))
       ends failure.NoMemory k = tt
@@ -78,7 +78,7 @@ module _ {A B : Type 0} (one : OfFiles A) (two : A → OfFiles B) where
       told_again : (files : Files) → first.files ≡ Some files → second.files ≡ Some files
       told_again files told = sym meets.files ∙ h.same ∙ told
 
-      ends : (e : Failure) → Ends second (two x) D e → Ends (joined first second) both E e
+      ends : (e : Failure) → EndsEarly second (two x) D e → EndsEarly (joined first second) both E e
       ends (failure.Refused r) w = (
         (λ files told. at_ok (one files) (λ y. two y files) x (h.gives files told) ∙ w.0 files (told_again files told)),
         (λ none. w.1 (sym meets.files ∙ h.same ∙ none)),
@@ -115,7 +115,7 @@ module _ {A B : Type 0} (store : Reading) (one : OfFiles A) (next : A → Result
     same = h.same;
   }
     where
-      ends : (e : Failure) → StopsBy (next x) e → Ends store after D e
+      ends : (e : Failure) → StopsBy (next x) e → EndsEarly store after D e
       ends (failure.Refused r) w = ((λ files told. at_ok (one files) next x (h.gives files told) ∙ w.0), (λ none. w.1), w.2)
       ends (failure.Fault file) w = absurd w
       ends failure.NoMemory w = tt
@@ -129,7 +129,7 @@ reads_as {A} store one two C D answer same more h = record {
   same = h.same;
 }
   where
-    ends : (e : Failure) → Ends store one C e → Ends store two D e
+    ends : (e : Failure) → EndsEarly store one C e → EndsEarly store two D e
     ends (failure.Refused r) w = ((λ files told. same files ∙ w.0 files told), w.1, w.2)
     ends (failure.Fault file) w = (w.0, λ files told. more files file (w.1 files told))
     ends failure.NoMemory w = tt

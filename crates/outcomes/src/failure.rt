@@ -135,7 +135,7 @@ impl From<StatsError> for Failure {
     }
 }
 
-/// How the reading of a table's file ends with this error. `table` is the table's number in the schema.
+/// The failure of a step that reads a table's file, from the reader's error. `table` is the table's number in the schema.
 pub fn table_failure(table: u32, error: TableError) -> Failure
     ensures { result ≡ failure_of table error }
 {

@@ -21,7 +21,7 @@ pub enum QueryCause {
     Kind,
 }
 
-/// What is wrong with a table's file. Records are numbered from 0, which is the header. Columns are those of the
+/// What is wrong with a table's file. Records are numbered from 0; record 0 is the header. Columns are those of the
 /// schema, numbered from 0.
 #[derive(Clone, Copy, Debug, PartialEq, Eq)]
 pub enum TableCause {
@@ -32,8 +32,8 @@ pub enum TableCause {
     Key { row: u32, earlier: u32 },
 }
 
-/// What is wrong with a file of statistics: a line isn't in the grammar, a line breaks a rule on values, or something that a FROM entry
-/// needs is missing.
+/// What is wrong with a file of statistics. `Syntax`: a line isn't in the grammar. `Rule`: a line breaks a rule on values. `Missing`: something
+/// that a FROM entry needs is missing.
 #[derive(Clone, Copy, Debug, PartialEq, Eq)]
 pub enum StatsCause {
     Syntax,

@@ -1,11 +1,11 @@
-//! What a run answers.
+//! How a run ends, and the exit status.
 ghost use Rattle.std.specs.Prelude.{◌≡◌};
 ghost use Rattle.outcomes.specs.Statuses.{code_of, status_of_failure};
 ghost use Rattle.outcomes.specs.declared.status.Status.TheVariants as status;
 
 use crate::{Failure, FileId, Refusal, SinkId};
 
-/// The exit status if there was too little memory: before the first byte of the plan text, or for the words themselves.
+/// The exit status if memory ran out before the first byte of the plan text, or for the words of the command line.
 pub const NO_MEMORY: u8 = 11;
 
 /// The exit status if the system doesn't give the words. Then there is no run and no `Status`.
@@ -14,7 +14,7 @@ pub const NO_WORDS: u8 = 15;
 /// How a run ended.
 #[derive(Clone, Copy, Debug, PartialEq, Eq)]
 pub enum Status {
-    /// Each text of the command was written whole.
+    /// Each text that the command writes was written to its end.
     Done,
     /// The words or the files are refused.
     Refused(Refusal),

@@ -1,7 +1,8 @@
-//! Tables of a filter column and a joined column, for tests and measurements of statistics.
+//! Tables of a filter column and a joined column, their statistics, and the lists that these give, for tests and measurements.
 //!
-//! In: cells, a pool and the filter column's kind. Out: a table (`table_of`, in `specs/Tables.antt`). Callers cite `HasColumn` of
-//! column_stats for its columns 0 and 1.
+//! In: cells, a pool and the filter column's kind. Out: a table (`table_of`, in `specs/Tables.antt`), and from its cells a `ColumnStats`. The
+//! contract says that the table has columns 0 and 1, by `HasColumn` of column_stats. Contracts of statistics use `stats_of`, `list_for_value`,
+//! `list_for_range` and `leaf_by_cuts`.
 #![tactic(auto)]
 
 ghost use Rattle.std.specs.Prelude.{◌≡◌, ◌↔◌, All, IfOk, IsTrue};
@@ -9,8 +10,13 @@ ghost use Rattle.csv_tables.specs.Cells.{IsCell};
 ghost use Rattle.column_stats.specs.Pairs.{HasColumn};
 ghost use Rattle.pair_tables.specs.Tables.{table_of};
 
+mod answers;
+mod gathering;
+
+pub use answers::{for_equal, for_range, leaf_int, leaf_text};
 use base_io::{NoMemory, Seq};
 use csv_tables::{Cells, Pool};
+pub use gathering::gather;
 use limits::MOST_ROWS;
 use schema_types::Kind;
 use std::alloc::Global;
@@ -26,8 +32,8 @@ pub fn are_cells(pool: &Pool, kind: Kind, cells: &[u64]) -> bool
     }
 }
 
-/// The table of two columns: a filter column of a kind and a joined column of numbers. It also answers `NoMemory` if the columns have
-/// different lengths or more than 4,000,000 rows, or if a number of the filter column isn't a cell.
+/// The table of two columns: a filter column of a kind and a joined column of numbers. Invalid arguments give the error `NoMemory` too. The columns
+/// must have the same length, at most 4,000,000. Each number of the filter column must be a cell of its kind.
 pub fn table_of_pair(
     alloc: Global,
     pool: &Pool,

@@ -55,7 +55,8 @@ heads-step k f i head within same =
 
 -- ---- the result so far
 
--- the state after i elements has the pieces, the run that still grows, the head, the rows that were passed, and the rows that the result covers
+-- The state after i elements has the pieces, the run that still grows, and the head. It also has how many rows were passed, and how many the
+-- result covers
 pub record Growing (k : ℕ) (f : List ℕ) (i : ℕ) (pieces : List ℕ) (value count head rows covered : ℕ) : Type 0 where
   pub within : i ≤ length f
   pub rows_are : rows ≡ running_sum f i
@@ -186,8 +187,8 @@ growing_empty k f i pieces value count head rows covered g end none =
     let sum_is : sum f ≤ 0 = omega (arith, g.ahead, running_sum-past f i end, nothing.1) in
     nothing.0 ∙ sym (stops k f (length f) 0 sum_is)
 
--- Otherwise the last element of the run is too great by `covered - rows`, which is how far the result's sum exceeds the list's sum. The element is
--- greater than this excess.
+-- Otherwise the last element of the run is too great by `covered - rows`. By this excess the result's sum exceeds the list's sum. The element is
+-- greater than the excess.
 pub growing_ended : (k : ℕ) (f : List ℕ) (i : ℕ) (pieces : List ℕ) (value count head rows covered : ℕ) → Growing k f i pieces value count head rows covered
     → length f ≤ i → 0 < count → (rows ≡ sum f) × (sum f ≤ covered) × (covered - rows < value)
 growing_ended k f i pieces value count head rows covered g end some =

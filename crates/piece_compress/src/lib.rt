@@ -1,11 +1,11 @@
 //! Compression: from a degree list to a list of few pieces, which dominates the same keys.
 //!
 //! In: the degree list of a column, or of some of its rows. It has one element for each different key. Out: a list of few pieces. Statistics
-//! keep this list, and bounds are made from it. At accuracy K each of its elements exceeds the degree at the same rank by at most one K-th, and its
+//! keep this list, and bounds are made from it. At accuracy K each of its elements exceeds the degree at the same rank by at most one K-th. Its
 //! sum is the sum of the degrees. Each of its runs has the value of one degree, the run's head. This compression by heads is this project's own.
 //! Domination is that of SafeBound (SIGMOD 2023).
 //!
-//! Callers cite `compressed` of crate `degree_sequences` and `most_pieces`:
+//! In contracts the result is `compressed` of crate `degree_sequences`, and `most_pieces` is the greatest number of its pieces.
 //! `let list = compress(alloc, counts.as_slice(), Accuracy::of(1))?;` gives `list ≡ compressed 1 counts`. `compress_runs` gives the same
 //! list from counts that are kept as runs.
 #![tactic(auto)]
@@ -24,13 +24,6 @@ use base_io::NoMemory;
 use limits::Accuracy;
 use piece_math::Pieces;
 use std::alloc::Global;
-
-/// The most pieces that the compression of a list with the first degree `first` can have.
-pub fn pieces_at_most(first: u64, accuracy: Accuracy) -> u32
-    ensures { result ≡ most_pieces first accuracy }
-{
-    u32::from(accuracy.value()) * (u64::BITS - first.leading_zeros()) + 1
-}
 
 // Equal elements at the end of the result that aren't among its pieces yet.
 #[derive(Clone, Copy)]

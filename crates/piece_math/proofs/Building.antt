@@ -20,7 +20,7 @@ first_run (x ∷ s) (suc c) v same pos =
 pub record HasRun (s : List ℕ) (n c v : ℕ) : Type 0 where
   pub same : (k : ℕ) → k < c → get_or s (n + k) 0 ≡ v
 
-take_run : (n : ℕ) (s : List ℕ) (c v : ℕ) → ((k : ℕ) → k < c → get_or s (n + k) 0 ≡ v) → 0 < v → take (n + c) s ≡ take n s ++ replicate c v
+pub take_run : (n : ℕ) (s : List ℕ) (c v : ℕ) → ((k : ℕ) → k < c → get_or s (n + k) 0 ≡ v) → 0 < v → take (n + c) s ≡ take n s ++ replicate c v
 take_run zero s c v same pos =
     ap (λ k. take k s) (zero-add c) ∙ first_run s c v (λ k h. ap (λ i. get_or s i 0) (sym (zero-add k)) ∙ same k h) pos
 take_run (suc n) [] zero v same pos = ap (λ k. take {A = ℕ} k []) (add-zero (suc n))

@@ -69,7 +69,7 @@ AreRuns-added ps p q fall other least pos some =
     AreRuns-push (ps ++ p ∷ []) q fall pos some
     (above_last q.value ps p fall (omega (arith, other, last_at_least q.value ps p (last_count ps p fall) least)))
 
--- ---- the last piece
+-- ---- the last piece grows
 
 split_last : (old : List Piece) (d : Piece) → 0 < length old → old ≡ take (length old - 1) old ++ get_or old (length old - 1) d ∷ []
 split_last old d some =
@@ -99,20 +99,20 @@ last_fits old d some =
 pub ArePieces-added : (old : List Piece) (d : Piece) (v n : ℕ) → (0 < length old → (get_or old (length old - 1) d).value ≡ v → ⊥) → All (λ x. v ≤ x) (expanded old)
     → 0 < v → 0 < n → ArePieces old → length (expanded old) + n < 2 ^ 64 → ArePieces (old ++ record { value = v; count = n } ∷ [])
 ArePieces-added old d v n other least pos some are room = record {
-  falls = falls_on old other least are.falls;
+  falls = still_descending old other least are.falls;
   fits = omega (arith, ap length (expanded-push old (record { value = v; count = n })), length-append (expanded old) (replicate n v), length-replicate n v);
 }
   where
-    falls_on : (old : List Piece) → (0 < length old → (get_or old (length old - 1) d).value ≡ v → ⊥) → All (λ x. v ≤ x) (expanded old) → AreRuns old
+    still_descending : (old : List Piece) → (0 < length old → (get_or old (length old - 1) d).value ≡ v → ⊥) → All (λ x. v ≤ x) (expanded old) → AreRuns old
         → AreRuns (old ++ record { value = v; count = n } ∷ [])
-    falls_on [] other least fall = (pos, some, tt)
-    falls_on (q ∷ qs) other least fall =
+    still_descending [] other least fall = (pos, some, tt)
+    still_descending (q ∷ qs) other least fall =
         let split : q ∷ qs ≡ take (length (q ∷ qs) - 1) (q ∷ qs) ++ get_or (q ∷ qs) (length (q ∷ qs) - 1) d ∷ [] = split_last (q ∷ qs) d (omega arith) in
         let G : List Piece → Type 0 = λ ps. AreRuns (ps ++ record { value = v; count = n } ∷ []) in
         subst G (sym split) (AreRuns-added (take (length (q ∷ qs) - 1) (q ∷ qs)) (get_or (q ∷ qs) (length (q ∷ qs) - 1) d) (record { value = v; count = n })
         (subst AreRuns split fall) (other (omega arith)) (subst (λ (ps : List Piece). All (λ x. v ≤ x) (expanded ps)) split least) pos some)
 
--- ---- runs
+-- ---- the number of runs
 
 runs_after-same : (n x : ℕ) (s : List ℕ) → runs_after x (replicate n x ++ s) ≡ runs_after x s
 runs_after-same zero x s = refl
@@ -163,7 +163,7 @@ pub positive-expanded : (ps : List Piece) → AreRuns ps → AllByRecursion (λ 
 positive-expanded [] fall = tt
 positive-expanded (p ∷ ps) fall = positive-front p.count p.value (expanded ps) (omega (arith, fall.0)) (positive-expanded ps fall.2)
 
--- ---- totals
+-- ---- the sum of the list
 
 pub sum-expanded-push : (ps : List Piece) (p : Piece) → sum (expanded (ps ++ p ∷ [])) ≡ sum (expanded ps) + p.count * p.value
 sum-expanded-push ps p =

@@ -45,7 +45,7 @@ IsDescending-block_sums g u fg fu = IsDescending-from_sums (block_sums g u) (λ 
 block_element : (g u : List ℕ) (r v : ℕ) → running_sum u (running_sum g (r + 1)) ≡ running_sum u (running_sum g r) + v → get_or (block_sums g u) r 0 ≡ v
 block_element g u r v h = element_from_sums (block_sums g u) r v (running_sum-block_sums g u (r + 1) ∙ h ∙ ap (λ n. n + v) (sym (running_sum-block_sums g u r)))
 
--- the walk builds the sums of blocks, trimmed (without zeros at the end) and saturated (at most 2 ^ 128 - 1 each)
+-- The walk builds the sums of blocks. The list is trimmed (without zeros at the end) and saturated (at most 2 ^ 128 - 1 each)
 abbrev pub grouped_list : List Piece → List Piece → List ℕ
 grouped_list g u = map saturated (trimmed (block_sums (expanded g) (expanded u)))
 

@@ -35,7 +35,7 @@ pub child_dominates : DominatesChild 6 child_lists child_keys
 child_dominates = record {
   column = degree_list_dominates (5 ∷ 5 ∷ 6 ∷ 6 ∷ 7 ∷ 7 ∷ []);
   class = dominated (5 ∷ 5 ∷ 5 ∷ 5 ∷ 6 ∷ []);
-  class_falls = IsDescending-degree_list (5 ∷ 5 ∷ 5 ∷ 5 ∷ 6 ∷ []);
+  class_is_descending = IsDescending-degree_list (5 ∷ 5 ∷ 5 ∷ 5 ∷ 6 ∷ []);
   key_per_row = refl;
 }
 
@@ -80,10 +80,10 @@ abbrev smaller_child : ChildLists
 smaller_child = record { column = 3 ∷ 2 ∷ 1 ∷ []; class = 3 ∷ 2 ∷ [] }
 
 pub larger_is_child : IsChildOf 6 larger_child
-larger_is_child = record { class_falls = falls_two 4 1 (omega arith); column_sum = refl }
+larger_is_child = record { class_is_descending = falls_two 4 1 (omega arith); column_sum = refl }
 
 pub smaller_is_child : IsChildOf 6 smaller_child
-smaller_is_child = record { class_falls = falls_two 3 2 (omega arith); column_sum = refl }
+smaller_is_child = record { class_is_descending = falls_two 3 2 (omega arith); column_sum = refl }
 
 pub larger_is_above : ChildIsAbove larger_child smaller_child
 larger_is_above = record { column = above_three 3 3 3 2 1 (omega arith) (omega arith) (omega arith); class = above_two 4 1 3 2 (omega arith) (omega arith) }
@@ -113,10 +113,10 @@ pub matched_is_near : IsNear 1 matched
 matched_is_near = record { column = near_three; class = near_class }
 
 pub near_is_child : IsChildOf 6 matched.near
-near_is_child = record { class_falls = falls_two 6 1 (omega arith); column_sum = refl }
+near_is_child = record { class_is_descending = falls_two 6 1 (omega arith); column_sum = refl }
 
 pub exact_is_child : IsChildOf 6 matched.exact
-exact_is_child = record { class_falls = falls_two 4 1 (omega arith); column_sum = refl }
+exact_is_child = record { class_is_descending = falls_two 4 1 (omega arith); column_sum = refl }
 
 pub scaled_composition : SumsAreWithin 2 6 (composed (3 ∷ 3 ∷ []) (matched.near ∷ [])) (composed (3 ∷ 2 ∷ 1 ∷ []) (matched.exact ∷ []))
 scaled_composition =

@@ -13,3 +13,4 @@ pub mod BlockSums
 pub mod Grouping
 pub mod Composing
 pub mod LawInstances
+mod FallingRuns

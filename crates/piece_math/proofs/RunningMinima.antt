@@ -61,7 +61,7 @@ lesser_ends s t r over_s over_t fs ft =
       running_sum-past t (r + 1) (omega arith),
     )))
 
--- this is the state of the walk: the lesser list is built up to the positions, and `left_sum` and `right_sum` are the two running sums there
+-- This is the state of the walk. The lesser list is built up to the positions; `left_sum` and `right_sum` are the two running sums there
 pub record Lessened (a b : List Piece) (places : PiecePlaces) (list : List ℕ) (left_sum right_sum : ℕ) : Type 0 where
   pub walked : Walked a b places
   pub left : left_sum ≡ running_sum (expanded a) walked.rank

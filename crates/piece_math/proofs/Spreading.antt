@@ -1,10 +1,10 @@
 -- The class weights of rows are built one run of equal weights after another.
-use Rattle.std.proofs.Common.{◌≡◌, ℕ, zero, suc, ◌+◌, ◌-◌, ◌*◌, ◌<◌, ◌≤◌, List, [], ◌∷◌, ◌++◌, length, get_or, take, drop, replicate, refl, ap, sym, ◌∙◌, sum, arith, zero-add, inl, inr, eqb, cond}
+use Rattle.std.proofs.Common.{◌≡◌, ℕ, zero, suc, ◌+◌, ◌-◌, ◌*◌, ◌^◌, ◌<◌, ◌≤◌, List, [], ◌∷◌, ◌++◌, length, get_or, map, take, drop, replicate, refl, ap, sym, ◌∙◌, sum, arith, zero-add, inl, inr, eqb, cond}
 use Rattle.std.specs.List.{AllByRecursion, range_with_len}
 use Rattle.std.proofs.Math.Nat.{mul-one, suc-mul, zero-mul}
 use Rattle.std.proofs.Math.Seq.{drop-nil}
 use Rattle.std.proofs.lemmas.Bool.{cases_lt, cond_both, eq-eqb, eqb-true}
-use Rattle.std.proofs.lemmas.List.{take_all, length-map, get_or-drop}
+use Rattle.std.proofs.lemmas.List.{take_all, length-map, map-append, get_or-drop}
 use Rattle.std.proofs.lemmas.List.FromFn.{length-range_with_len}
 use Rattle.degree_sequences.proofs.FallingLists.{trimmed_positive}
 use Rattle.degree_sequences.proofs.FewRuns.{runs-any}
@@ -17,6 +17,7 @@ use Rattle.degree_sequences.specs.Descending.{IsDescending, trimmed, cons_unless
 use Rattle.degree_sequences.specs.Rank.{rank}
 use Rattle.degree_sequences.specs.RunningSums.{running_sum}
 use Rattle.degree_sequences.specs.Runs.{runs_after}
+use Rattle.degree_sequences.specs.Saturation.{saturated}
 use Rattle.piece_math.specs.declared.pieces.Piece.{Piece}
 use Rattle.piece_math.specs.declared.walk.PiecePlaces.{PiecePlaces}
 use Rattle.piece_math.specs.declared.walk.Stretch.{Stretch}
@@ -93,7 +94,7 @@ spread-row_weights c = same_list (spread c.column c.class) (row_weights (c ∷ [
     let within : r < sum c.column = omega (arith, length-spread c.column c.class) in
     get_or-spread c.column c.class r within ∙ sym (mul-one (get_or c.class (rank c.column (suc r) - 1) 0)) ∙ sym (get_or-row_weights (c ∷ []) (sum c.column) r within))
 
--- ---- runs
+-- ---- the row weights have at most as many runs as the class list
 
 trimmed-zeros : (n : ℕ) (s : List ℕ) → trimmed s ≡ [] → trimmed (replicate n 0 ++ s) ≡ []
 trimmed-zeros zero s h = h
@@ -124,15 +125,31 @@ runs_after-spread b (zero ∷ g) (h ∷ v) pos =
 runs_after-spread b (suc x ∷ g) (h ∷ v) pos =
     rw (trimmed-front (suc x) h (spread g v) pos.0, runs_after-front-le b x h (trimmed (spread g v))) (omega (arith, runs_after-spread h g v pos.1))
 
--- ---- the walk
+-- ---- elements of 128 bits, which saturation doesn't change
+
+saturated_run : (n v : ℕ) → v < 2 ^ 128 → map saturated (replicate n v) ≡ replicate n v
+saturated_run zero v fits = refl
+saturated_run (suc n) v fits =
+    let here : saturated v ≡ v = omega (arith, fits) in
+    ap (λ (x : ℕ). x ∷ map saturated (replicate n v)) here ∙ ap (λ (s : List ℕ). v ∷ s) (saturated_run n v fits)
+
+saturated_more : (list new : List ℕ) (v n : ℕ) → map saturated list ≡ list → IsAppended list new v n → map saturated new ≡ new
+saturated_more list new v n small put = elim (cases_lt 0 v) as (λ x. map saturated new ≡ new) [
+  | inl pos ↦ ap (map saturated) (put.some pos) ∙ map-append saturated list (replicate n v)
+      ∙ ap (λ (s : List ℕ). s ++ map saturated (replicate n v)) small ∙ ap (λ (s : List ℕ). list ++ s) (saturated_run n v put.fits) ∙ sym (put.some pos)
+  | inr none ↦ (let same : new ≡ list = put.zeros (omega arith) in ap (map saturated) same ∙ small ∙ sym same)
+]
+
+-- ---- the walk along the column's list and the class list
 
 -- this is the state of the walk: the weights of the rows before the positions are built
 pub record SpreadSoFar (a b : List Piece) (places : PiecePlaces) (list : List ℕ) : Type 0 where
   pub walked : Walked a b places
   pub built : list ≡ take (running_sum (expanded a) walked.rank) (trimmed (spread (expanded a) (expanded b)))
+  pub fits : map saturated list ≡ list
 
 pub spread_start : (a b : List Piece) → ArePieces a → ArePieces b → SpreadSoFar a b (record { left = record { at = 0; used = 0 }; right = record { at = 0; used = 0 } }) []
-spread_start a b are_a are_b = record { walked = walk_start a b are_a are_b; built = refl }
+spread_start a b are_a are_b = record { walked = walk_start a b are_a are_b; built = refl; fits = refl }
 
 module _ {a b : List Piece} (are_a : ArePieces a) (are_b : ArePieces b) {places : PiecePlaces} {list : List ℕ} (so_far : SpreadSoFar a b places list) where
   pub spread_falls : IsDescending (trimmed (spread (expanded a) (expanded b)))
@@ -170,8 +187,9 @@ module _ {a b : List Piece} (are_a : ArePieces a) (are_b : ArePieces b) {places 
     }
 
     pub spread_step : {new : List ℕ} → IsAppended list new stretch.right (stretch.left * stretch.count) → SpreadSoFar a b stretch.next new
-    spread_step put = record {
+    spread_step {new} put = record {
       walked = walk_on t so_far.walked;
       built = run_built so_far.built spread_run spread_positive put
           ∙ ap (λ n. take n (trimmed (spread (expanded a) (expanded b)))) (omega (arith, rises));
+      fits = saturated_more list new stretch.right (stretch.left * stretch.count) so_far.fits put;
     }

@@ -1,5 +1,5 @@
 -- The weights of rows are computed child by child. Each child multiplies the weight of a row.
-use Rattle.std.proofs.Common.{◌≡◌, ℕ, zero, suc, ◌+◌, ◌-◌, ◌*◌, ◌^◌, ◌<◌, ◌≤◌, cond, eqb, List, [], ◌∷◌, ◌++◌, length, get_or, map, take, replicate, refl, ap, sym, ◌∙◌, subst, sum, arith, inl, inr}
+use Rattle.std.proofs.Common.{◌≡◌, ℕ, zero, suc, ◌+◌, ◌-◌, ◌*◌, ◌^◌, ◌<◌, ◌≤◌, false, cond, eqb, List, [], ◌∷◌, ◌++◌, length, get_or, map, take, replicate, refl, ap, sym, ◌∙◌, subst, sum, arith, inl, inr}
 use Rattle.std.specs.List.{AllByRecursion}
 use Rattle.std.proofs.Math.Nat.{one-mul, mul_assoc}
 use Rattle.std.proofs.lemmas.Bool.{cases_lt, cond_both, eq-eqb, eqb-true}
@@ -84,7 +84,7 @@ rank_product-row_weights n cs c all one =
       | inr past ↦ rw (get_or-row_weights_past cs n r past, get_or-row_weights_past (c ∷ []) n r past, get_or-row_weights_past (cs ++ c ∷ []) n r past) refl
     ]
 
--- ---- without children
+-- ---- without children each row has weight 1
 
 saturated-ones : (n : ℕ) → map saturated (replicate n 1) ≡ replicate n 1
 saturated-ones zero = refl
@@ -100,7 +100,7 @@ trimmed-ones n = ap trimmed (sym (append-nil (replicate n 1))) ∙ trimmed-front
 pub weights-none : (n : ℕ) → map saturated (trimmed (row_weights [] n)) ≡ replicate n 1
 weights-none n = ap (λ s. map saturated (trimmed s)) (row_weights-none n) ∙ ap (map saturated) (trimmed-ones n) ∙ saturated-ones n
 
--- ---- runs
+-- ---- saturating adds no runs
 
 runs_after-saturated : (b : ℕ) (s : List ℕ) → runs_after (saturated b) (map saturated s) ≤ runs_after b s
 runs_after-saturated b [] = omega arith
@@ -120,12 +120,25 @@ pub record WeightsSoFar (cs : List Child) (rows i : ℕ) (weights : List ℕ) : 
   pub value : weights ≡ map saturated (trimmed (row_weights (map lists_of (take i cs)) rows))
   pub few : 0 < i → runs weights ≤ class_runs (take i cs)
 
-pub weights_start : (cs : List Child) (rows : ℕ) {list : List ℕ} → IsAppended [] list 1 rows → WeightsSoFar cs rows 0 list
-weights_start cs rows put = record {
-  lists = tt;
-  value = put.some (omega arith) ∙ sym (weights-none rows);
-  few = λ h. absurd (omega arith);
-}
+pub weights_alone : (rows : ℕ) {list : List ℕ} → IsAppended [] list 1 rows → list ≡ map saturated (trimmed (row_weights [] rows))
+weights_alone rows put = put.some (omega arith) ∙ sym (weights-none rows)
+
+pub some_children : (cs : List Child) → eqb (length cs) 0 ≡ false → 0 < length cs
+some_children [] h = absurd (cc h)
+some_children (c ∷ cs) h = omega arith
+
+pub weights_first : (cs : List Child) (rows : ℕ) (own : List ℕ) (c : Child) → 0 < length cs → c ≡ get_or cs 0 c → sum c.column ≡ rows
+    → IsChildOf (sum c.column) (lists_of c) → own ≡ trimmed (row_weights (lists_of c ∷ []) (sum c.column)) → map saturated own ≡ own → runs own ≤ runs c.class
+    → WeightsSoFar cs rows 1 own
+weights_first [] rows own c h at total lists own_is fits own_few = absurd (omega arith)
+weights_first (d ∷ cs) rows own c h at total lists own_is fits own_few =
+    let child : IsChildOf rows (lists_of c) = subst (λ n. IsChildOf n (lists_of c)) total lists in
+    let own_rows : own ≡ trimmed (row_weights (lists_of c ∷ []) rows) = own_is ∙ ap (λ n. trimmed (row_weights (lists_of c ∷ []) n)) total in
+    record {
+      lists = subst (λ (x : Child). AllByRecursion (IsChildOf rows) (lists_of x ∷ [])) at (child, tt);
+      value = sym fits ∙ ap (map saturated) own_rows ∙ ap (λ (x : Child). map saturated (trimmed (row_weights (lists_of x ∷ []) rows))) at;
+      few = λ some. omega (arith, own_few, ap (λ (x : Child). runs x.class) at, sum_by_more (λ (child : Child). runs child.class) (d ∷ cs) 0 c (omega arith));
+    }
 
 pub weights_step : (cs : List Child) (rows i : ℕ) (weights own new : List ℕ) (c : Child) → i < length cs → c ≡ get_or cs i c → sum c.column ≡ rows
     → IsChildOf (sum c.column) (lists_of c) → own ≡ trimmed (row_weights (lists_of c ∷ []) (sum c.column)) → runs own ≤ runs c.class
@@ -151,7 +164,7 @@ weights_step cs rows i weights own new c h at total lists own_is own_few new_is 
       ];
     }
 
--- ---- totals
+-- ---- the sum of saturated weights
 
 sum-saturated : (s : List ℕ) → saturated (sum (map saturated s)) ≡ saturated (sum s)
 sum-saturated s =

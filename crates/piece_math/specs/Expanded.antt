@@ -23,8 +23,10 @@ pub record ArePieces (ps : List Piece) : Type 0 where
   pub falls : AreRuns ps
   pub fits : length (expanded ps) < 2 ^ 64
 
--- `new` is `old` with `count` more elements of this value, or `old` itself if the value is 0. `new` has at most one run more than `old`
+-- `new` is `old` with `count` more elements of this value, or `old` itself if the value is 0. `new` has at most one run more than `old`. The value
+-- has 128 bits
 pub record IsAppended (old new : List ℕ) (value count : ℕ) : Type 0 where
+  pub fits : value < 2 ^ 128
   pub some : 0 < value → new ≡ old ++ replicate count value
   pub zeros : value ≡ 0 → new ≡ old
   pub few : runs new ≤ runs old + 1

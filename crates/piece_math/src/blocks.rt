@@ -56,7 +56,9 @@ fn grouped(parent: &Pieces, weights: &Pieces) -> Result<Pieces, NoMemory>
 {
     let blocks = parent.pieces();
     let rows = weights.pieces();
-    let mut list = Pieces::empty(parent.alloc());
+    let room = blocks.len().saturating_add(rows.len());
+    let room = room.saturating_add(rows.len());
+    let mut list = Pieces::with_room(parent.alloc(), room)?;
     let mut at = START;
     let mut row = START;
     while at.at < blocks.len() && row.at < rows.len() {
@@ -78,7 +80,7 @@ fn grouped(parent: &Pieces, weights: &Pieces) -> Result<Pieces, NoMemory>
     Ok(list)
 }
 
-/// The composition: the weights of the rows that `children` give, summed by the blocks of `parent`.
+/// The composition. `children` give each row a weight, and the weights are summed by the blocks of `parent`.
 pub fn compose(alloc: Global, parent: &Pieces, children: &[Child]) -> Result<Pieces, NoMemory>
     requires columns { All (λ child. sum child.column ≡ sum parent.now) children.now }
     requires small { sum parent.now < 2 ^ 64 }

@@ -36,7 +36,7 @@ fn combine(how: Combination, left: &Pieces, right: &Pieces) -> Result<Pieces, No
 {
     let a = left.pieces();
     let b = right.pieces();
-    let mut list = Pieces::empty(left.alloc());
+    let mut list = Pieces::with_room(left.alloc(), a.len().saturating_add(b.len()))?;
     let mut places = PiecePlaces {
         left: START,
         right: START,

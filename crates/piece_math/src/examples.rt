@@ -1,4 +1,4 @@
-//! The list that pieces stand for, at small numbers.
+//! The list that pieces stand for: an example.
 ghost use Rattle.std.specs.Prelude.{◌≡◌, ◌∷◌, []};
 ghost use Rattle.piece_math.specs.Expanded.{expanded};
 

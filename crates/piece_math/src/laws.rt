@@ -14,16 +14,16 @@ ghost use Rattle.degree_sequences.specs.ComparedChildren.{IsChildOf, ColumnIsDes
 ghost use Rattle.degree_sequences.specs.KeyedRows.{ChildKeys, DominatesChild, weight_of_row, weight_of_key};
 ghost use Rattle.degree_sequences.specs.RunningSums.{HasHigherSums};
 
-/// Product dominates: if two lists dominate two weights of the same keys, their product by rank dominates the
+/// Product dominates. If two lists dominate two weights of the same keys, their product by rank dominates the
 /// weights multiplied key by key. One of the two lists has to be in descending order.
 pub fn product_dominates()
     ensures { (s t : List ℕ) (v w : ℕ → ℕ) → IsDescending t
         → DominatesWeights s v → DominatesWeights t w → DominatesWeights (rank_product s t) (λ a. v a * w a) }
 {}
 
-/// Composition dominates, for rows that have a parent key and a key for each child. The lists that are composed dominate the parent keys, the keys of
-/// each child, and the class weights of each child's keys. The lists that dominate keys may have different sums. Each sum is at least the number of
-/// rows, because the list dominates.
+/// Composition dominates. Each row has a parent key and a key for each child. Suppose that the composed lists dominate the parent keys, the keys of
+/// each child, and the class weights of these keys. Then the composition dominates the weights of the parent keys. The lists that dominate keys may
+/// have different sums. Each sum is at least the number of rows, because the list dominates.
 pub fn compose_dominates()
     // the composition dominates the weights that the rows give to the parent keys
     ensures keys { (parent parent_keys : List ℕ) (lists : List ChildLists) (children : List ChildKeys)
@@ -35,16 +35,16 @@ pub fn compose_dominates()
         → sum_by (weight_of_row children) (range_with_len 0 rows) ≤ root_total lists total }
 {}
 
-/// Product is monotone: if each list of one family is above the matching list of another, the product of the first family
-/// is above that of the second. All lists have to be in descending order. A list is above another if its running sum at
+/// Product is monotone. Suppose that each list of one family is above the matching list of another family. Then the product of the first
+/// family is above that of the second. All lists have to be in descending order. A list is above another if its running sum at
 /// every rank is at least the other's.
 pub fn product_is_monotone()
     ensures { (lists lower : List (List ℕ)) → AllByRecursion IsDescending lists → AllByRecursion IsDescending lower
         → AllZip HasHigherSums lists lower → HasHigherSums (rank_product_of lists) (rank_product_of lower) }
 {}
 
-/// Composition is monotone in the same way. In each family the parent list and the columns have the same sum, and
-/// the upper family's sum is at least the lower's. Only the columns of the lower family have to be in descending order.
+/// Composition is monotone in the same way. In each family the parent list and the columns have the same sum. The
+/// upper family's sum is at least the lower's. Only the columns of the lower family have to be in descending order.
 pub fn compose_is_monotone()
     ensures { (parent lower_parent : List ℕ) (children lower : List ChildLists)
         → AllByRecursion (IsChildOf (sum parent)) children → AllByRecursion (IsChildOf (sum lower_parent)) lower
@@ -52,10 +52,10 @@ pub fn compose_is_monotone()
         → HasHigherSums (composed parent children) (composed lower_parent lower) }
 {}
 
-/// Composition scales. Suppose that K times each running sum of the near parent list is at most K + 1 times the running sum of the exact one, and
-/// likewise for the columns. Suppose the same for the class lists, but with two numbers of each child, its scale and its factor, in place of K and K
-/// + 1. Then the same holds for the compositions, with two other numbers: K times the product of all scales, and K + 1 times the product of all
-/// factors. Only the near columns have to be in descending order.
+/// Composition scales. Suppose that K times each running sum of the near parent list is at most K + 1 times the exact list's running sum. Suppose
+/// the same for the columns. For the class lists suppose it with each child's scale in place of K, and its factor in place of K + 1. Then it holds
+/// for the compositions too. There K is multiplied by the product of all scales, and K + 1 by the product of all factors. Only the near columns have
+/// to be in descending order.
 pub fn compose_scales()
     ensures { (accuracy : ℕ) (parent exact_parent : List ℕ) (children : List MatchedChild)
         → SumsAreWithin accuracy (accuracy + 1) parent exact_parent → AllByRecursion (IsNear accuracy) children
@@ -66,7 +66,7 @@ pub fn compose_scales()
         (composed parent (map (λ child. child.near) children)) (composed exact_parent (map (λ child. child.exact) children)) }
 {}
 
-/// Each law at small numbers: its premises, all met, and its conclusion.
+/// Each law at small numbers: all its premises hold, and so does its conclusion.
 pub fn instances()
     // the keys 7, 7, 8 joined with 7, 7, 7, 8, 9
     ensures product_dominates { let left : List ℕ = 7 ∷ 7 ∷ 8 ∷ [] in

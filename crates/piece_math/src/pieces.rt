@@ -7,7 +7,6 @@ ghost use Rattle.degree_sequences.specs.Saturation.{saturated};
 ghost use Rattle.piece_math.specs.Expanded.{expanded, ArePieces, IsAppended};
 
 use base_io::NoMemory;
-use smallvec::SmallVec;
 use std::alloc::Global;
 use std::marker::Model;
 
@@ -21,7 +20,7 @@ pub struct Piece {
 /// A list of positive numbers in descending order. It is kept as pieces with strictly descending values. Contracts speak of the list itself.
 #[derive(Debug, Drop)]
 pub struct Pieces {
-    parts: SmallVec<Piece, 4>,
+    parts: Vec<Piece>,
 }
 
 impl Model for Pieces {
@@ -41,8 +40,17 @@ impl Pieces {
         ensures { result ≡ [] }
     {
         Pieces {
-            parts: SmallVec::new(alloc),
+            parts: Vec::new(alloc),
         }
+    }
+
+    // The empty list, with room for this many pieces.
+    pub(crate) fn with_room(alloc: Global, pieces: usize) -> Result<Pieces, NoMemory>
+        ensures { IfOk result (λ list. list ≡ []) }
+    {
+        Ok(Pieces {
+            parts: Vec::with_capacity(alloc, pieces)?,
+        })
     }
 
     /// The pieces, which stand for the list. There is one for each run of equal elements.
@@ -96,24 +104,11 @@ impl Pieces {
         *self.parts.allocator()
     }
 
-    /// The given list, as pieces.
-    pub fn from_list(alloc: Global, list: &[u64]) -> Result<Pieces, NoMemory>
-        requires falls { IsDescending list.now }
-        requires positive { All (λ x. 0 < x) list.now }
-        ensures { IfOk result (λ pieces. pieces ≡ list.now) }
-    {
-        let mut pieces = Pieces::empty(alloc);
-        for &x in list {
-            pieces.push_run(u128::from(x), 1)?;
-        }
-        Ok(pieces)
-    }
-
     /// A copy of the list.
     pub fn copy(&self) -> Result<Pieces, NoMemory>
         ensures { IfOk result (λ copy. copy ≡ self.now) }
     {
-        let parts = SmallVec::from_slice(*self.parts.allocator(), self.parts.as_slice())?;
+        let parts = Vec::from_slice(*self.parts.allocator(), self.parts.as_slice())?;
         Ok(Pieces { parts })
     }
 

@@ -13,7 +13,7 @@ use crate::walk::{PiecePlaces, START, next_stretch};
 use base_io::NoMemory;
 use std::alloc::Global;
 
-/// A child of a table: the list of the column that joins it, and the list of the weights of its class.
+/// A child of a table: the list of the table's column that joins the child, and the list of the child's class weights.
 #[derive(Debug, Drop)]
 pub struct Child {
     pub column: Pieces,
@@ -25,11 +25,12 @@ fn spread(child: &Child) -> Result<Pieces, NoMemory>
     requires { sum child.now.column < 2 ^ 64 }
     ensures lists { IsChildOf (sum child.now.column) (lists_of child.now) }
     ensures value { IfOk result (λ list. list ≡ trimmed (weights_of (lists_of child.now ∷ []) (sum child.now.column))) }
+    ensures fits { IfOk result (λ list. map saturated list ≡ list) }
     ensures few_pieces { IfOk result (λ list. runs list ≤ runs child.now.class) }
 {
     let column = child.column.pieces();
     let class = child.class.pieces();
-    let mut list = Pieces::empty(child.class.alloc());
+    let mut list = Pieces::with_room(child.class.alloc(), class.len())?;
     let mut places = PiecePlaces {
         left: START,
         right: START,
@@ -43,16 +44,27 @@ fn spread(child: &Child) -> Result<Pieces, NoMemory>
     Ok(list)
 }
 
-// The weights of `rows` rows: for each row the product of the weights that the children give it.
+// The weights of the rows of a table without children. Each row has weight 1.
+fn ones(alloc: Global, rows: u64) -> Result<Pieces, NoMemory>
+    ensures { IfOk result (λ weights. weights ≡ map saturated (trimmed (weights_of [] rows))) }
+{
+    let mut weights = Pieces::empty(alloc);
+    weights.put(1, rows)?;
+    Ok(weights)
+}
+
+// The weights of `rows` rows. The weight of a row is the product of the weights that the children give it.
 pub fn row_weights(alloc: Global, children: &[Child], rows: u64) -> Result<Pieces, NoMemory>
     requires columns { All (λ child. sum child.column ≡ rows) children.now }
     ensures value { IfOk result (λ weights. weights ≡ map saturated (trimmed (weights_of (map lists_of children.now) rows))) }
     ensures few_pieces { IfOk result (λ weights. 0 < length children.now → runs weights ≤ class_runs children.now) }
 {
-    let mut weights = Pieces::empty(alloc);
-    weights.put(1, rows)?;
-    for child in children {
-        let own = spread(child)?;
+    if children.is_empty() {
+        return ones(alloc, rows);
+    }
+    let mut weights = spread(&children[0])?;
+    for i in 1..children.len() {
+        let own = spread(&children[i])?;
         weights = weights.product(&own)?;
     }
     Ok(weights)

@@ -1,3 +1,4 @@
 pub mod LineFacts
 pub mod OffsetFacts
+pub mod QuoteFacts
 pub mod RecordFacts

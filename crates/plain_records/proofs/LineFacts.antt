@@ -1,4 +1,4 @@
--- The first line or field of bytes, and the ones after it.
+-- The first line or field of bytes, and the lines or fields after it.
 use Rattle.std.proofs.Common.{◌≡◌, ℕ, suc, ◌≤◌, Bool, true, false, List, [], ◌∷◌, ◌++◌, length, refl, sym, ap, ◌∙◌, arith, cond, append_assoc, if◌then◌else◌}
 use Rattle.std.specs.List.{filter, onto_first, slice_split}
 use Rattle.plain_records.specs.Plain.{after_first, ends_line, before_first, has_bytes, lines_of}
@@ -33,7 +33,7 @@ pub first_line : (bytes line : List ℕ) (c : ℕ) → before_first ends_line by
 first_line bytes line c e =
     ap (filter has_bytes) (split_first ends_line bytes ∙ ap (λ l. l ∷ more_parts ends_line bytes) e) ∙ ap (λ ls. (c ∷ line) ∷ ls) (lines_behind bytes)
 
--- an empty line is passed over
+-- an empty line is left out
 pub no_line : (bytes : List ℕ) → before_first ends_line bytes ≡ [] → lines_of bytes ≡ lines_of (after_first ends_line bytes)
 no_line bytes e =
     ap (filter has_bytes) (split_first ends_line bytes ∙ ap (λ l. l ∷ more_parts ends_line bytes) e) ∙ lines_behind bytes
@@ -46,7 +46,7 @@ pub shorter_behind : (p : ℕ → Bool) (bytes : List ℕ) → length (after_fir
 shorter_behind p [] = omega arith
 shorter_behind p (c ∷ rest) = shorter_by c rest p (p c) (shorter_behind p rest)
 
--- the parts, with these bytes put in front of the first one
+-- the parts, with `bytes` put in front of the first part
 abbrev pub with_front : List ℕ → List (List ℕ) → List (List ℕ)
 with_front bytes [] = bytes ∷ []
 with_front bytes (part ∷ parts) = (bytes ++ part) ∷ parts

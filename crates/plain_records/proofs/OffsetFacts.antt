@@ -1,4 +1,4 @@
--- Steps from one offset in bytes to the next.
+-- Steps of loops that go from one byte offset to the next.
 use Rattle.std.proofs.Common.{◌≡◌, ◌⊎◌, inl, inr, ℕ, zero, suc, ◌+◌, ◌-◌, ◌<◌, ◌≤◌, min, Bool, true, false, List, [], ◌∷◌, ◌++◌, length, map, take, drop, get_or, refl, sym, ap, ◌∙◌, subst, arith, append-nil, append_assoc, ◌||◌, if◌then◌else◌, length-drop}
 use Rattle.std.specs.Prelude.{IsUtf8, ◌==◌}
 use Rattle.std.specs.Str.{IsCharBoundary}
@@ -112,7 +112,7 @@ field_of bytes at end f e = record {
   stops = e;
 }
 
--- a field that is at its end
+-- a field ends before a comma, CR or LF
 pub field_ends : (bytes : List ℕ) (at end : ℕ) → FieldSoFar bytes at end → end < length bytes → ends_field (get_or bytes end 0) ≡ true → IsField bytes at end
 field_ends bytes at end f l e = field_of bytes at end f (field_stops bytes end l e)
 
@@ -213,7 +213,7 @@ one_record bytes at l e =
 pub no_more_records : (bytes : List ℕ) (at : ℕ) → length bytes ≤ at → plain_records (drop at bytes) ≡ []
 no_more_records bytes at l = ap plain_records (drop_all at bytes l)
 
--- ---- how many fields a line has
+-- ---- number of fields of a line
 
 same_count : (p : ℕ → Bool) (c : ℕ) (bytes : List ℕ) → length (onto_first c (slice_split p bytes)) ≡ length (slice_split p bytes)
 same_count p c bytes = rw (split_first p bytes) refl
@@ -235,7 +235,7 @@ count_end bytes at e = by (cases_lt at (length bytes))
     by (inl l) = let line : ends_line (get_or bytes at 0) ≡ true = e l in ap (λ t. length (first_record t)) (drop_more bytes at 0 l) ∙ rw line refl
     by (inr l) = ap (λ t. length (first_record t)) (drop_all at bytes l)
 
--- the same comes after the line if a byte that doesn't end the line is dropped from its front
+-- if a byte that doesn't end the line is dropped from its front, the same bytes come after the line
 pub rest_more : (bytes : List ℕ) (at : ℕ) → at < length bytes → ends_line (get_or bytes at 0) ≡ false → after_line (drop at bytes) ≡ after_line (drop (at + 1) bytes)
 rest_more bytes at l e = ap after_line (drop_more bytes at 0 l) ∙ rw e refl
 
@@ -247,7 +247,7 @@ rest_end bytes at e = drop_min (at + 1) bytes ∙ by (cases_lt at (length bytes)
     by (inl l) = let line : ends_line (get_or bytes at 0) ≡ true = e l in sym (ap after_line (drop_more bytes at 0 l) ∙ rw line refl)
     by (inr l) = let more : length bytes ≤ at + 1 = omega (arith, l) in drop_all (at + 1) bytes more ∙ sym (ap after_line (drop_all at bytes l))
 
--- ---- texts
+-- ---- parts that are UTF-8
 
 pub text_behind : (bytes : List ℕ) (at : ℕ) → IsUtf8 bytes → at < length bytes → get_or bytes at 0 < 128 → IsUtf8 (drop (at + 1) bytes)
 text_behind bytes at text l a = IsUtf8-drop bytes (at + 1) text (IsCharBoundary-after_ascii bytes at text l a)
@@ -259,14 +259,14 @@ past_by bytes at e text = subst IsUtf8 (sym (drop_min (at + 1) bytes)) (by (case
     by (inl l) = text_behind bytes at text l (e l)
     by (inr l) = let more : length bytes ≤ at + 1 = omega (arith, l) in subst IsUtf8 (sym (drop_all (at + 1) bytes more)) IsUtf8-nil
 
--- what comes after the end of a line is a text, and so is what comes after the end of a field
+-- the bytes after the end of a line are UTF-8, and so are the bytes after the end of a field
 pub text_past : (bytes : List ℕ) (at : ℕ) → (at < length bytes → ends_line (get_or bytes at 0) ≡ true) → IsUtf8 bytes → IsUtf8 (drop (min (at + 1) (length bytes)) bytes)
 text_past bytes at e text = past_by bytes at (λ l. line_ascii (get_or bytes at 0) (e l)) text
 
 pub text_past_field : (bytes : List ℕ) (end : ℕ) → IsUtf8 bytes → first_field (drop end bytes) ≡ [] → IsUtf8 (drop (min (end + 1) (length bytes)) bytes)
 text_past_field bytes end text e = past_by bytes end (λ l. end_ascii (get_or bytes end 0) (stop_byte bytes end l e)) text
 
--- a field of a text is a text
+-- a field of UTF-8 bytes is UTF-8
 pub text_of_field : (bytes : List ℕ) (at end : ℕ) → IsUtf8 bytes → IsUtf8 (drop at bytes) → IsField bytes at end → IsUtf8 (first_field (drop at bytes))
 text_of_field bytes at end text cut f =
     let inside : at ≤ length bytes = omega (arith, f.from, f.within) in

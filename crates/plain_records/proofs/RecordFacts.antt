@@ -1,4 +1,4 @@
--- The machine of the crate `csv` over bytes without a quotation mark.
+-- The state machine of the crate `csv`, over bytes without a quotation mark.
 use Rattle.std.proofs.Common.{◌≡◌, ℕ, zero, suc, ◌+◌, ◌≤◌, Bool, true, false, List, [], ◌∷◌, ◌++◌, length, map, refl, sym, ap, ◌∙◌, subst, arith, append-nil, append_assoc, ◌||◌, if◌then◌else◌}
 use Rattle.std.proofs.lemmas.Bool.{eqb-true}
 use Rattle.std.specs.Prelude.{◌==◌}
@@ -48,7 +48,7 @@ unfolding records_from
 records_after_cr zero bytes = refl
 records_after_cr (suc n) bytes = ap (records_next (records_from default_config n)) (after_cr bytes)
 
--- within a record, the machine gives the rest of it from these bytes, and then the records after it
+-- within a record, the machine reads the rest of this record from `bytes`, and then the records after it
 abbrev Goes : ℕ → List (List ℕ) → List ℕ → List ℕ → Type 0
 Goes n fields field bytes =
     records_next (records_from default_config n) (next_record default_config st.InField fields field bytes)
@@ -98,7 +98,7 @@ goes n (c ∷ rest) fields field h =
     let parts = no_quote c rest h in
     goes_by n fields field rest c (c == 44) (c == 13) (c == 10) refl refl refl parts.others (λ fs f. goes n rest fs f parts.others)
 
--- what comes after a line has no quotation mark
+-- the bytes after a line have no quotation mark
 quotes_by : (c : ℕ) (rest : List ℕ) (b : Bool) → has_quote rest ≡ false → has_quote (after_first ends_line rest) ≡ false
     → has_quote (if b then rest else after_first ends_line rest) ≡ false
 quotes_by c rest true h next = h
@@ -108,7 +108,7 @@ quotes_behind : (bytes : List ℕ) → has_quote bytes ≡ false → has_quote (
 quotes_behind [] h = refl
 quotes_behind (c ∷ rest) h = let parts = no_quote c rest h in quotes_by c rest (ends_line c) parts.others (quotes_behind rest parts.others)
 
--- from the start of a line on, the machine gives these records. n + 1 is its fuel
+-- from the start of a line on, the machine gives the records of this crate. n + 1 is its fuel
 abbrev AreLines : ℕ → List ℕ → Type 0
 AreLines n bytes = records_from default_config (suc n) st.StartRecord bytes ≡ plain_records bytes
 

@@ -2,13 +2,13 @@
 use Rattle.std.specs.Prelude.{ℕ, ◌≡◌, ◌≤◌, ◌-◌, List, [], ◌++◌, length, take, drop}
 use Rattle.plain_records.specs.Plain.{first_field}
 
--- the bytes from `at` to `end` belong to the field that begins at `at`, and the rest of the field begins at `end`
+-- the field that begins at `at` begins with the bytes up to `end`, and its rest begins at `end`
 pub record FieldSoFar (bytes : List ℕ) (at end : ℕ) : Type 0 where
   pub from : at ≤ end
   pub within : end ≤ length bytes
   pub so_far : first_field (drop at bytes) ≡ take (end - at) (drop at bytes) ++ first_field (drop end bytes)
 
--- the field that begins at `at` ends before `end`
+-- the field that begins at `at` ends just before byte `end`
 pub record IsField (bytes : List ℕ) (at end : ℕ) : Type 0 where
   pub from : at ≤ end
   pub within : end ≤ length bytes

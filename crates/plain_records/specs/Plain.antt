@@ -12,7 +12,7 @@ ends_line c = c == 13 || c == 10
 abbrev pub is_comma : ℕ → Bool
 is_comma c = c == 44
 
--- some byte is a quotation mark
+-- whether some byte is a quotation mark
 abbrev pub has_quote : List ℕ → Bool
 has_quote bytes = list_any is_quote bytes
 
@@ -20,7 +20,7 @@ abbrev pub has_bytes : List ℕ → Bool
 has_bytes [] = false
 has_bytes (c ∷ rest) = true
 
--- the lines that aren't empty. The line between CR and LF is empty and left out, so that both together end one line
+-- the lines that aren't empty. The line between CR and LF is empty and left out, so CR and LF together end one line
 abbrev pub lines_of : List ℕ → List (List ℕ)
 lines_of bytes = filter has_bytes (slice_split ends_line bytes)
 

@@ -1,4 +1,4 @@
-//! The records of bytes without a quotation mark: their lines, split at commas.
+//! Splits bytes without a quotation mark into CSV records: each line is a record, split at commas.
 #![tactic(auto)]
 
 mod laws;

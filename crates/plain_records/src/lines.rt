@@ -1,4 +1,4 @@
-//! Offsets in bytes: where a field ends, and where the next line begins.
+//! Finds where a field ends, and where the next line begins.
 ghost use Rattle.std.specs.Prelude.{◌≡◌, ◌<◌, ◌≤◌, ◌+◌, false, length, drop, slice_index, IsUtf8};
 ghost use Rattle.plain_records.specs.Offsets.{FieldSoFar, IsField};
 ghost use Rattle.plain_records.specs.Plain.{after_line, ends_field as stops_field, ends_line as stops_line, first_record, plain_records};

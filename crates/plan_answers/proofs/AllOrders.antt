@@ -1,4 +1,4 @@
--- The list of all orders has each order of the entries and nothing else, and it is in lexicographic order.
+-- The list of all orders has exactly the orders of the entries, and is in lexicographic order.
 use Rattle.std.proofs.Common.{◌≡◌, ℕ, zero, suc, ◌+◌, ◌<◌, ◌≤◌, Bool, true, false, eqb, List, [], ◌∷◌, ◌++◌, length, map, refl, ap, sym, subst, arith, inl, inr}
 use Rattle.std.specs.Prelude.{filter, flat_map, not, ⊤}
 use Rattle.std.specs.List.{AllByRecursion as Each, Contains, IsDistinct, range_with_len}
@@ -9,7 +9,7 @@ use Rattle.entry_sets.proofs.Listing.{each, in_front, in_none, in_rest, one_in}
 use Rattle.order_search.specs.Orders.{IsNotAfter}
 use Rattle.plan_answers.specs.BestOrder.{orders_of, all_orders}
 
--- ---- what is true of each element of a list
+-- ---- a property of each element of a list, carried over to a weaker property
 
 pub each_so : {X : Type 0} (P Q : X → Type 0) → ((x : X) → P x → Q x) → (xs : List X) → Each P xs → Each Q xs
 each_so P Q so [] h = tt
@@ -48,7 +48,7 @@ each_of_flat P f [] h = tt
 each_of_flat P f (x ∷ xs) h =
     let parts : Each P (f x) × Each P (flat_map f xs) = each_of_two P (f x) (flat_map f xs) h in (parts.0, each_of_flat P f xs parts.1)
 
--- ---- the other entries
+-- ---- the entries except the first of an order
 
 abbrev others : ℕ → List ℕ → List ℕ
 others first entries = filter (λ entry. not (eqb first entry)) entries
@@ -116,7 +116,7 @@ at_arranged Q (suc count) entries (x ∷ xs) h is =
       all = omega (arith, is.all);
     })
 
--- ---- lexicographic order
+-- ---- lists of orders in lexicographic order
 
 abbrev pub AreSorted : List (List ℕ) → Type 0
 AreSorted [] = ⊤
@@ -174,7 +174,7 @@ are_sorted (suc count) entries h =
     (λ first. are_sorted count (others first entries) (ascend-kept (λ entry. not (eqb first entry)) entries h))
     entries h
 
--- ---- the entries 0 to n - 1
+-- ---- the list of the entries 0 to n - 1
 
 range_above : (first count x : ℕ) → x < first → Each (λ y. x < y) (range_with_len first count)
 range_above first zero x h = tt

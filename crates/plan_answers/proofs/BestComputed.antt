@@ -1,4 +1,4 @@
--- The order that is computed is the best one.
+-- The computed order is the best order.
 use Rattle.std.proofs.Common.{◌≡◌, ℕ, ◌<◌, ◌≤◌, Bool, true, false, eqb, ltb, leb, List, [], ◌∷◌, Some, refl, ap, sym, subst, arith, inl, inr}
 use Rattle.std.specs.Prelude.{◌⊎◌, ◌&&◌, ◌||◌, find, unwrap_or}
 use Rattle.std.specs.List.{AllByRecursion as Each, list_all}
@@ -45,7 +45,7 @@ first_of P test (x ∷ xs) each in_order some = elim (cases_Bool (test x)) [
       (first.0, first_behind P test x xs first.0 fails first.1))
 ]
 
--- ---- tests
+-- ---- tests of all elements of a list
 
 all_true : (test : List ℕ → Bool) (xs : List (List ℕ)) → Each (λ x. test x ≡ true) xs → list_all test xs ≡ true
 all_true test [] h = refl
@@ -68,7 +68,7 @@ to_test c d s t cheaper smaller = elim (cases_lt c d) [
   | inr above ↦ or_right (ltb c d) (eqb c d && leb s t) (and_from (eqb c d) (leb s t) (eq-eqb c d (omega arith)) (le-leb s t (smaller (omega arith))))
 ]
 
--- ---- the best order
+-- ---- the computed order is best
 
 module _ (bounds : List ℕ) (n : ℕ) where
   abbrev test : List ℕ → Bool

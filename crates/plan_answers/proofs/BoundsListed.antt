@@ -1,4 +1,4 @@
--- The list of the bounds of all sets has one bound for each set. The set's number is its index.
+-- The list of the bounds of all sets has one bound for each set, at the set's number.
 use Rattle.std.proofs.Common.{◌≡◌, ℕ, ◌^◌, ◌<◌, min, List, length, arith}
 use Rattle.std.specs.Prelude.{slice_index}
 use Rattle.std.proofs.lemmas.List.FromFn.{fill_by_all, get_or-map-range_with_len, length-map-range_with_len}

@@ -1,4 +1,4 @@
--- Besides NoMemory, `choose` has exactly one answer: the one that `plan_answer` computes.
+-- Apart from NoMemory, `choose` has exactly one result: `plan_answer`.
 use Rattle.std.proofs.Common.{◌≡◌, ℕ, ◌-◌, ◌^◌, ◌<◌, ◌≤◌, List, length, Ok, Err, Result, refl, ap, sym, ◌∙◌, arith, inl, inr}
 use Rattle.std.specs.Prelude.{◌⊎◌, ◌≢◌}
 use Rattle.std.proofs.lemmas.Bool.{cases_lt, le-ltb, lt-ltb}
@@ -11,7 +11,7 @@ use Rattle.order_search.proofs.NoWorse.{least_of_best}
 use Rattle.order_search.proofs.OneBest.{one_best}
 use Rattle.order_search.proofs.Prefixes.{plan_from}
 use Rattle.plan_answers.specs.BestOrder.{best_order}
-use Rattle.plan_answers.specs.PlanAnswer.{answer_along, plan_along, plan_answer}
+use Rattle.plan_answers.specs.PlanAnswer.{result_for_order, plan_for_order, plan_answer}
 use Rattle.plan_answers.specs.Promised.{IsPromised}
 use Rattle.plan_answers.proofs.BestComputed.{best_computed}
 
@@ -19,26 +19,26 @@ pub only_best : (bounds : List ℕ) (n : ℕ) (order : List ℕ) → IsBest boun
 only_best bounds n order is = one_best bounds n order (best_order bounds n) is (best_computed bounds n)
 
 module _ (bounds scans : List ℕ) (budget : ℕ) where
-  -- ---- the three cases of the computed answer
+  -- ---- the three cases of the computed result
 
-  is_past_bits : (order : List ℕ) → 2 ^ 128 - 2 < cost bounds order → answer_along bounds scans budget order ≡ Err error.PastBits
+  is_past_bits : (order : List ℕ) → 2 ^ 128 - 2 < cost bounds order → result_for_order bounds scans budget order ≡ Err error.PastBits
   is_past_bits order above = rw (lt-ltb (2 ^ 128 - 2) (cost bounds order) above) refl
 
-  is_over_budget : (order : List ℕ) → cost bounds order ≤ 2 ^ 128 - 2 → budget < cost bounds order → answer_along bounds scans budget order ≡ Err (error.Budget (cost bounds order))
+  is_over_budget : (order : List ℕ) → cost bounds order ≤ 2 ^ 128 - 2 → budget < cost bounds order → result_for_order bounds scans budget order ≡ Err (error.Budget (cost bounds order))
   is_over_budget order fits_bits above = rw (le-ltb (2 ^ 128 - 2) (cost bounds order) fits_bits, lt-ltb budget (cost bounds order) above) refl
 
-  is_within_budget : (order : List ℕ) → cost bounds order ≤ 2 ^ 128 - 2 → cost bounds order ≤ budget → answer_along bounds scans budget order ≡ Ok (plan_along bounds scans order)
+  is_within_budget : (order : List ℕ) → cost bounds order ≤ 2 ^ 128 - 2 → cost bounds order ≤ budget → result_for_order bounds scans budget order ≡ Ok (plan_for_order bounds scans order)
   is_within_budget order fits_bits within = rw (le-ltb (2 ^ 128 - 2) (cost bounds order) fits_bits, le-ltb budget (cost bounds order) within) refl
 
-  -- ---- the computed answer is one that `choose` promises
+  -- ---- the promise of `choose` is true of the computed result
 
-  along : (order : List ℕ) → IsBest bounds (length scans) order → IsPromised bounds scans budget (answer_along bounds scans budget order)
+  along : (order : List ℕ) → IsBest bounds (length scans) order → IsPromised bounds scans budget (result_for_order bounds scans budget order)
   along order is = elim (cases_lt (2 ^ 128 - 2) (cost bounds order)) [
     | inl above ↦ rw (is_past_bits order above) (record { plan = tt; best = tt; within = tt; levels = tt; scans_kept = tt; refused = (cost bounds order, least_of_best bounds (length scans) order is, above) })
     | inr fits_bits ↦ elim (cases_lt budget (cost bounds order)) [
       | inl above ↦ rw (is_over_budget order fits_bits above) (record { plan = tt; best = tt; within = tt; levels = tt; scans_kept = tt; refused = (least_of_best bounds (length scans) order is, above, fits_bits) })
       | inr within ↦ rw (is_within_budget order fits_bits within) (record {
-        plan = plan_from bounds scans (plan_along bounds scans order) is.is_order refl refl;
+        plan = plan_from bounds scans (plan_for_order bounds scans order) is.is_order refl refl;
         best = is;
         within = within;
         levels = refl;
@@ -52,16 +52,16 @@ module _ (bounds scans : List ℕ) (budget : ℕ) where
   unfolding plan_answer
   allowed = along (best_order bounds (length scans)) (best_computed bounds (length scans))
 
-  -- ---- `choose` promises no other answer
+  -- ---- the promise of `choose` is true of no other result
 
-  same_plan : (plan : Plan) → plan.levels ≡ levels bounds plan.order → plan.scans ≡ scans → plan ≡ plan_along bounds scans plan.order
+  same_plan : (plan : Plan) → plan.levels ≡ levels bounds plan.order → plan.scans ≡ scans → plan ≡ plan_for_order bounds scans plan.order
   same_plan plan has_levels has_scans = rw (sym has_levels, sym has_scans) refl
 
   pub chosen : (plan : Plan) → budget ≤ 20000000 → IsBest bounds (length scans) plan.order → cost bounds plan.order ≤ budget
       → plan.levels ≡ levels bounds plan.order → plan.scans ≡ scans → plan_answer bounds scans budget ≡ Ok plan
   unfolding plan_answer
   chosen plan few is within has_levels has_scans =
-      ap (answer_along bounds scans budget) (sym (only_best bounds (length scans) plan.order is))
+      ap (result_for_order bounds scans budget) (sym (only_best bounds (length scans) plan.order is))
       ∙ is_within_budget plan.order (omega arith) within
       ∙ ap Ok (sym (same_plan plan has_levels has_scans))
 
@@ -86,7 +86,7 @@ module _ (bounds scans : List ℕ) (budget : ℕ) where
   only (Err error.PastBits) few is = inr (sym (refused error.PastBits (λ same. absurd (cc)) is.refused))
   only (Err (error.Budget least)) few is = inr (sym (refused (error.Budget least) (λ same. absurd (cc)) is.refused))
 
-  never_along : (order : List ℕ) → answer_along bounds scans budget order ≢ Err error.NoMemory
+  never_along : (order : List ℕ) → result_for_order bounds scans budget order ≢ Err error.NoMemory
   never_along order same = elim (cases_lt (2 ^ 128 - 2) (cost bounds order)) [
     | inl above ↦ absurd (cc (same, is_past_bits order above))
     | inr fits_bits ↦ elim (cases_lt budget (cost bounds order)) [

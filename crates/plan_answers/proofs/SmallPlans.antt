@@ -1,4 +1,4 @@
--- Best orders and answers, computed for few entries.
+-- Best orders and results for few entries, by computation.
 use Rattle.std.proofs.Common.{◌≡◌, ◌^◌, ◌-◌, [], ◌∷◌, Ok, Err, refl}
 use Rattle.limits.specs.Profile.{top_bound}
 use Rattle.plans.specs.Examples.{plan_of}

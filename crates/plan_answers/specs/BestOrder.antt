@@ -1,9 +1,9 @@
--- The best order, by computation: the first order that is no worse than any order.
+-- The best order, by computation. It is the first order that is no worse than any order.
 use Rattle.std.specs.Prelude.{ℕ, zero, suc, Bool, not, ◌&&◌, ◌||◌, ◌==◌, nat_lt, nat_le, List, [], ◌∷◌, map, filter, find, flat_map, unwrap_or}
 use Rattle.std.specs.List.{list_all, range_with_len}
 use Rattle.order_search.specs.Orders.{cost, total}
 
--- the orders of `count` of these entries: each entry in turn, followed by each order of `count - 1` of the others
+-- the orders of `count` of these entries. Each begins with one of the entries, followed by an order of `count - 1` of the others
 abbrev pub orders_of : ℕ → List ℕ → List (List ℕ)
 orders_of zero entries = [] ∷ []
 orders_of (suc count) entries =
@@ -13,7 +13,7 @@ orders_of (suc count) entries =
 abbrev pub all_orders : ℕ → List (List ℕ)
 all_orders n = orders_of n (range_with_len 0 n)
 
--- the order costs less than the other, or costs the same and its total is no greater
+-- whether the order costs less than the other order, or costs the same and has a total that is no greater
 abbrev pub is_no_worse : List ℕ → List ℕ → List ℕ → Bool
 is_no_worse bounds order other =
     nat_lt (cost bounds order) (cost bounds other)

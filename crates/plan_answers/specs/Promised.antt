@@ -1,4 +1,4 @@
--- What `choose` promises of its answer, clause by clause.
+-- The promise of `choose` about its result, clause by clause.
 use Rattle.std.specs.Prelude.{◌≡◌, ℕ, ◌≤◌, List, length, IfOk, IfErr, Result}
 use Rattle.plans.specs.declared.left_deep.Plan.{Plan}
 use Rattle.plans.specs.LeftDeep.{IsPlan}

@@ -1,4 +1,4 @@
-//! What `plan_answer` gives for few entries.
+//! The results of `plan_answer` for few entries.
 ghost use Rattle.std.specs.Prelude.{◌≡◌, ◌-◌, ◌^◌, [], ◌∷◌, Ok, Err};
 ghost use Rattle.limits.specs.Profile.{top_bound};
 ghost use Rattle.plans.specs.Examples.{plan_of};
@@ -8,8 +8,8 @@ ghost use Rattle.plan_answers.specs.BestOrder.{all_orders, best_order};
 ghost use Rattle.plan_answers.specs.Bounds.{bounds_of_sets};
 ghost use Rattle.plan_answers.specs.PlanAnswer.{plan_answer};
 
-/// The best orders and the answers for one, three and four entries. An order through a pair of entries whose bound is past 128 bits is avoided.
-/// The largest cost that a refusal can name is 2^128 - 2.
+/// The best orders and the results for one, three and four entries. One example avoids an order through a pair of entries whose bound is past 128
+/// bits. The largest cost that a refusal can name is 2^128 - 2.
 pub fn small_plans()
     ensures orders { all_orders 3 ≡
         (0 ∷ 1 ∷ 2 ∷ []) ∷ (0 ∷ 2 ∷ 1 ∷ []) ∷ (1 ∷ 0 ∷ 2 ∷ []) ∷ (1 ∷ 2 ∷ 0 ∷ []) ∷ (2 ∷ 0 ∷ 1 ∷ []) ∷ (2 ∷ 1 ∷ 0 ∷ []) ∷ [] }

@@ -11,15 +11,15 @@ ghost use Rattle.plan_answers.specs.Bounds.{bounds_of_sets};
 ghost use Rattle.plan_answers.specs.PlanAnswer.{plan_answer};
 ghost use Rattle.plan_answers.specs.Promised.{IsPromised};
 
-/// The order that is computed is the best one.
+/// The computed order is the best order.
 pub fn best_orders()
     ensures best { (bounds : List ℕ) (n : ℕ) → IsBest bounds n (best_order bounds n) }
     ensures only { (bounds : List ℕ) (n : ℕ) (order : List ℕ) → IsBest bounds n order → order ≡ best_order bounds n }
 {}
 
-/// What `choose` promises is true of `plan_answer`, and of no other answer but `NoMemory`. So at each exit of
-/// `choose`, a plan of a best order within the budget, with its levels, is the plan of `plan_answer`. A refusal
-/// that has a cause and isn't `NoMemory` is the refusal of `plan_answer`.
+/// The promise of `choose` is true of `plan_answer`, and of no other result except `NoMemory`. The clauses `chosen` and `refused` say this for the
+/// exits of `choose`. A plan of a best order within the budget, with its levels, is `plan_answer`. A refusal that has a cause and isn't `NoMemory` is
+/// `plan_answer`.
 pub fn promised_answers()
     ensures allowed { (bounds scans : List ℕ) (budget : ℕ) → IsPromised bounds scans budget (plan_answer bounds scans budget) }
     ensures only { (bounds scans : List ℕ) (budget : ℕ) (answer : Result Plan PlanError) → budget ≤ most_budget
@@ -32,7 +32,7 @@ pub fn promised_answers()
         → IsCause bounds (length scans) budget e → plan_answer bounds scans budget ≡ Err e }
 {}
 
-/// `bounds_of_sets` is the only list that has each set's bound, or the top bound if the set's bound is greater.
+/// `bounds_of_sets` is the only list that has each set's bound, capped at the top bound, at the set's number.
 pub fn bounds_of_all_sets()
     ensures one { (n : ℕ) (bound : ℕ → ℕ) (bounds : List ℕ) → length bounds ≡ 2 ^ n
         → ((set : ℕ) → set < 2 ^ n → slice_index bounds set ≡ min (bound set) top_bound) → bounds ≡ bounds_of_sets n bound }

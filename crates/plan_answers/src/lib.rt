@@ -1,11 +1,11 @@
-//! What `choose` of order_search answers, as a function of the bounds.
+//! The result of `choose` (of order_search), as a function of the bounds.
 //!
-//! The contract of `choose` is a relation between bounds and an answer. It leaves open only whether the call runs
-//! out of memory. `plan_answer` (in `specs/PlanAnswer.antt`) is the answer if it doesn't: the plan of `best_order`
-//! (in `specs/BestOrder.antt`) or a refusal. It searches all orders; it is for specifications and never runs.
+//! The contract of `choose` is a relation between bounds and a result. It leaves open only whether the call runs out of memory. If the call doesn't,
+//! the result is `plan_answer` (in `specs/PlanAnswer.antt`): the plan of `best_order` (in `specs/BestOrder.antt`) or a refusal. `plan_answer`
+//! searches all orders. It is for specifications and never runs.
 //!
-//! Callers cite `plan_answer` if they need a value. The laws say that this value is what `choose` promises (`IsPromised`). For a whole answer take
-//! the clause `only` of `promised_answers` (lemma `only` of proofs/OneAnswer). At an exit of `choose` take `chosen` or `refused`.
+//! The laws say that `plan_answer` is what `choose` promises (`IsPromised`). In a proof about the result of `choose`, use the clause `only` of
+//! `promised_answers` (lemma `only` of proofs/OneAnswer). In a proof about one exit of `choose`, use `chosen` or `refused`.
 //!
 //! `bounds_of_sets` (in `specs/Bounds.antt`) makes the list of bounds from a function of the set.
 #![tactic(auto)]

@@ -36,7 +36,7 @@ module _ (query : Query) (tables : Tables) (accuracy budget : ℕ) (plan : Plan)
       (set_near query tables accuracy entries none (prefix_below (length query.from) (k + 1) plan.order best.is_order)
       (prefix_of (length query.from) (k + 1) plan.order few best.is_order))
 
--- ---- at the usual accuracy, 1
+-- ---- nearness at the usual accuracy, 1
 
 one_power : (n : ℕ) → 1 ^ n ≡ 1
 one_power zero = pow-zero 1

@@ -1,4 +1,4 @@
-//! Laws of how near bounds of plans are to the bounds without compression. Each call does nothing: its contract is the law.
+//! Laws about the nearness of a plan's bounds to the bounds without compression. Each call does nothing: its contract is the law.
 ghost use Rattle.std.specs.Prelude.{◌≡◌, ◌*◌, ◌+◌, ◌<◌, ◌≤◌, ◌^◌, ℕ, Ok, length, slice_index, take};
 ghost use Rattle.limits.specs.Profile.{most_entries, default_accuracy};
 ghost use Rattle.plans.specs.declared.left_deep.Plan.{Plan};
@@ -10,14 +10,14 @@ ghost use Rattle.planning.specs.Bounds.{scan_bounds_of, set_bounds_of};
 ghost use Rattle.planning.specs.Plans.{planned};
 ghost use Rattle.plan_nearness.specs.Nearness.{FiltersNoEntry, LevelsAreNear, NodesAreNear, uncompressed_bound};
 
-/// If no conjunct names one entry alone, the levels of a plan from statistics of whole columns have bounds near the uncompressed ones.
+/// If no conjunct names exactly one entry, the levels of a plan from statistics of whole columns have bounds near the uncompressed bounds.
 pub fn levels_are_near()
     ensures { (query : Query) (tables : Tables) (accuracy budget : ℕ) (plan : Plan)
         → FiltersNoEntry query → length query.from ≤ most_entries
         → planned query tables accuracy budget ≡ Ok plan → LevelsAreNear query tables accuracy plan }
 {}
 
-/// If no conjunct names one entry alone, at the usual accuracy the bound of a level of n entries is at most 2^n times the uncompressed one.
+/// Suppose that no conjunct names exactly one entry. At accuracy 1, the bound of a level of n entries is at most 2^n times the uncompressed bound.
 pub fn default_levels_are_near()
     ensures { (query : Query) (tables : Tables) (budget : ℕ) (plan : Plan) (k : ℕ)
         → FiltersNoEntry query → length query.from ≤ most_entries
@@ -25,8 +25,8 @@ pub fn default_levels_are_near()
         → slice_index plan.levels k ≤ 2 ^ (k + 1) * uncompressed_bound query tables (take (k + 1) plan.order) }
 {}
 
-/// If no conjunct names one entry alone, the inner nodes of the best tree from statistics of whole columns have bounds near the
-/// uncompressed ones.
+/// Suppose that no conjunct names exactly one entry. The inner nodes of the best tree from statistics of whole columns have bounds near the
+/// uncompressed bounds.
 pub fn nodes_are_near()
     ensures { (query : Query) (tables : Tables) (accuracy budget : ℕ) (plan : BushyPlan)
         → FiltersNoEntry query → 1 ≤ length query.from → length query.from ≤ most_entries

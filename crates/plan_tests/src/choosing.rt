@@ -1,4 +1,4 @@
-//! Why a test has no tree, and how many sets its entries have.
+//! Why a test got no tree, and how many sets a number of entries has.
 ghost use Rattle.std.specs.Prelude.{◌≡◌, ◌^◌, ◌≤◌};
 ghost use Rattle.limits.specs.Profile.{most_entries};
 

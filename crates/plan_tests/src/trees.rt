@@ -72,8 +72,9 @@ const TREE_CASES: [TreeCase<'static>; 5] = [
     // The bounds are how many rows the join of each set of entries has in this query:
     // SELECT C.N FROM C, P, Q, R, S WHERE C.A = P.X AND C.B = Q.X AND C.D = R.X AND C.E = S.X.
     // Each of P, Q, R and S has X = 7 three times and X = 8 once. C has a row with 8 in all four joined columns. It has four more rows, one for each
-    // of these columns: in its column the row has a value that P, Q, R and S don't have, and 7 in the others. So the join of all five entries has one
-    // row, but the join of C with three others has 28. Each left-deep order passes a set of four entries, and the tree (((C, P), Q), (R, S)) doesn't.
+    // of these columns. In its column the row has a value that P, Q, R and S don't have, and 7 in the others. So the join of all five entries has one
+    // row, but the join of C with three others has 28. Each left-deep order has a level of four entries. The tree (((C, P), Q), (R, S)) has no node
+    // of four entries.
     TreeCase {
         count: 5,
         bounds: &[
@@ -84,8 +85,8 @@ const TREE_CASES: [TreeCase<'static>; 5] = [
         joins: &[(0, 1, 10), (5, 2, 19), (3, 4, 16), (6, 7, 1)],
         cost: 19,
     },
-    // All least trees have cost 3 and sum 8. Of the splits of the entries 1 to 4, the one with entry 1 alone on the left comes first. Its
-    // right side costs 3, and with the entries 1 and 2 on the left the right side would cost 2.
+    // The least cost is 3, and the least sum of bounds at this cost is 8. The first split of the entries 1 to 4 has entry 1 alone on the left.
+    // Its right side costs 3. With the entries 1 and 2 on the left, the right side would cost 2.
     TreeCase {
         count: 5,
         bounds: &[

@@ -1,4 +1,4 @@
--- Each entry gets a number. Two entries have the same number exactly if equalities connect them.
+-- Each entry gets the number of its component. Two entries have the same number exactly if equalities connect them.
 use Rattle.std.proofs.Common.{◌≡◌, ℕ, Bool, eqb, List, [], ◌∷◌, refl, ap, sym, ◌∙◌, subst, inl, inr}
 use Rattle.std.specs.Prelude.{◌⊎◌, if◌then◌else◌}
 use Rattle.std.specs.List.{Contains}

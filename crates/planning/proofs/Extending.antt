@@ -1,5 +1,5 @@
--- If equalities close no cycle, and each row in a family of lists has its partners, then each row extends to a choice for all connected entries. A
--- partner of a row is a row of the other list that an equality joins with it.
+-- Suppose that equalities close no cycle, and that each row in a family of lists has its partners. Then each row extends to a choice for all
+-- connected entries. A partner of a row is a row of the other list that an equality joins with it.
 use Rattle.std.proofs.Common.{◌≡◌, ℕ, Bool, true, eqb, List, [], ◌∷◌, refl, ap, sym, ◌∙◌, subst, inl, inr}
 use Rattle.std.specs.Prelude.{◌⊎◌, if◌then◌else◌}
 use Rattle.std.specs.List.{AllByRecursion, Contains}
@@ -13,7 +13,7 @@ use Rattle.reduced_scans.proofs.Members.{behind, in_cases, in_front, not_in_none
 use Rattle.set_bounds.proofs.Forests.{onto}
 use Rattle.planning.proofs.Components.{closed_at, component, merged_cases, same_connects}
 
--- ---- equalities in the order in which they are looked at
+-- ---- equalities in the order of the induction
 
 come_before : (earlier es : List Edge) (e : Edge) → Contains earlier e → Contains (onto earlier es) e
 come_before earlier [] e has = has
@@ -50,9 +50,9 @@ module _ (equal : Edge → ℕ → ℕ → Bool) (family : List (List ℕ)) wher
     pub listed : (other : ℕ) → component es other ≡ component es entry → Contains (list_at family other) (row_of other)
     pub holds : (e : Edge) → Contains es e → component es e.left.entry ≡ component es entry → Holds row_of e
 
-  -- ---- one more equality
+  -- ---- the induction step: one more equality
 
-  -- the equality joins no entry of the row's component
+  -- if the equality joins no entry of the row's component
   untouched : (e : Edge) (es : List Edge) (entry row : ℕ) → Extends es entry row
       → (component es entry ≡ component es e.left.entry → ⊥) → (component es entry ≡ component es e.right.entry → ⊥) → Extends (e ∷ es) entry row
   untouched e es entry row f not_left not_right = record {
@@ -74,7 +74,7 @@ module _ (equal : Edge → ℕ → ℕ → Bool) (family : List (List ℕ)) wher
         ]
       ]
 
-  -- the equality joins the row's component with another one
+  -- if the equality joins the row's component with another component
   module _ (e : Edge) (es : List Edge) (entry row near far partner : ℕ) (f : Extends es entry row) (g : Extends es far partner)
       (at_near : component es entry ≡ component es near) (apart : component es near ≡ component es far → ⊥) where
     abbrev both : ℕ → ℕ

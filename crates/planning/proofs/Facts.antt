@@ -1,4 +1,4 @@
--- This record has what the laws on statistics say of tables.
+-- The record of the laws that connect statistics with tables.
 use Rattle.std.proofs.Common.{ℕ, List, [], ◌∷◌}
 use Rattle.berge_tree.specs.declared.edges.Edge.{Edge}
 use Rattle.query_types.specs.declared.types.Query.{Query}
@@ -6,7 +6,7 @@ use Rattle.join_graph.specs.Conjuncts.{equalities_of}
 use Rattle.tree_bounds.specs.Columns.{EachNamedColumn}
 use Rattle.sql_meaning.specs.Tables.{Tables}
 use Rattle.level_bounds.specs.Keys.{AreKeys, Keys}
-use Rattle.filtered_lists.specs.Standing.{CountsStandFor, ListsFall, ListsStandFor, SumTo}
+use Rattle.filtered_lists.specs.Standing.{CountsStandFor, ListsDescend, ListsStandFor, SumTo}
 use Rattle.query_bounds.specs.Statistics.{StandFor}
 use Rattle.table_stats.specs.Statistics.{column_lists, entry_counts}
 use Rattle.table_stats.proofs.Dominating.{lists_stand}
@@ -20,7 +20,7 @@ pub record Facts (tables : Tables) (accuracy : ℕ) : Type 0 where
   pub lists : (entry column : ℕ) → ListsStandFor (column_lists tables accuracy entry column) tables entry (key entry column)
   pub counts : (entry : ℕ) → CountsStandFor (entry_counts tables entry) tables entry
   pub sums : (entry column : ℕ) → SumTo (column_lists tables accuracy entry column) (entry_counts tables entry)
-  pub falls : (entry column : ℕ) → ListsFall (column_lists tables accuracy entry column)
+  pub falls : (entry column : ℕ) → ListsDescend (column_lists tables accuracy entry column)
 
 pub facts : (tables : Tables) (accuracy : ℕ) → Facts tables accuracy
 facts tables accuracy =

@@ -1,5 +1,4 @@
--- These lemmas are about plans that are made from bounds of sets and of scans. If these bounds come from bounds of entries that stand for lists of
--- rows, no bound in the plan is too low.
+-- Plans from bounds of sets and of scans. If these bounds come from bounds of entries that stand for lists of rows, no bound in the plan is too low.
 use Rattle.std.proofs.Common.{◌≡◌, ◌⊎◌, inl, inr, ℕ, ◌+◌, ◌<◌, ◌≤◌, ◌^◌, Bool, true, List, [], ◌∷◌, Ok, Result, min, length, take, get_or, refl, ap, sym, ◌∙◌, subst, arith}
 use Rattle.std.specs.List.{AllByRecursion, filter}
 use Rattle.std.proofs.lemmas.Bool.{and_parts, cases_Bool, cases_lt}

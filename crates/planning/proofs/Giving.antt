@@ -21,18 +21,18 @@ use Rattle.set_bounds.proofs.Listing.{first_listed}
 use Rattle.sql_meaning.specs.Tables.{tables_of}
 use Rattle.join_steps.specs.Lists.{list_sizes}
 use Rattle.predicate_bounds.specs.declared.columns.QueryStats.{QueryStats}
-use Rattle.query_bounds.specs.Bounds.{HoldsKnown, entry_bounds, is_among, joined_columns, scan_bounds, scan_list, scan_rows, set_bounds}
-use Rattle.query_bounds.specs.Statistics.{TellsSomeStatistics, Statistics, Tells}
+use Rattle.query_bounds.specs.Bounds.{HoldsKnown, entry_bounds, is_among, joined_columns, scan_bounds, scan_list, scan_row_bound, set_bounds}
+use Rattle.query_bounds.specs.Statistics.{TellsSomeStatistics, Statistics, HasStatistics}
 use Rattle.query_bounds.proofs.Sets as told
 use Rattle.planning.specs.declared.known.QueryBounds.{QueryBounds}
 use Rattle.planning.specs.HasBounds.{HasBounds}
 use Rattle.planning.specs.ListsSoFar.{IsKnown}
 use Rattle.planning.specs.ListedBounds.{entry_bounds_over, set_bounds_over}
 use Rattle.planning.specs.Standing.{JoinedHaveLists}
-use Rattle.planning.proofs.Knowing as listed
+use Rattle.planning.proofs.CollectedBounds as listed
 use Rattle.planning.proofs.ScanBounds.{named_all}
 
-pub tells_some_statistics : {query : Query} {stats : QueryStats} {known : Statistics} → Tells query stats known → TellsSomeStatistics query stats
+pub tells_some_statistics : {query : Query} {stats : QueryStats} {known : Statistics} → HasStatistics query stats known → TellsSomeStatistics query stats
 tells_some_statistics {known = known} tells = record { known = known; tells = tells }
 
 -- ---- bounds from statistics
@@ -47,8 +47,8 @@ pub scans_from_statistics : (query : Query) (stats : Statistics) (lists : EntryL
     → map (bounds_of lists).rows (range_with_len 0 (length query.from)) ≡ scan_bounds query stats
 scans_from_statistics query stats lists are =
     ap (λ (b : EntryBounds). map b.rows (range_with_len 0 (length query.from))) are
-    ∙ same_below (entry_bounds query stats).rows (scan_rows query stats) (length query.from)
-    (λ k low. ap (λ (t : Bool). if t then scan_rows query stats k else 0) (lt-ltb k (length query.from) low))
+    ∙ same_below (entry_bounds query stats).rows (scan_row_bound query stats) (length query.from)
+    (λ k low. ap (λ (t : Bool). if t then scan_row_bound query stats k else 0) (lt-ltb k (length query.from) low))
 
 list_there : (lists : EntryLists) (entry column : ℕ) (list : List ℕ) → list_of lists entry column ≡ Some list → HasList (bounds_of lists) entry column
 list_there lists entry column list is = record {
@@ -70,7 +70,7 @@ lists_from_statistics query stats lists held are =
         subst (λ (b : EntryBounds). HasList b entry column) are
         (list_there lists entry column (scan_list query stats entry column) (told.list_there query stats (length query.from) (joined_columns query) lists held entry column among))
 
--- ---- bounds from row bounds and lists, with the equalities that `split` gives. The row bounds are the bounds of the scans
+-- ---- bounds from row bounds and lists, with the equalities of `split`; the row bounds are the scans' bounds
 
 module _ (query : Query) (es : List Edge) (split : es ≡ equalities_of query) (lists : EntryLists) (scans : List ℕ) (count : ℕ) (all : count ≡ length query.from)
     (are : scans ≡ map (bounds_of lists).rows (range_with_len 0 count)) where

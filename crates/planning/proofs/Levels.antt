@@ -1,6 +1,7 @@
 -- Each bound along an order is the bound of the set of its first entries. No bound is above the order's cost.
 use Rattle.std.proofs.Common.{◌≡◌, ℕ, zero, suc, ◌+◌, ◌-◌, ◌^◌, ◌<◌, ◌≤◌, List, [], ◌∷◌, length, take, get_or, ap, sym, ◌∙◌, add-one, arith}
 use Rattle.std.proofs.lemmas.Nat.{pow_pos}
+use Rattle.limits.specs.Profile.{greatest_entries, most_entries}
 use Rattle.entry_sets.specs.Sets.{entries_of_set, set_of}
 use Rattle.entry_sets.proofs.Bits.{power_within}
 use Rattle.plans.specs.LeftDeep.{IsOrder}
@@ -49,9 +50,9 @@ on_way (suc k) left (entry ∷ entries) way =
 pub prefix_below : (n k : ℕ) (order : List ℕ) → IsOrder n order → set_of (take k order) < 2 ^ n
 prefix_below n k order is = omega (arith, on_way k (2 ^ n - 1) order (way_from_order n order is), pow_pos n)
 
-pub prefix_of : (n k : ℕ) (order : List ℕ) → n ≤ 12 → IsOrder n order
+pub prefix_of : (n k : ℕ) (order : List ℕ) → n ≤ most_entries → IsOrder n order
     → IsOrderOfSet (entries_of_set (set_of (take k order))) (take k order)
 prefix_of n k order few is =
     prefix_of_order order k
-    (all_from (λ entry. entry < 16) order
+    (all_from (λ entry. entry < greatest_entries) order
     (λ entry here. omega (arith, each_of (λ entry. entry < n) order is.entries entry here, few))) is.once

@@ -1,11 +1,11 @@
 -- How the proofs of this crate go: what was hard, and what closed it.
 --
--- Plans from any source
+-- Plans from any bounds
 --
--- Everything here composes. There are only three inductions, over lists, and all goals but one closed at the first check.
+-- The proofs combine lemmas of other crates. There are only three inductions, over lists, and all goals except one closed at the first check.
 --
--- - One law for every source, in two halves (`FromLists`): from bounds of all sets and of scans to the plan (`plan_over_lists`), wherever these
---   bounds come from; and from bounds of entries in a set to the bound of the set (`levels_bound`). For a new source only `StandForLists` and
+-- - One law for all bounds, in two halves (`FromLists`): from bounds of all sets and of scans to the plan (`plan_over_lists`), wherever these
+--   bounds come from; and from bounds of entries in a set to the bound of the set (`levels_bound`). For bounds of a new kind only `StandForLists` and
 --   `BoundLists` have to be shown, for a new shape of plan only the first half. If the bounds of entries are the same in every set, facts on single
 --   columns are enough (`stand_in_every_set`): statistics of tables (`ScanBounds`, `NeverUnder`) and degree lists of listed rows (`ListBounds`) are
 --   instances of a few lines.
@@ -19,7 +19,8 @@
 --   (`rt check --allow-holes` says for each law that it depends on this hole alone), and everything above it was proved first.
 -- - A level of a plan is never the top bound: it is at most the cost, so at most the budget (`level_within_budget`), and the second case of
 --   "or 2^128 - 1" is absurd by `omega`.
--- - The set of an order's first entries has a number below 2^n (`on_way`): along the way through 2^n - 1, each entry's power of 2 is at most what is left.
+-- - The set of an order's first entries has a number below 2^n (`on_way`): along the way through 2^n - 1, each entry's power of 2 is at most what is
+--   left.
 -- - Bounds are near (`NearColumns`) without given keys: a row's own number in its column serves as its key. So `keys_of` is the numbered column by
 --   `fill_by_all`, and `whole_columns` is `uncompressed` by `fun_ext`.
 -- - The worked plan computes, statistics and all orders too. `rw` doesn't reach into an argument of an unfolded `plan_answer`: compute the
@@ -34,7 +35,7 @@
 --   further conjunct is made.
 -- - A value's number is the first listed row that has the value (`ListBounds`): two rows have equal numbers exactly if they have equal keys
 --   (table_stats' `FirstRows`), and relabelling_laws carries domination over to keys that all tables share.
--- - Each reduced row takes part (`Components`, `Extending`): connection is defined in join_graph, and is proved with a number for each
+-- - Each reduced row takes part (`Components`, `Extending`): join_graph defines connection, and is proved with a number for each
 --   component, by one induction on the equalities in their order, like `ClosesNoCycleAfter`: the earlier ones come after the rest, in
 --   reverse order (`onto` of set_bounds), so no lemma reverses the list. One more equality may join the row's component with another one.
 --   Then the row's partner is extended to a choice there, and the two choices are combined by the number of the component. Or the equality
@@ -43,9 +44,9 @@
 --   `filter_agree` with one test for all conjuncts (`answer_by`), and then computes. Where an own conjunct asks for the row, `filter_agree` serves
 --   too.
 --
--- Lists of rows, and what is known from them
+-- Lists of rows, and the bounds that are collected from them
 --
--- - Soundness and completeness are two facts (`IsKnown`, `HaveLists`): each list that is known is the one of the definition, and each joined column
+-- - Soundness and completeness are two facts (`IsKnown`, `HaveLists`): each collected list is the list of the definition, and each joined column
 --   has a list. So adding a list says nothing of the other columns, and the loop's invariant is two facts.
 -- - Bounds are a function of what equalities name (`SameBounds`): `entry_bounds_over` has a list for every column, and the code has lists for joined
 --   columns alone. One induction over trees shows that both give all sets the same bounds, with `named_in_turn` and `tree_columns` of tree_bounds.
@@ -69,7 +70,7 @@ pub mod ListedPlans
 pub mod ReducedPlans
 pub mod SameBounds
 pub mod SameDegrees
-pub mod Knowing
+pub mod CollectedBounds
 pub mod Giving
 pub mod TableRooms
 pub mod ReducedLists

@@ -1,4 +1,5 @@
--- The degree sequences of columns over listed rows are in descending order, sum to the number of rows, and dominate all keys that tell values apart.
+-- The degree sequences of columns over listed rows are in descending order, and sum to the number of rows. They dominate all keys that tell values
+-- apart.
 use Rattle.std.proofs.Common.{ℕ, ◌<◌, ◌≤◌, List, length, map, refl, ap, ◌∙◌, subst, arith}
 use Rattle.std.specs.List.{Contains, range_with_len}
 use Rattle.std.proofs.lemmas.List.{get_or-map, length-map}

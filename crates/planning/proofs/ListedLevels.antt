@@ -1,4 +1,5 @@
--- The choices of a level over lists of scanned rows are different, and their rows are listed. Along each equality their rows have the same key.
+-- The choices of a level over lists of scanned rows are different, and their rows are listed. The rows of a choice have the same key across each
+-- equality.
 use Rattle.std.proofs.Common.{◌≡◌, ℕ, ◌<◌, ◌≤◌, Bool, true, eqb, List, [], ◌∷◌, length, map, get_or, ap, sym, subst, arith, inl, inr}
 use Rattle.std.specs.Prelude.{◌≢◌, AllPairs}
 use Rattle.std.specs.List.{AllByRecursion, Contains, filter}
@@ -39,7 +40,7 @@ pass_at test rows (e ∷ order) (row ∷ choice) is all entry here =
       | inr n ↦ (let rest : is_in order entry ≡ true = rw n at here in rw n (pass_at test rows order choice is.1 parts.1 entry rest))
     ]
 
--- ---- what is true of each two elements, before and after a function is mapped over them
+-- ---- a property of each two elements, before and after a function is mapped over them
 
 module _ {Y : Type 0} (R : Y → Y → Type 0) (f : List ℕ → Y) (xs : List (List ℕ)) where
   pairs_unmapped : AllPairs R (map f xs) → AllPairs (λ a b. R (f a) (f b)) xs
@@ -56,7 +57,7 @@ module _ {Y : Type 0} (R : Y → Y → Type 0) (f : List ℕ → Y) (xs : List (
       subst (λ (z : Y). R (get_or (map f xs) i y) z) (sym (get_or-map f xs j [] y j_in))
       (subst (λ (z : Y). R z (f (get_or xs j []))) (sym (get_or-map f xs i [] y i_in)) (all i j [] less j_in))
 
--- ---- levels
+-- ---- choices of a level over lists of scanned rows
 
 module _ (query : Query) (tables : Tables) (lists : List (List ℕ)) (are : AreOfScans query tables lists) (subset : ℕ) (order : List ℕ) (o : IsOrderOfSet (entries_of_set subset) order) where
   abbrev listed : ℕ → ℕ → Bool

@@ -1,4 +1,4 @@
--- No level has more rows than its bound in a plan over lists of scanned rows.
+-- In a plan over lists of scanned rows, no level has more rows than its bound.
 use Rattle.std.proofs.Common.{◌≡◌, ◌⊎◌, ℕ, ◌<◌, ◌≤◌, ◌^◌, List, Ok, Err, length, take, get_or, ◌∙◌, arith}
 use Rattle.std.specs.Prelude.{◌≢◌}
 use Rattle.std.proofs.lemmas.List.{take_all}

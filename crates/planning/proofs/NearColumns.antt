@@ -1,4 +1,4 @@
--- If no conjunct names just one entry, bounds are near those from the degree lists of whole columns.
+-- If no conjunct names just one entry, bounds are near the bounds from the degree lists of whole columns.
 use Rattle.std.proofs.Common.{◌≡◌, ℕ, ◌+◌, ◌*◌, ◌<◌, ◌≤◌, ◌^◌, List, [], length, get_or, refl, ap, sym, ◌∙◌, subst}
 use Rattle.std.proofs.Math.Path.{fun_ext}
 use Rattle.std.proofs.lemmas.List.{length-map}
@@ -13,7 +13,7 @@ use Rattle.tree_bounds.specs.TreeBounds.{EntryBounds}
 use Rattle.sql_meaning.specs.Tables.{Tables, row_counts}
 use Rattle.filtered_lists.specs.Filters.{own_conjuncts}
 use Rattle.filtered_lists.specs.Standing.{value_in_row}
-use Rattle.level_bounds.specs.Whole.{keys_of, uncompressed}
+use Rattle.level_bounds.specs.WholeTables.{keys_of, uncompressed}
 use Rattle.query_bounds.specs.Statistics.{AreOfWholeTables}
 use Rattle.query_bounds.proofs.Near.{near_whole}
 use Rattle.table_stats.specs.Columns.{column_values, first_row, as_first_rows}
@@ -23,7 +23,7 @@ use Rattle.planning.specs.Bounds.{set_bounds_of, whole_columns}
 use Rattle.planning.proofs.Facts.{each_column}
 
 module _ (tables : Tables) where
-  -- a row's number in its column serves as its key
+  -- the key of a row is its value's number in the column: the first row that has the value
   abbrev row_number : ℕ → ℕ → ℕ → ℕ
   row_number entry column row = get_or (as_first_rows (column_values tables entry column)) row 0
 

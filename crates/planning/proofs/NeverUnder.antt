@@ -1,4 +1,5 @@
--- No scan has more rows than its bound, and no level has more rows than the bound of its set: bounds from statistics of the tables stand for the scans.
+-- No scan has more rows than its bound, and no level has more rows than the bound of its set. The reason is that bounds from statistics of the tables
+-- stand for the scans.
 use Rattle.std.proofs.Common.{◌≡◌, ◌⊎◌, ℕ, ◌<◌, ◌≤◌, ◌^◌, List, length, get_or, refl, sym, subst, arith}
 use Rattle.std.specs.List.{Contains}
 use Rattle.std.proofs.lemmas.List.{take_all}
@@ -19,9 +20,9 @@ use Rattle.level_bounds.specs.Keys.{Keys}
 use Rattle.level_bounds.specs.Orders.{IsOrderOfSet}
 use Rattle.level_bounds.specs.Scans.{level_over_entries, query_scan}
 use Rattle.level_bounds.proofs.Lists.{all_from, each_of}
-use Rattle.filtered_lists.specs.Standing.{ListsFall, SumTo}
+use Rattle.filtered_lists.specs.Standing.{ListsDescend, SumTo}
 use Rattle.filtered_lists.proofs.Lists.{rows_within}
-use Rattle.query_bounds.specs.Bounds.{entry_bounds, scan_bounds, scan_rows}
+use Rattle.query_bounds.specs.Bounds.{entry_bounds, scan_bounds, scan_row_bound}
 use Rattle.query_bounds.specs.Statistics.{StandFor, Statistics}
 use Rattle.query_bounds.proofs.Levels.{scan_within}
 use Rattle.query_bounds.proofs.Sets as sets
@@ -34,7 +35,7 @@ use Rattle.planning.proofs.FromLists.{levels_bound, stand_in_every_set}
 use Rattle.planning.proofs.ScanBounds.{have_lists, stand_for_scans}
 
 pub one_scan_each : (query : Query) (tables : Tables) (accuracy : ℕ) → length (scan_bounds_of query tables accuracy) ≡ length query.from
-one_scan_each query tables accuracy = length-map-range_with_len (scan_rows query (statistics_of tables accuracy)) 0 (length query.from)
+one_scan_each query tables accuracy = length-map-range_with_len (scan_row_bound query (statistics_of tables accuracy)) 0 (length query.from)
 
 module _ (query : Query) (known : Statistics) (tables : Tables) (key : Keys) (stands : StandFor query known tables key) where
   scan_fits : (entry : ℕ) → entry < length query.from → length (query_scan query tables entry) ≤ get_or (scan_bounds query known) entry 0
@@ -43,7 +44,7 @@ module _ (query : Query) (known : Statistics) (tables : Tables) (key : Keys) (st
   pub scans_bound : ((entry : ℕ) → entry < length query.from → (known.counts entry).whole ≤ row_counts tables entry)
       → BoundLists query tables (scans_of query tables) (scan_bounds query known)
   scans_bound few = record {
-    one_each = length-map-range_with_len (scan_rows query known) 0 (length query.from);
+    one_each = length-map-range_with_len (scan_row_bound query known) 0 (length query.from);
     fit = λ entry low.
         subst (λ (s : List ℕ). length s ≤ get_or (scan_bounds query known) entry 0) (sym (scan_at query tables entry low)) (scan_fits entry low);
     within = λ entry low.
@@ -64,7 +65,7 @@ module _ (query : Query) (tables : Tables) (accuracy : ℕ) where
       let f : Facts tables accuracy = facts tables accuracy in
       stand_for_scans query (statistics_of tables accuracy) tables f.key (stand_for query tables accuracy f)
       (have_lists query (statistics_of tables accuracy)
-      (each_column (λ entry column. ListsFall (column_lists tables accuracy entry column) × SumTo (column_lists tables accuracy entry column) (entry_counts tables entry))
+      (each_column (λ entry column. ListsDescend (column_lists tables accuracy entry column) × SumTo (column_lists tables accuracy entry column) (entry_counts tables entry))
       (equalities_of query) (λ entry column. (f.falls entry column, f.sums entry column))))
       (f.joins (equalities_of query))
 

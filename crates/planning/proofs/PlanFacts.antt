@@ -38,7 +38,7 @@ module _ (query : Query) (tables : Tables) (accuracy budget : ℕ) where
     unfolding planned
     is_best = is_best_from sets scans (length query.from) budget (one_scan_each query tables accuracy) plan made
 
-    -- ---- scans
+    -- ---- the bounds of the plan's scans
 
     scan_is : (entry : ℕ) → get_or plan.scans entry 0 ≡ get_or (scan_bounds_of query tables accuracy) entry 0
     unfolding planned
@@ -50,7 +50,7 @@ module _ (query : Query) (tables : Tables) (accuracy budget : ℕ) where
     pub scan_within : (entry : ℕ) → entry < length query.from → get_or plan.scans entry 0 ≤ row_counts tables entry
     scan_within entry low = omega (arith, scan_is entry, scan_small query tables accuracy entry low)
 
-    -- ---- levels
+    -- ---- the bounds of the plan's levels
 
     pub level_within : (k : ℕ) → get_or plan.levels k 0 ≤ budget
     unfolding planned

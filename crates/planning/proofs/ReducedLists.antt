@@ -1,4 +1,4 @@
--- Lists of scanned rows are lists of rows of the query's database, in the form in which the code takes them.
+-- Lists of scanned rows are lists of rows of the query's database, in the form that the code requires.
 use Rattle.std.proofs.Common.{◌≡◌, ℕ, ◌+◌, ◌<◌, ◌≤◌, List, [], ◌∷◌, length, get_or, refl, ap, sym, ◌∙◌, subst, arith, inl, inr}
 use Rattle.std.specs.List.{Contains}
 use Rattle.std.proofs.lemmas.Bool.{cases_lt}

@@ -1,4 +1,4 @@
--- What is proved of plans over lists applies to the reduced scans, and to the scans themselves.
+-- The laws of plans over lists apply to the reduced scans, and to the scans themselves.
 use Rattle.std.proofs.Common.{◌≡◌, ℕ, ◌<◌, List, Ok, length, map, ap, sym, ◌∙◌, subst, arith}
 use Rattle.std.specs.Prelude.{IsPermutation}
 use Rattle.std.specs.List.{Contains}

@@ -1,4 +1,4 @@
--- Bounds of entries that agree in all row bounds, and in the lists of the columns that equalities name, give all sets the same bounds.
+-- Two bounds of entries give all sets the same bounds if they agree in all row bounds, and in the lists of the columns that equalities name.
 use Rattle.std.proofs.Common.{◌≡◌, ℕ, ◌*◌, ◌-◌, ◌^◌, List, [], ◌∷◌, map, refl, ap, ◌∙◌}
 use Rattle.std.specs.Prelude.{All}
 use Rattle.std.specs.List.{AllByRecursion, range_with_len}

@@ -14,10 +14,10 @@ use Rattle.sql_meaning.specs.Tables.{Tables}
 use Rattle.join_steps.specs.Lists.{list_at, scans_of}
 use Rattle.join_steps.proofs.WholeScans.{scan_at}
 use Rattle.level_bounds.specs.Keys.{AreKeys, Keys}
-use Rattle.filtered_lists.specs.Standing.{ListsFall, ListsStandFor, SumTo}
+use Rattle.filtered_lists.specs.Standing.{ListsDescend, ListsStandFor, SumTo}
 use Rattle.filtered_lists.proofs.Counting.{list_dominates}
 use Rattle.filtered_lists.proofs.Lists.{filtered_falls, sum-filtered}
-use Rattle.query_bounds.specs.Bounds.{entry_bounds, is_among, joined_columns, scan_list, scan_rows}
+use Rattle.query_bounds.specs.Bounds.{entry_bounds, is_among, joined_columns, scan_list, scan_row_bound}
 use Rattle.query_bounds.specs.Statistics.{StandFor, Statistics}
 use Rattle.query_bounds.proofs.Holding.{pair_at}
 use Rattle.query_bounds.proofs.Levels.{scan_fits}
@@ -33,14 +33,14 @@ named_all Q (e ∷ es) both =
     (here.0, (here.1, named_all Q es (λ k d low. both (suc k) d (omega arith))))
 
 module _ (query : Query) (known : Statistics) where
-  rows_at : (entry : ℕ) → entry < length query.from → (entry_bounds query known).rows entry ≡ scan_rows query known entry
-  rows_at entry low = ap (λ (t : Bool). if t then scan_rows query known entry else 0) (lt-ltb entry (length query.from) low)
+  rows_at : (entry : ℕ) → entry < length query.from → (entry_bounds query known).rows entry ≡ scan_row_bound query known entry
+  rows_at entry low = ap (λ (t : Bool). if t then scan_row_bound query known entry else 0) (lt-ltb entry (length query.from) low)
 
   joined_list : (entry column : ℕ) → is_among (joined_columns query) entry column ≡ true
       → (entry_bounds query known).list entry column ≡ scan_list query known entry column
   joined_list entry column among = ap (λ (t : Bool). if t then scan_list query known entry column else []) among
 
-  has_list : (entry column : ℕ) → ListsFall (known.lists entry column) → SumTo (known.lists entry column) (known.counts entry)
+  has_list : (entry column : ℕ) → ListsDescend (known.lists entry column) → SumTo (known.lists entry column) (known.counts entry)
       → entry < length query.from
       → is_among (joined_columns query) entry column ≡ true → HasList (entry_bounds query known) entry column
   has_list entry column falls sums low among = record {
@@ -54,7 +54,7 @@ module _ (query : Query) (known : Statistics) where
     scan_stands : (entry : ℕ) → entry < length query.from → length (list_at (scans_of query tables) entry) ≤ (entry_bounds query known).rows entry
     scan_stands entry low =
         subst (λ (n : ℕ). length (list_at (scans_of query tables) entry) ≤ n) (sym (rows_at entry low))
-        (subst (λ (s : List ℕ). length s ≤ scan_rows query known entry) (sym (scan_at query tables entry low))
+        (subst (λ (s : List ℕ). length s ≤ scan_row_bound query known entry) (sym (scan_at query tables entry low))
         (scan_fits query known tables key entry stands low))
 
     dominates : (entry column : ℕ) → is_among (joined_columns query) entry column ≡ true
@@ -83,12 +83,12 @@ module _ (query : Query) (known : Statistics) where
           ));
     }
 
-  pub have_lists : EachNamedColumn (λ entry column. ListsFall (known.lists entry column) × SumTo (known.lists entry column) (known.counts entry)) (equalities_of query)
+  pub have_lists : EachNamedColumn (λ entry column. ListsDescend (known.lists entry column) × SumTo (known.lists entry column) (known.counts entry)) (equalities_of query)
       → JoinedHaveLists query (entry_bounds query known)
   have_lists named =
       named_all (λ entry column. entry < length query.from → HasList (entry_bounds query known) entry column) (equalities_of query) (λ k d low.
       let among = both_among (equalities_of query) k d low in
-      let both = pair_at (λ entry column. ListsFall (known.lists entry column) × SumTo (known.lists entry column) (known.counts entry)) (equalities_of query) named k d low in
+      let both = pair_at (λ entry column. ListsDescend (known.lists entry column) × SumTo (known.lists entry column) (known.counts entry)) (equalities_of query) named k d low in
       let l : Place = (get_or (equalities_of query) k d).left in
       let r : Place = (get_or (equalities_of query) k d).right in (
         (λ below. has_list l.entry l.column both.0.0 both.0.1 below among.0),

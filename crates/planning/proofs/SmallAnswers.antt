@@ -1,4 +1,4 @@
--- These examples compute answers over small tables. Their reduced scans are computed in SmallReductions.
+-- The answers over small tables, by computation. The reduced scans of these tables are computed in SmallReductions.
 use Rattle.std.proofs.Common.{◌≡◌, ℕ, Bool, true, ◌&&◌, List, [], ◌∷◌, Ok, length, map, refl, ap, ◌∙◌, arith}
 use Rattle.std.specs.Prelude.{pos, slice_index}
 use Rattle.std.specs.List.{filter}
@@ -33,7 +33,7 @@ use Rattle.planning.specs.ReducedExamples.{crossed_tables, empty_first, never_tr
 use Rattle.planning.specs.Plans.{planned_reduced}
 use Rattle.planning.proofs.SmallReductions.{another_reduced, plan_computed, reduced_from}
 
--- the answer is computed with one test that says whether every conjunct holds
+-- the answer, computed by a single test that says whether every conjunct holds
 answer_by : (query : Query) (tables : Tables) (test : (ℕ → ℕ) → Bool) → ((row_of : ℕ → ℕ) → query_holds query tables row_of ≡ test row_of)
     → answer query tables ≡ map (λ choice. selected query tables (slice_index choice)) (filter (λ choice. test (slice_index choice)) (choices_of (row_counts tables) (entries_of query)))
 answer_by query tables test is =
@@ -44,7 +44,7 @@ answer_by query tables test is =
 abbrev equal : Tables → (ℕ → ℕ) → Operand → Operand → Bool
 equal tables row_of left right = comparison_holds tables row_of op.Eq left right
 
--- ---- R and S
+-- ---- the answer over R and S
 
 pair_test : (row_of : ℕ → ℕ) → query_holds pair small_tables row_of ≡ (equal small_tables row_of (column_operand 0 0) (column_operand 1 0) && true)
 pair_test row_of = rw (holds_compare small_tables row_of op.Eq (column_operand 0 0) (column_operand 1 0)) refl
@@ -54,7 +54,7 @@ pair_answer =
     ap (λ (rows : List Row). length rows)
     (answer_by pair small_tables (λ row_of. equal small_tables row_of (column_operand 0 0) (column_operand 1 0) && true) pair_test)
 
--- ---- a condition that never holds
+-- ---- the answer with a condition that never holds
 
 never_test : (row_of : ℕ → ℕ) → query_holds never_true small_tables row_of
     ≡ (equal small_tables row_of (column_operand 0 0) (column_operand 1 0) && (equal small_tables row_of (operand.Int (pos 1)) (operand.Int (pos 2)) && true))
@@ -69,7 +69,7 @@ never_answer =
     answer_by never_true small_tables
     (λ row_of. equal small_tables row_of (column_operand 0 0) (column_operand 1 0) && (equal small_tables row_of (operand.Int (pos 1)) (operand.Int (pos 2)) && true)) never_test
 
--- ---- an empty table beside another one
+-- ---- an empty table, and a table that isn't joined
 
 another_sets : set_bounds_over with_another empty_first ([] ∷ [] ∷ (0 ∷ 1 ∷ []) ∷ []) 1 ≡ 1 ∷ 0 ∷ 0 ∷ 0 ∷ 2 ∷ 0 ∷ 0 ∷ 0 ∷ []
 unfolding entries_of_set
@@ -84,7 +84,7 @@ another_plan =
     plan_computed with_another empty_first ([] ∷ [] ∷ (0 ∷ 1 ∷ []) ∷ []) 1 1 (1 ∷ 0 ∷ 0 ∷ 0 ∷ 2 ∷ 0 ∷ 0 ∷ 0 ∷ []) (0 ∷ 0 ∷ 2 ∷ []) another_reduced another_sets refl
     ∙ another_chosen
 
--- ---- a cycle
+-- ---- three tables joined in a cycle
 
 abbrev two_each : List (List ℕ)
 two_each = (0 ∷ 1 ∷ []) ∷ (0 ∷ 1 ∷ []) ∷ (0 ∷ 1 ∷ []) ∷ []

@@ -1,4 +1,4 @@
--- These examples compute the plans of two small tables.
+-- The plans of two small tables, by computation.
 use Rattle.std.proofs.Common.{◌≡◌, ℕ, List, [], ◌∷◌, Ok, Err, refl, ap, ◌∙◌, arith}
 use Rattle.entry_sets.specs.Sets.{entries_of_set}
 use Rattle.plans.specs.Examples.{plan_of}

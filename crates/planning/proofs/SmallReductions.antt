@@ -1,4 +1,4 @@
--- These examples compute reduced scans and plans of small tables.
+-- The reduced scans and plans of small tables, by computation.
 use Rattle.std.proofs.Common.{◌≡◌, ℕ, ◌+◌, true, not, ◌&&◌, ◌||◌, List, [], ◌∷◌, Ok, refl, ap, ◌∙◌, arith}
 use Rattle.std.specs.Prelude.{pos}
 use Rattle.std.specs.List.{list_all, range_with_len}
@@ -186,7 +186,7 @@ pub triangle_plan : planned_reduced triangle three_tables 1 9 ≡ Ok (plan_of (0
 triangle_plan =
     plan_computed triangle three_tables three_each 1 9 (1 ∷ 3 ∷ 3 ∷ 5 ∷ 3 ∷ 5 ∷ 5 ∷ 9 ∷ []) (3 ∷ 3 ∷ 3 ∷ []) triangle_reduced triangle_sets refl ∙ triangle_chosen
 
--- ---- an empty table, and a condition that names no entry
+-- ---- an empty table, and a constant condition that is false
 
 another_joined : equalities_of with_another ≡ edge_of 0 0 1 0 ∷ []
 another_joined = rw (equality_two 0 0 1 0 (λ e. absurd (omega (arith, e)))) refl

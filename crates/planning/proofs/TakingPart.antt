@@ -1,5 +1,5 @@
--- In the lists of a consistent family each row has its partners. If equalities close no cycle, each of these rows takes part in a choice for all
--- entries connected with its own.
+-- In the lists of a consistent family each row has its partners. So, if equalities close no cycle, each row takes part in a choice for all entries
+-- connected with its own.
 use Rattle.std.proofs.Common.{◌≡◌, ℕ, true, false, not, ◌||◌, eqb, List, [], ◌∷◌, length, refl, ap, sym, ◌∙◌, subst, inl, inr, Some}
 use Rattle.std.specs.List.{Contains, list_all, range_with_len}
 use Rattle.std.proofs.lemmas.Bool.{and_from, cases_lt, eqb-true, false≢true, or_cases}

@@ -12,11 +12,11 @@ use Rattle.gathered_stats.specs.Statistics.{statistics_of}
 abbrev pub scan_bounds_of : Query → Tables → ℕ → List ℕ
 scan_bounds_of query tables accuracy = scan_bounds query (statistics_of tables accuracy)
 
--- the bound of each set of entries. A set's index is the number whose bits are the set
+-- the bound of each set of entries. A set's index is the number whose bits are the set's entries
 abbrev pub set_bounds_of : Query → Tables → ℕ → List ℕ
 set_bounds_of query tables accuracy = set_bounds query (statistics_of tables accuracy)
 
--- bounds of entries from whole tables without compression: the number of rows of each table, and the degree list of each column
+-- bounds of entries without compression: the number of rows of each table, and the degree list of each column
 abbrev pub whole_columns : Tables → EntryBounds
 whole_columns tables = record {
   rows = row_counts tables;

@@ -1,4 +1,4 @@
--- Which bounds a `QueryBounds` has.
+-- The bounds in a `QueryBounds`.
 use Rattle.std.specs.Prelude.{◌≡◌, ℕ, List}
 use Rattle.planning.specs.declared.known.QueryBounds.{QueryBounds}
 

@@ -22,7 +22,7 @@ entry_bounds_over tables lists accuracy = record {
   list = λ entry column. compressed_degrees accuracy (as_first_rows (listed_values tables lists entry column));
 }
 
--- the bound of each set of entries. A set's index is the number whose bits are the set
+-- the bound of each set of entries. A set's index is the number whose bits are the set's entries
 abbrev pub set_bounds_over : Query → Tables → List (List ℕ) → ℕ → List ℕ
 set_bounds_over query tables lists accuracy =
     bounds_of_sets (entry_bounds_over tables lists accuracy) (equalities_of query) (length query.from)

@@ -1,4 +1,4 @@
--- Plans from any bounds of entries, and the plans of a query from its statistics or from lists of rows.
+-- Plans from any bounds of entries. Plans of a query from its statistics, or from lists of rows.
 use Rattle.std.specs.Prelude.{ℕ, List, length, Result}
 use Rattle.berge_tree.specs.declared.edges.Edge.{Edge}
 use Rattle.plans.specs.declared.left_deep.Plan.{Plan}

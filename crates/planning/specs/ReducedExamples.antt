@@ -1,4 +1,4 @@
--- Queries over small tables, for worked examples.
+-- Queries over small tables, for examples.
 use Rattle.std.specs.Prelude.{ℕ, ◌==◌, if◌then◌else◌, List, [], ◌∷◌, ◌++◌, map, pos}
 use Rattle.csv_tables.specs.Rows.{Row}
 use Rattle.csv_tables.specs.Values.{Int}
@@ -19,7 +19,7 @@ numbers row = map (λ n. Int (pos n)) row
 abbrev pub source : ℕ → ℕ → Source
 source table letter = record { table = table; alias = letter ∷ [] }
 
--- two columns are equal, each given by its entry and its number
+-- the condition that two columns are equal. Each column is given by its entry and its number
 abbrev pub columns_equal : ℕ → ℕ → ℕ → ℕ → Cond
 columns_equal left a right b = Compare op.Eq (column_operand left a) (column_operand right b)
 
@@ -31,7 +31,7 @@ by_region = record {
   select = record { column = record { from = 0; column = 0 }; name = 78 ∷ [] } ∷ [];
 }
 
--- O(N, CID) of (1, 1), (2, 2), (3, 2), (4, 2), (5, 2) and C(ID, REG) of (1, 3), (2, 4), (3, 4), (4, 4)
+-- the tables O(N, CID) of (1, 1), (2, 2), (3, 2), (4, 2), (5, 2) and C(ID, REG) of (1, 3), (2, 4), (3, 4), (4, 4)
 abbrev pub region_tables : Tables
 region_tables entry =
     map numbers (if entry == 0 then (1 ∷ 1 ∷ []) ∷ (2 ∷ 2 ∷ []) ∷ (3 ∷ 2 ∷ []) ∷ (4 ∷ 2 ∷ []) ∷ (5 ∷ 2 ∷ []) ∷ []
@@ -45,7 +45,7 @@ chain_query = record {
   select = record { column = record { from = 0; column = 0 }; name = 88 ∷ [] } ∷ [];
 }
 
--- A(X) of 1, 2, 3, B(X, Y) of (1, 1), (2, 2), (3, 9) and D(Y) of 1
+-- the tables A(X) of 1, 2, 3, B(X, Y) of (1, 1), (2, 2), (3, 9) and D(Y) of 1
 abbrev pub chain_tables : Tables
 chain_tables entry =
     map numbers (if entry == 0 then (1 ∷ []) ∷ (2 ∷ []) ∷ (3 ∷ []) ∷ []
@@ -59,7 +59,7 @@ with_another = record { from = pair.from ++ source 2 85 ∷ []; conjuncts = pair
 abbrev pub empty_first : Tables
 empty_first entry = map numbers (if entry == 0 then [] else (1 ∷ []) ∷ (2 ∷ []) ∷ [])
 
--- R(A, C) and S(A, B) of (1, 1) and (2, 2), and T(B, C) of (1, 2) and (2, 1), which are joined in a triangle
+-- the tables R(A, C) and S(A, B) of (1, 1) and (2, 2), and T(B, C) of (1, 2) and (2, 1). They are joined in a triangle
 abbrev pub crossed_tables : Tables
 crossed_tables entry =
     map numbers (if entry == 2 then (1 ∷ 2 ∷ []) ∷ (2 ∷ 1 ∷ []) ∷ [] else (1 ∷ 1 ∷ []) ∷ (2 ∷ 2 ∷ []) ∷ [])

@@ -1,4 +1,4 @@
--- When bounds of entries stand for lists of rows, and when bounds of scans and of sets are never too low for such lists.
+-- Bounds of entries that stand for lists of rows. Bounds of scans and of sets that are never too low for such lists.
 use Rattle.std.specs.Prelude.{◌≡◌, ◌⊎◌, ℕ, ◌^◌, ◌<◌, ◌≤◌, List, length, map, slice_index}
 use Rattle.limits.specs.Profile.{top_bound}
 use Rattle.degree_sequences.specs.Domination.{DominatesKeys}
@@ -19,9 +19,9 @@ use Rattle.level_bounds.specs.Orders.{IsOrderOfSet}
 
 -- ---- bounds of entries
 
--- `bounds` stands for the listed rows in a set. `taking` has the listed rows that may take part in a choice for the set: without the other rows no
--- choice of the set's level is lost. Each entry of the set has at most as many rows in `taking` as its row bound. The degree sequence of each column
--- that joins two entries of the set dominates the degrees of these rows' keys
+-- `bounds` stands for the listed rows in a set. `taking` has lists of scanned rows that suffice: the set's level over them is the level over the
+-- listed rows. Each entry of the set has at most as many rows in `taking` as its row bound. The degree sequence of each column that joins two entries
+-- of the set dominates the degrees of these rows' keys
 pub record StandInSet (query : Query) (tables : Tables) (lists : List (List ℕ)) (key : Keys) (bounds : EntryBounds) (subset : ℕ) : Type 0 where
   pub taking : List (List ℕ)
   pub are : AreOfScans query tables taking
@@ -37,7 +37,7 @@ pub record StandForLists (query : Query) (tables : Tables) (lists : List (List �
 
 -- ---- bounds of entries that are the same in every set
 
--- each column of a FROM entry that an equality joins has its degree sequence
+-- each joined column of a FROM entry has its degree sequence
 abbrev pub JoinedHaveLists : Query → EntryBounds → Type 0
 JoinedHaveLists query bounds = EachNamedColumn (λ entry column. entry < length query.from → HasList bounds entry column) (equalities_of query)
 
@@ -47,8 +47,8 @@ pub record ColumnStands (lists : List (List ℕ)) (key : Keys) (bounds : EntryBo
   pub has : HasList bounds entry column
   pub dominates : DominatesKeys (bounds.list entry column) (map (key entry column) (list_at lists entry))
 
--- rows that an equality joins have the same key. The row bound of each FROM entry is at least the number of its listed rows, and `ColumnStands` is
--- true for each of its columns that an equality joins
+-- rows that an equality joins have the same key. The row bound of each FROM entry is at least the number of its listed rows. `ColumnStands` is true
+-- for each column that an equality joins
 pub record EntriesStand (query : Query) (tables : Tables) (lists : List (List ℕ)) (key : Keys) (bounds : EntryBounds) : Type 0 where
   pub keys : AreKeys tables key (equalities_of query)
   pub rows : (entry : ℕ) → entry < length query.from → listed_row_count lists entry ≤ bounds.rows entry

@@ -17,8 +17,8 @@ abbrev pub JoinsByEqualitiesAlone : Query → Type 0
 JoinsByEqualitiesAlone query = (cond : Cond) → Contains query.conjuncts cond
     → ((e : Edge) × (equality_of cond ≡ Some e)) ⊎ ((entry : ℕ) × (are_within (entries_named cond) (entry ∷ []) ≡ true))
 
--- the row takes part in a choice: `row_of` has this row for its own entry and a listed row for each entry that is connected with it,
--- and every conjunct that names a connected entry holds
+-- the row takes part in a choice: `row_of` has this row for its own entry, and a listed row for each entry that is connected with it. Every conjunct
+-- that names a connected entry holds for `row_of`
 pub record TakesPart (query : Query) (tables : Tables) (lists : List (List ℕ)) (entry row : ℕ) : Type 0 where
   pub row_of : ℕ → ℕ
   pub its_own : row_of entry ≡ row

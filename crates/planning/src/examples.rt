@@ -7,8 +7,8 @@ ghost use Rattle.planning.specs.Bounds.{scan_bounds_of, set_bounds_of};
 ghost use Rattle.planning.specs.Examples.{small_tables};
 ghost use Rattle.planning.specs.Plans.{planned};
 
-/// R(X) of 1, 1, 1, 2, 2, 3 and S(X) of 1, 1, 4, 5, 6, joined by X. The bounds are 1 for no entry, 6 for R, 5 for S, and 12 for both, or 9
-/// at accuracy 3. Both orders cost 12, and S, R has the smaller sum.
+/// R(X) of 1, 1, 1, 2, 2, 3 and S(X) of 1, 1, 4, 5, 6, joined by X. The bounds are 1 for no entry, 6 for R and 5 for S. The bound for both entries is
+/// 12 at accuracy 1, and 9 at accuracy 3. Both orders cost 12, and the order S, R has the smaller sum.
 pub fn small_plans()
     ensures scans { scan_bounds_of pair small_tables 1 ≡ 6 ∷ 5 ∷ [] }
     ensures sets { set_bounds_of pair small_tables 1 ≡ 1 ∷ 6 ∷ 5 ∷ 12 ∷ [] }

@@ -1,4 +1,4 @@
-//! The bounds of all sets of a query's entries and of its scans, whatever they were made from, and the plan that is chosen by them.
+//! Computes the bounds of all sets of a query's entries, and chooses a plan by these bounds and those of the scans.
 ghost use Rattle.std.specs.Prelude.{◌≡◌, ◌⊎◌, ◌^◌, ◌<◌, ◌≤◌, ℕ, Err, IfOk, length};
 ghost use Rattle.limits.specs.Profile.{most_budget, most_entries};
 ghost use Rattle.order_search.specs.declared.refusal.PlanError.TheVariants as error;
@@ -13,18 +13,19 @@ use plans::Plan;
 use set_bounds::{KnownInSets, bounds_in_sets};
 use std::alloc::Global;
 
-/// A bound for each set of a query's entries, and for each scan, in FROM order. All are in rows. A set's index is the number whose bits are the set.
+/// A bound for each set of a query's entries, and a bound for each scan, in FROM order. Bounds are in rows. A set's index is the number whose bits
+/// are the set's entries.
 #[derive(Drop)]
 pub struct QueryBounds {
     pub sets: Seq<u128>,
     pub scans: Seq<u64>,
 }
 
-/// The bounds of all sets of the entries, from each entry's row bound and the degree sequences of its joined columns. Row bounds and degree
-/// sequences may depend on the set. The bounds of the scans are kept as they are given.
+/// The bounds of all sets of the entries, from each entry's row bound and the degree sequences of its joined columns. Row bounds and degree sequences
+/// may depend on the set. The bounds of the scans are taken over unchanged.
 ///
-/// In each turn the bounds of a set's trees, which come from the degree sequences of their columns, are multiplied. The set's bound is the least of
-/// these products (SafeBound, SIGMOD 2023; Degree Sequence Bound, ICDT 2023).
+/// In each turn, the set has trees, and each tree has a bound from the degree sequences of its columns. The trees' bounds are multiplied. The set's
+/// bound is the least of these products (SafeBound, SIGMOD 2023; Degree Sequence Bound, ICDT 2023).
 pub fn bounds_from<K: KnownInSets>(
     alloc: Global,
     parts: &Parts,
@@ -41,10 +42,10 @@ pub fn bounds_from<K: KnownInSets>(
     Ok(QueryBounds { sets, scans })
 }
 
-/// The best order of the entries by these bounds, with the bounds of its scans and levels, or why no order is within the budget. All
+/// The best order of the entries by these bounds, with the bounds of its scans and levels. The error says why no order is within the budget. All
 /// numbers are in rows, and the budget is at most 20,000,000.
 ///
-/// It answers `Budget` or `PastBits` exactly if `plan_answer` does, and `NoMemory` if memory runs out.
+/// The error is `Budget` or `PastBits` exactly if `plan_answer` says so, and `NoMemory` if memory runs out.
 pub fn plan_from(alloc: Global, known: &QueryBounds, budget: u64) -> Result<Plan, PlanError>
     requires some { 1 ≤ length known.now.scans }
     requires few { length known.now.scans ≤ most_entries }

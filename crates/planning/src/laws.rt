@@ -1,7 +1,7 @@
-//! Laws of the bounds and plans of a query over its tables, and of plans from any bounds of entries. No law computes anything: the contract
-//! is the law.
+//! Laws of the bounds and plans of a query over its tables, and of plans from any bounds of entries. Each function does nothing; its contract is the
+//! law.
 //!
-//! The tables are plain rows, with no cells and no pool of texts.
+//! The tables are lists of rows of values, without cells and a pool of texts.
 ghost use Rattle.std.specs.Prelude.{◌≡◌, ◌≢◌, ◌⊎◌, ◌+◌, ◌*◌, ◌^◌, ◌<◌, ◌≤◌, ℕ, List, [], Ok, Err, length, slice_index, take};
 ghost use Rattle.limits.specs.Profile.{most_budget, most_entries, top_bound};
 ghost use Rattle.entry_sets.specs.Sets.{entries_of_set};
@@ -32,7 +32,8 @@ ghost use Rattle.planning.specs.Bounds.{scan_bounds_of, set_bounds_of, whole_col
 ghost use Rattle.planning.specs.Plans.{planned, planned_from};
 ghost use Rattle.planning.specs.Standing.{BoundLevels, BoundLists, EntriesStand, JoinedHaveLists, StandForLists};
 
-/// The statistics of any tables stand for these tables: what they say of the rows is true. Rows that an equality joins have the same key.
+/// The statistics of any tables stand for these tables: no row count is too low, and the lists dominate the keys. Rows that an equality joins have
+/// the same key.
 pub fn statistics_stand()
     ensures { (query : Query) (tables : Tables) (accuracy : ℕ)
         → (key : Keys) × StandFor query (statistics_of tables accuracy) tables key × AreKeys tables key (equalities_of query) }
@@ -50,7 +51,7 @@ pub fn bounds_are_never_under()
 {}
 
 /// If no conjunct names just one entry, bounds are near the uncompressed bounds, which are made from the degree sequences of whole columns. At
-/// accuracy K, K^n times the bound of a set of n entries is at most (K + 1)^n times its uncompressed bound.
+/// accuracy K, the bound of a set of n entries, times K^n, is at most its uncompressed bound times (K + 1)^n.
 pub fn bounds_are_near()
     ensures { (query : Query) (tables : Tables) (accuracy subset : ℕ)
         → ((entry : ℕ) → own_conjuncts entry query.conjuncts ≡ []) → subset < 2 ^ length query.from
@@ -58,13 +59,13 @@ pub fn bounds_are_near()
         ≤ (accuracy + 1) ^ length (entries_of_set subset) * bound_of_set (whole_columns tables) (equalities_of query) subset }
 {}
 
-/// The answer `planned` of a query over its tables is never `NoMemory`.
+/// The result `planned` of a query over its tables is never `NoMemory`.
 pub fn plans_want_no_memory()
     ensures { (query : Query) (tables : Tables) (accuracy budget : ℕ) → planned query tables accuracy budget ≢ Err error.NoMemory }
 {}
 
-/// The order of a plan is the best one, and no bound in the plan is too low. A scan's bound is at most the number of rows of its table, and a level's
-/// bound at most the budget.
+/// The order of a plan is the best order, and no bound in the plan is too low. A scan's bound is at most the number of rows of its table. A level's
+/// bound is at most the budget.
 pub fn plans_are_never_under()
     ensures plan { (query : Query) (tables : Tables) (accuracy budget : ℕ) (plan : Plan)
         → planned query tables accuracy budget ≡ Ok plan → IsPlan (length query.from) plan }
@@ -79,7 +80,7 @@ pub fn plans_are_never_under()
         → length query.from ≤ most_entries → budget ≤ most_budget
         → planned query tables accuracy budget ≡ Ok plan → k < length query.from
         → length (level_over_entries query tables (take (k + 1) plan.order)) ≤ slice_index plan.levels k }
-    // the same for level k + 1 of the order
+    // the same for `level`, which counts the entries: level k + 1 has the first k + 1 entries of the order
     ensures levels_of_order { (query : Query) (tables : Tables) (accuracy budget : ℕ) (plan : Plan) (k : ℕ)
         → length query.from ≤ most_entries → budget ≤ most_budget
         → planned query tables accuracy budget ≡ Ok plan → k < length query.from
@@ -92,19 +93,19 @@ pub fn plans_are_never_under()
         → slice_index plan.levels k ≤ budget }
 {}
 
-/// This law is about all plans, wherever their bounds come from. Suppose that no level over lists of scanned rows has more rows than the bound of its
-/// set. Suppose also that each scan's bound is at least the number of its listed rows, and at most the number of rows of its table. Then the plan is
-/// a plan over these lists (`IsPlanOf`), so no bound in it is too low. The first condition holds if the bounds of the entries in each set stand for
-/// the lists (`StandForLists`). Statistics of the tables stand for the scans, and degree sequences of listed rows stand for these rows.
+/// This law is about all plans, wherever their bounds come from. It has two premises. First, no level over lists of scanned rows has more rows than
+/// the bound of its set. Second, each scan's bound is at least the number of its listed rows, and at most the number of rows of its table. Then the
+/// plan is a plan over these lists (`IsPlanOf`), so no bound in it is too low. The first premise holds if the bounds of the entries in each set stand
+/// for the lists (`StandForLists`). Statistics of the tables stand for the scans, and degree sequences of listed rows stand for these rows.
 pub fn plans_from_lists_are_never_under()
     ensures sets { (query : Query) (tables : Tables) (lists : List (List ℕ)) (key : Keys) (bounds : ℕ → EntryBounds)
         → StandForLists query tables lists key bounds
         → BoundLevels query tables lists (bounds_in_sets bounds (equalities_of query) (length query.from)) }
-    // bounds of entries that are the same in every set
+    // for bounds of entries that are the same in every set
     ensures everywhere { (query : Query) (tables : Tables) (lists : List (List ℕ)) (key : Keys) (bounds : EntryBounds)
         → AreOfScans query tables lists → EntriesStand query tables lists key bounds
         → StandForLists query tables lists key (in_every_set bounds) }
-    // statistics that stand for the tables stand for the scans
+    // for statistics: if they stand for the tables, they stand for the scans
     ensures statistics { (query : Query) (known : Statistics) (tables : Tables) (key : Keys) → StandFor query known tables key
         → JoinedHaveLists query (entry_bounds query known) → AreKeys tables key (equalities_of query)
         → EntriesStand query tables (scans_of query tables) key (entry_bounds query known) }

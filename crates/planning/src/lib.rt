@@ -1,13 +1,14 @@
-//! From a query and its database to the best order of its entries, with the bounds of scans and levels.
+//! Finds the best order of a query's entries from its database, with the bounds of scans and levels.
 //!
-//! In: a query and the tables of its entries. Each entry gets a row bound, and each of its joined columns a degree sequence. Both are made from
-//! statistics of the entry's table (`from_statistics`), or from a list of its rows, such as its reduced scan (`from_reduced`). From these
-//! `bounds_from` makes the bounds of all sets of entries, a `QueryBounds`, and `plan_from` chooses the order of least cost. Out: the plan, or why no plan
-//! is within the budget. `from_reduced` returns the reduced scans too, since the plan's levels are joined from them.
+//! In: a query and the tables of its entries. Each entry gets a row bound, and each of its joined columns a degree sequence. They are made from
+//! statistics of the entry's table (`from_statistics`), or from a list of its rows, such as its reduced scan (`from_reduced`). Then `bounds_from`
+//! makes the bounds of all sets of entries, a `QueryBounds`. By these bounds `plan_from` chooses the order of least cost. Out: the plan, or why no
+//! plan is within the budget. `from_reduced` returns the reduced scans too, since the plan's levels are joined from them.
 //!
-//! Callers cite `HasBounds` for the bounds in a `QueryBounds`, and `planned_from` (in `specs/Plans.antt`) for the answer. `planned`,
-//! `planned_over` and `planned_reduced` are this answer for bounds from different sources. Each is a function of the query, its plain
-//! tables, the accuracy and the budget, and `planned_over` also of the lists. The laws say that no bound of a plan is too low.
+//! In contracts `HasBounds` says which bounds a `QueryBounds` has, and `planned_from` (in `specs/Plans.antt`) is the resulting plan. `planned`,
+//! `planned_over` and `planned_reduced` are plans from statistics, from lists of rows and from reduced scans. Each is a function of the query, its
+//! tables as rows of values, the accuracy and the budget. `planned_over` has the lists as a further argument. The laws say that no bound of a plan is
+//! too low.
 //!
 //! ```text
 //! let known = from_statistics(alloc, &query, &db, accuracy)?;
@@ -16,7 +17,6 @@
 //! ```
 #![tactic(auto)]
 
-mod bounds;
 mod examples;
 mod known;
 pub mod laws;
@@ -28,7 +28,6 @@ mod rows;
 mod scans;
 mod sources;
 
-pub use bounds::{scan_bounds, subset_bounds};
 pub use examples::small_plans;
 pub use known::{QueryBounds, bounds_from, plan_from};
 pub use reduced::{Reduced, from_reduced, reduced_lists};

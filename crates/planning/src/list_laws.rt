@@ -1,4 +1,4 @@
-//! Laws of bounds and plans over lists of rows. No law computes anything: the contract is the law.
+//! Laws of bounds and plans over lists of rows. Each function does nothing; its contract is the law.
 ghost use Rattle.std.specs.Prelude.{◌≡◌, ◌≢◌, ◌⊎◌, ◌^◌, ◌<◌, ◌≤◌, ℕ, IsPermutation, List, Ok, Err, length, map, slice_index};
 ghost use Rattle.std.specs.List.{Contains};
 ghost use Rattle.limits.specs.Profile.{most_budget, most_entries, top_bound};
@@ -32,7 +32,7 @@ pub fn bounds_over_lists_are_never_under()
         ⊎ (slice_index (set_bounds_over query tables lists accuracy) subset ≡ top_bound) }
 {}
 
-/// The order of a plan over lists is the best one, and a scan's bound is exactly the number of listed rows. If the lists are of scanned rows, no
+/// The order of a plan over lists is the best order, and a scan's bound is exactly the number of listed rows. If the lists have scanned rows, no
 /// bound in the plan is too low.
 pub fn plans_over_lists_are_never_under()
     ensures plan { (query : Query) (tables : Tables) (lists : List (List ℕ)) (accuracy budget : ℕ) (plan : Plan)
@@ -50,8 +50,8 @@ pub fn plans_over_lists_are_never_under()
         → planned_over query tables lists accuracy budget ≢ Err error.NoMemory }
 {}
 
-/// The reduced scans are lists of scanned rows, so no bound of their plan is too low. The last level over the reduced scans gives the
-/// rows of the answer, each as often as in the answer.
+/// The reduced scans are lists of scanned rows, so no bound of their plan is too low. The last level over the reduced scans gives exactly the rows of
+/// the answer, with the same multiplicities.
 pub fn reduced_plans_lose_no_row()
     ensures lists { (query : Query) (tables : Tables) → AreOfScans query tables (reduced_of query tables) }
     ensures plan { (query : Query) (tables : Tables) (accuracy budget : ℕ) (plan : Plan)
@@ -75,8 +75,8 @@ pub fn levels_over_whole_scans()
 {}
 
 /// Suppose that the equalities close no cycle of entries, and that no other conjunct names several entries. Then each reduced row takes part in a
-/// choice of reduced rows for all entries that are connected with its own. Every conjunct that names one of these entries holds for the choice. The
-/// same is true of any lists of scanned rows in which each row finds its partners.
+/// choice of reduced rows, one row of each entry that is connected with its own. Every conjunct that names one of these entries holds for the choice.
+/// The same is true of any lists of scanned rows in which each row has a partner across each equality.
 pub fn reduced_rows_take_part()
     ensures consistent { (query : Query) (tables : Tables) (lists : List (List ℕ)) (entry row : ℕ) → AreConsistentScans query tables lists
         → ClosesNoCycle (equalities_of query) → JoinsByEqualitiesAlone query → Contains (list_at lists entry) row

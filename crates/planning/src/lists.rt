@@ -1,4 +1,4 @@
-//! The degree sequences of joined columns over the rows of their entries.
+//! Makes the degree sequences of joined columns over the rows of their entries.
 ghost use Rattle.std.specs.Prelude.{◌≡◌, ◌<◌, ◌≤◌, ℕ, All, IfOk, IsSome, MatchBool, None, OnOk, length, map};
 ghost use Rattle.std.specs.List.{sum};
 ghost use Rattle.limits.specs.Profile.{most_rows};
@@ -20,12 +20,12 @@ use bound_fold::EntryLists;
 use csv_tables::Database;
 use degree_lists::falling;
 use gathered_stats::characters_differ;
-use join_steps::{cells_of_column, load_cells};
+use join_steps::cells_of_column;
 use limits::Accuracy;
 use piece_compress::compress;
 use piece_math::Pieces;
 use query_types::ColumnRef;
-use row_buf::RowBuf;
+use row_buf::{RowBuf, load_cells};
 use std::alloc::Global;
 
 // The degree sequence of a column over these rows, compressed.
@@ -110,7 +110,8 @@ fn add_list(
     add_new(alloc, db, lists, place, accuracy, known)
 }
 
-/// The row bound of each entry, and the degree sequence of each column that one of the equalities joins. A column gets one degree sequence.
+/// The row bound of each entry, and the degree sequence of each column that one of the equalities joins. A column that several equalities join gets
+/// one degree sequence.
 pub(crate) fn lists_over_rows(
     alloc: Global,
     db: &Database,

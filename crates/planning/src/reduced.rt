@@ -1,4 +1,4 @@
-//! The bounds of a query's sets and scans, from the reduced scans of its entries.
+//! Makes the bounds of a query's sets and scans from its reduced scans.
 ghost use Rattle.std.specs.Prelude.{◌≡◌, IfOk, length, vec_capacity};
 ghost use Rattle.join_graph.specs.Conjuncts.{equalities_of};
 ghost use Rattle.sql_meaning.specs.Databases.{IsDatabaseOf};
@@ -22,7 +22,7 @@ use reduced_scans::reduce_scans;
 use row_buf::RowBuf;
 use std::alloc::Global;
 
-/// The bounds from the reduced scans of a query, and for each FROM entry the numbers of its reduced rows, in file order.
+/// The bounds from the reduced scans of a query, and these scans: for each FROM entry the numbers of its reduced rows, in file order.
 #[derive(Drop)]
 pub struct Reduced {
     pub known: QueryBounds,
@@ -49,10 +49,10 @@ pub fn reduced_lists(
 
 /// The bounds from the reduced scans of the query, together with these scans. A scan's bound is the number of rows in the reduced scan.
 ///
-/// A row of a scan is kept if it has a match for each equality that joins its entry with another one. A match is a row of the other
-/// entry that has the same value and is kept too (semi-join reduction, Bernstein and Goodman 1981). Time and memory are linear in the rows times
-/// their equalities, except for sorting columns and for the bounds of all sets. All memory but the result's is freed, and the result's lists have
-/// room for their own rows alone.
+/// A row of a scan is kept if it has a match for each equality that joins its entry with another one. A match is a row of the other entry that has
+/// the same value and is also kept (semi-join reduction, Bernstein and Goodman 1981). Time and memory are linear in the rows times their equalities,
+/// except for sorting columns and for the bounds of all sets. All memory except the result's is freed, and the result's lists have room only for
+/// their own rows.
 ///
 /// `accuracy` is the accuracy of compressed lists (SafeBound, SIGMOD 2023).
 pub fn from_reduced(

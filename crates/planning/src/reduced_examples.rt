@@ -10,7 +10,8 @@ ghost use Rattle.reduced_scans.specs.Rounds.{reduced_of};
 ghost use Rattle.planning.specs.ReducedExamples.{chain_query, by_region, chain_tables, crossed_tables, empty_first, never_true, region_tables, with_another};
 ghost use Rattle.planning.specs.Plans.{planned_reduced};
 
-/// R(X) of 1, 1, 1, 2, 2, 3 and S(X) of 1, 1, 4, 5, 6, joined by X: three rows of R and two of S are kept, and the bound is the answer's size.
+/// R(X) of 1, 1, 1, 2, 2, 3 and S(X) of 1, 1, 4, 5, 6, joined by X. Three rows of R and two of S are kept, and the bound is the answer's number of
+/// rows.
 pub fn two_tables()
     ensures reduced { reduced_of pair small_tables ≡ (0 ∷ 1 ∷ 2 ∷ []) ∷ (0 ∷ 1 ∷ []) ∷ [] }
     ensures plan { planned_reduced pair small_tables 1 6 ≡ Ok (plan_of (1 ∷ 0 ∷ []) (3 ∷ 2 ∷ []) (2 ∷ 6 ∷ [])) }
@@ -23,7 +24,7 @@ pub fn a_filtered_partner()
     ensures plan { planned_reduced by_region region_tables 1 1 ≡ Ok (plan_of (0 ∷ 1 ∷ []) (1 ∷ 1 ∷ []) (1 ∷ 1 ∷ [])) }
 {}
 
-/// A(X), B(X, Y) and D(Y), joined in a chain: the one row of D reduces B, and then B reduces A.
+/// A(X), B(X, Y) and D(Y), joined in a chain. The only row of D reduces B, and then B reduces A.
 pub fn along_a_chain()
     ensures reduced { reduced_of chain_query chain_tables ≡ (0 ∷ []) ∷ (0 ∷ []) ∷ (0 ∷ []) ∷ [] }
     ensures plan { planned_reduced chain_query chain_tables 1 1
@@ -36,22 +37,22 @@ pub fn a_triangle()
     ensures plan { planned_reduced triangle three_tables 1 9 ≡ Ok (plan_of (0 ∷ 1 ∷ 2 ∷ []) (3 ∷ 3 ∷ 3 ∷ []) (3 ∷ 5 ∷ 9 ∷ [])) }
 {}
 
-/// A triangle in which each row has a match in both other tables, but no three rows match each other. If equalities close a cycle, a reduced scan may
-/// have a row that takes part in no choice.
+/// A triangle in which each row has a match in both other tables, but no three rows, one from each table, all match each other. If equalities close a
+/// cycle, a reduced scan may have a row that takes part in no choice.
 pub fn a_crossed_triangle()
     ensures reduced { reduced_of triangle crossed_tables ≡ (0 ∷ 1 ∷ []) ∷ (0 ∷ 1 ∷ []) ∷ (0 ∷ 1 ∷ []) ∷ [] }
     ensures answer { answer triangle crossed_tables ≡ [] }
 {}
 
-/// If a table is empty, the entry that it is joined with keeps no row, and the third entry keeps every row. The bound of each level is 0, though one
-/// scan has two rows.
+/// Three entries, of which two are joined. If one of these has an empty table, the other keeps no row, and the third entry keeps every row. The bound
+/// of each level is 0, though one scan has two rows.
 pub fn an_empty_table()
     ensures reduced { reduced_of with_another empty_first ≡ [] ∷ [] ∷ (0 ∷ 1 ∷ []) ∷ [] }
     ensures plan { planned_reduced with_another empty_first 1 1
         ≡ Ok (plan_of (0 ∷ 1 ∷ 2 ∷ []) (0 ∷ 0 ∷ 2 ∷ []) (0 ∷ 0 ∷ 0 ∷ [])) }
 {}
 
-/// A condition that never holds and names no entry: the reduced scans keep their rows, and the answer has no rows.
+/// A constant condition that is false, 1 = 2: the reduced scans keep their rows, and the answer has no rows.
 pub fn a_condition_without_entries()
     ensures reduced { reduced_of never_true small_tables ≡ (0 ∷ 1 ∷ 2 ∷ []) ∷ (0 ∷ 1 ∷ []) ∷ [] }
     ensures answer { answer never_true small_tables ≡ [] }

@@ -1,4 +1,4 @@
-//! Row bounds of lists.
+//! Takes row bounds from lists of rows.
 ghost use Rattle.std.specs.Prelude.{◌≡◌, ◌≤◌, ℕ, IfOk, None, length};
 ghost use Rattle.limits.specs.Profile.{most_entries, most_rows};
 ghost use Rattle.bound_fold.specs.Lists.{list_of as list_known};
@@ -10,7 +10,7 @@ use bound_fold::EntryLists;
 use row_buf::RowBuf;
 use std::alloc::Global;
 
-/// Each entry's row bound: the number of rows in its list. No column has a degree sequence yet.
+/// The number of rows in each entry's list, as its row bound. No column has a degree sequence yet.
 pub(crate) fn row_bounds(alloc: Global, lists: &[RowBuf<u32>]) -> Result<EntryLists, NoMemory>
     requires few { length lists.now ≤ most_entries }
     requires sizes { (entry : ℕ) → length (list_at (lists_of lists.now) entry) ≤ most_rows }

@@ -13,7 +13,7 @@ use reserve_plan::row_buffers;
 use row_buf::RowBuf;
 use std::alloc::Global;
 
-// How many rows an entry's table has.
+// The number of rows of an entry's table.
 fn rows_of_table(db: &Database, entry: u8) -> u32
     requires tables { AreTables db.now }
     requires entry { entry < length db.now.slots }
@@ -23,7 +23,7 @@ fn rows_of_table(db: &Database, entry: u8) -> u32
     db.cells.as_slice()[slot].rows
 }
 
-// How many rows the table of each entry has, in FROM order.
+// The number of rows of each entry's table, in FROM order.
 fn table_sizes(alloc: Global, query: &Query, db: &Database) -> Result<Vec<u64>, NoMemory>
     requires { IsDatabaseOf query.now db.now }
     ensures { IfOk result (λ sizes. sizes.items ≡ map (row_counts (tables_of db.now)) (entries_of query.now)) }

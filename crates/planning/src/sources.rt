@@ -1,4 +1,4 @@
-//! The bounds of a query's sets and scans, from statistics of its tables or from lists of their rows.
+//! Makes the bounds of a query's sets and scans from statistics of its tables, or from lists of their rows.
 ghost use Rattle.std.specs.Prelude.{◌≡◌, ◌≤◌, IfOk, length};
 ghost use Rattle.limits.specs.Profile.{most_entries};
 ghost use Rattle.join_graph.specs.Conjuncts.{equalities_of};
@@ -7,7 +7,7 @@ ghost use Rattle.sql_meaning.specs.Tables.{tables_of};
 ghost use Rattle.join_steps.specs.Lists.{list_sizes, lists_of};
 ghost use Rattle.reduced_scans.specs.Lists.{AreRowLists};
 ghost use Rattle.query_bounds.specs.Bounds.{entry_bounds, scan_bounds, set_bounds};
-ghost use Rattle.query_bounds.specs.Statistics.{TellsSomeStatistics, Statistics, Tells};
+ghost use Rattle.query_bounds.specs.Statistics.{TellsSomeStatistics, Statistics, HasStatistics};
 ghost use Rattle.planning.specs.Bounds.{scan_bounds_of, set_bounds_of};
 ghost use Rattle.planning.specs.HasBounds.{HasBounds};
 ghost use Rattle.planning.specs.ListedBounds.{set_bounds_over};
@@ -26,8 +26,7 @@ use query_types::Query;
 use row_buf::RowBuf;
 use std::alloc::Global;
 
-/// The bounds from statistics of a query's entries, whatever the statistics were made from. A scan's bound is the row bound of its entry. `parts` is
-/// the result of `split`.
+/// The bounds from given statistics of a query's entries. A scan's bound is the row bound of its entry. `parts` is the result of `split`.
 pub fn from_given_statistics(
     alloc: Global,
     query: &Query,
@@ -37,9 +36,9 @@ pub fn from_given_statistics(
     requires few { length query.now.from ≤ most_entries }
     requires equalities { parts.now.equalities ≡ equalities_of query.now }
     requires told { TellsSomeStatistics query.now stats.now }
-    ensures gives { IfOk result (λ made. (known : Statistics) → Tells query.now stats.now known
+    ensures gives { IfOk result (λ made. (known : Statistics) → HasStatistics query.now stats.now known
         → HasBounds (set_bounds query.now known) (scan_bounds query.now known) made) }
-    ensures lists { IfOk result (λ made. (known : Statistics) → Tells query.now stats.now known
+    ensures lists { IfOk result (λ made. (known : Statistics) → HasStatistics query.now stats.now known
         → JoinedHaveLists query.now (entry_bounds query.now known)) }
 {
     let lists = entry_lists(alloc, query, parts, stats)?;

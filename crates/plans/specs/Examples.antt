@@ -1,4 +1,4 @@
--- Plans for worked examples.
+-- Plans for examples.
 use Rattle.std.specs.Prelude.{ℕ, List}
 use Rattle.plans.specs.declared.left_deep.Plan.{Plan}
 

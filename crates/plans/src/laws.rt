@@ -2,7 +2,7 @@ ghost use Rattle.std.specs.Prelude.{[], ◌∷◌};
 ghost use Rattle.plans.specs.Examples.{plan_of};
 ghost use Rattle.plans.specs.LeftDeep.{IsOrder, IsPlan};
 
-/// Examples: what the definitions say of three entries. The call does nothing.
+/// Examples: the definitions, computed for three entries. The call does nothing.
 pub fn examples()
     ensures order { IsOrder 3 (0 ∷ 2 ∷ 1 ∷ []) }
     ensures twice { ¬ IsOrder 3 (0 ∷ 2 ∷ 0 ∷ []) }

@@ -2,8 +2,8 @@ use base_io::Seq;
 
 /// A left-deep order of n entries, with bounds. Entries are numbered in FROM order, from 0.
 ///
-/// `scans` are the bounds of the entries' scans in FROM order, in rows. `levels` are the bounds of the joins of the first k entries of the
-/// order, k from 1 to n, in rows.
+/// Bounds are in rows. `scans` has the bound of each entry's scan, in FROM order. `levels` has, for each k from 1 to n, the bound of the join of the
+/// order's first k entries.
 #[derive(Debug, Drop)]
 pub struct Plan {
     pub order: Seq<u8>,

@@ -144,8 +144,8 @@ any_more f conds i cond old mid next new low is so_far more last =
     ∙ ap (λ (s : List Step). old ++ s) (sym (or_steps_more (map f (take i conds)) (f cond)))
     ∙ ap (λ (s : List (List Step)). old ++ or_steps s) (sym (map-append f (take i conds) (cond ∷ [])) ∙ ap (map f) (sym front))
 
-pub or_answer_steps : (old mid new : List Step) (cs : List (Conjunction (List Step))) → mid ≡ old ++ step.Nothing ∷ [] → new ≡ mid ++ or_steps (map (and_answer step_answers) cs)
+pub or_answer_steps : (old mid new : List Step) (cs : List (Conjunction (List Step))) → mid ≡ old ++ step.NoRows ∷ [] → new ≡ mid ++ or_steps (map (and_answer step_answers) cs)
     → new ≡ old ++ or_answer step_answers cs
 or_answer_steps old mid new cs first all =
-    all ∙ ap (λ (s : List Step). s ++ or_steps (map (and_answer step_answers) cs)) first ∙ append_assoc old (step.Nothing ∷ []) (or_steps (map (and_answer step_answers) cs))
-    ∙ ap (λ (s : List Step). old ++ s) (sym (or_more_steps (step.Nothing ∷ []) (map (and_answer step_answers) cs)))
+    all ∙ ap (λ (s : List Step). s ++ or_steps (map (and_answer step_answers) cs)) first ∙ append_assoc old (step.NoRows ∷ []) (or_steps (map (and_answer step_answers) cs))
+    ∙ ap (λ (s : List Step). old ++ s) (sym (or_more_steps (step.NoRows ∷ []) (map (and_answer step_answers) cs)))

@@ -42,7 +42,7 @@ module _ (lists : ColumnLists) where
   one_list (step.Equal column literal) stack = refl
   one_list (step.Within range) stack = refl
   one_list step.And stack = refl
-  one_list step.Nothing stack = refl
+  one_list step.NoRows stack = refl
   one_list step.Or stack = refl
 
   all_lists : (steps : List Step) (stack : List (List ℕ)) → after_list_steps (map (with_list lists) steps) stack ≡ after_steps (list_answers lists) steps stack

@@ -55,7 +55,7 @@ finished_new before now after old new mid last len i r range h low is there one 
           ∙ ap (λ (b : Bool). before.has_answer || b) (or-true (is_not_empty xs)) ∙ or-true before.has_answer);
     }
 
--- ---- the two facts above, with the names and tests of the loop
+-- ---- `finished_old` and `finished_new`, restated with the loop's variables and tests
 
 there_is : (items : List Range) (i : ℕ) (r : Range) (found told : Bool) → r ≡ get_or items i r → found ≡ list_any (λ range. eqb range.column (get_or items i r).column) (take i items) → found ≡ told
     → (rs : List Range) → items ≡ rs → list_any (λ range. eqb range.column r.column) (take i rs) ≡ told

@@ -38,7 +38,7 @@ front rs j r low is =
     let within : j < length (map range_of rs) = omega (arith, length-map rs range_of) in
     drop-cons (map range_of rs) j (range_of r) within ∙ ap (λ (x : ranges.Range). x ∷ drop (suc j) (map range_of rs)) (get_or-map range_of rs j r ∙ ap range_of (sym is))
 
--- the loop goes from the last range to the first: a range of the column narrows the intersection, and a range of another column leaves it
+-- The loop goes from the last range to the first. A range of the column narrows the intersection; a range of another column doesn't change it
 pub narrowed_more : (rs : List Range) (i : ℕ) (r : Range) (column : ℕ) (one more : ranges.Range) → 0 < i → i ≤ length rs → r ≡ get_or rs (i - 1) r → r.column ≡ column
     → one ≡ intersection_of (drop i (map range_of rs)) column → more ≡ narrowed (range_of r) one → more ≡ intersection_of (drop (i - 1) (map range_of rs)) column
 narrowed_more rs i r column one more some low is same so_far narrow =

@@ -49,7 +49,7 @@ small_whole (x ∷ s) h =
     let here : saturated x ≡ x = omega arith in
     ap (λ (n : ℕ). n ∷ map saturated s) here ∙ ap (λ (t : List ℕ). x ∷ t) (small_whole s rest)
 
--- if the sum of all lists on the stack is below 2^128, then the sum of two of its lists, rank by rank, isn't cut off at 128 bits
+-- Suppose that the sum of all lists on the stack is below 2^128. Then the rank-wise sum of two of these lists isn't cut off at 128 bits
 pub or_exact : (old mid rest : List (List ℕ)) (x y z : List ℕ) → old ≡ mid ++ y ∷ [] → mid ≡ rest ++ x ∷ [] → total_of old < 2 ^ 128 → z ≡ map saturated (rank_sum x y) → z ≡ rank_sum x y
 or_exact old mid rest x y z h k small is =
     is ∙ small_whole (rank_sum x y) (omega (arith, total_push mid old y h, total_push rest mid x k, sum-rank_sum x y, small))

@@ -8,7 +8,7 @@ use Rattle.predicate_bounds.specs.declared.steps.Step.TheVariants as step
 use Rattle.predicate_bounds.specs.declared.reading.Members.{Members}
 use Rattle.predicate_bounds.specs.Steps.{range_of, range_in}
 
--- the steps after those of a member: And, if an earlier member has left an answer on the stack, and otherwise no step
+-- the steps that follow a member's steps. If an earlier member has left an answer on the stack, this is And; otherwise it is no step
 abbrev pub and_if_earlier : Bool → List Step
 and_if_earlier false = []
 and_if_earlier true = step.And ∷ []
@@ -22,8 +22,8 @@ abbrev pub is_not_empty : {A : Type 0} → List A → Bool
 is_not_empty [] = false
 is_not_empty (x ∷ xs) = true
 
--- the members of conjunction `c` were added to the members of an AND: the ranges of `c` come after the ranges before, and the steps of its
--- other members after the old steps
+-- The members of conjunction `c` were added to the members of an AND. The ranges of `c` come after the earlier ranges. The steps of the other
+-- members of `c` come after the old steps
 pub record IsConjunctionAdded (before : Members) (old : List Step) (after : Members) (new : List Step) (c : Conjunction (List Step)) : Type 0 where
   pub steps : new ≡ old ++ more_steps before.has_answer c.others
   pub ranges : after.ranges ≡ before.ranges ++ map range_in c.ranges

@@ -14,7 +14,7 @@ use Rattle.predicate_bounds.specs.Steps.{value_of, range_of}
 abbrev pub after_list_step : ListStep → List (List ℕ) → List (List ℕ)
 after_list_step (list_step.List list) stack = list ∷ stack
 after_list_step list_step.And stack = combine_top lesser stack
-after_list_step list_step.Nothing stack = [] ∷ stack
+after_list_step list_step.NoRows stack = [] ∷ stack
 after_list_step list_step.Or stack = combine_top rank_sum stack
 
 abbrev pub after_list_steps : List ListStep → List (List ℕ) → List (List ℕ)
@@ -25,7 +25,7 @@ abbrev pub top_of : List (List ℕ) → List ℕ
 top_of [] = []
 top_of (list ∷ stack) = list
 
--- the rows of all lists together
+-- the sum of all lists on the stack together
 abbrev pub total_of : List (List ℕ) → ℕ
 total_of stack = sum_by sum stack
 
@@ -33,7 +33,7 @@ total_of stack = sum_by sum stack
 abbrev pub is_small : ListStep → Bool
 is_small (list_step.List list) = nat_le (sum list) (2 ^ 32)
 is_small list_step.And = true
-is_small list_step.Nothing = true
+is_small list_step.NoRows = true
 is_small list_step.Or = true
 
 -- a step with the list that it asks for
@@ -42,5 +42,5 @@ with_list lists step.Whole = list_step.List lists.whole
 with_list lists (step.Equal column literal) = list_step.List (lists.equal column (value_of literal))
 with_list lists (step.Within range) = list_step.List (lists.range (range_of range))
 with_list lists step.And = list_step.And
-with_list lists step.Nothing = list_step.Nothing
+with_list lists step.NoRows = list_step.NoRows
 with_list lists step.Or = list_step.Or

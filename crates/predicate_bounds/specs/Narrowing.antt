@@ -4,7 +4,7 @@ use Rattle.std.specs.Ordering.{is_lt, is_gt}
 use Rattle.csv_tables.specs.Values.{Value, value_cmp}
 use Rattle.filtered_lists.specs.Ranges.{Range, greater_of, lesser_of}
 
--- whether there is an end that is above a value, or below the value
+-- two tests: `is_above` if the end exists and is above the value, `is_below` if it exists and is below the value
 abbrev pub is_above : Option Value → Value → Bool
 is_above None value = false
 is_above (Some end) value = is_lt (value_cmp value end)

@@ -16,7 +16,7 @@ after_step answers step.Whole stack = answers.whole ∷ stack
 after_step answers (step.Equal column literal) stack = answers.equal column (value_of literal) ∷ stack
 after_step answers (step.Within range) stack = answers.range (range_of range) ∷ stack
 after_step answers step.And stack = combine_top answers.both stack
-after_step answers step.Nothing stack = answers.none ∷ stack
+after_step answers step.NoRows stack = answers.none ∷ stack
 after_step answers step.Or stack = combine_top answers.either stack
 
 abbrev pub after_steps : {A : Type 0} → ComparisonAnswers A → List Step → List A → List A

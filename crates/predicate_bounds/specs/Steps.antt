@@ -34,7 +34,7 @@ step_answers = record {
   equal = λ column value. step.Equal column (literal_of value) ∷ [];
   range = λ range. step.Within (range_in range) ∷ [];
   both = λ x y. x ++ (y ++ step.And ∷ []);
-  none = step.Nothing ∷ [];
+  none = step.NoRows ∷ [];
   either = λ x y. x ++ (y ++ step.Or ∷ []);
 }
 

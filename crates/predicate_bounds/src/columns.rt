@@ -1,4 +1,4 @@
-//! The statistics of a query's entries that bounds ask for.
+//! The statistics of a query's entries from which bounds are made.
 ghost use Rattle.std.specs.Prelude.{◌≡◌, true, [], ◌∷◌, ◌++◌, IsTrue, OnOk, OnErr};
 ghost use Rattle.std.specs.List.{list_all};
 ghost use Rattle.predicate_bounds.specs.ListRuns.{is_small};

@@ -1,6 +1,6 @@
 //! Comparisons of a column with a literal, the literal on the right.
 ghost use Rattle.std.specs.Prelude.{◌≡◌, IfOk, option_map};
-ghost use Rattle.filtered_lists.specs.Comparisons.{comparison_of, opposite, mirrored};
+ghost use Rattle.filtered_lists.specs.Comparisons.{comparison_of, negated_operator, mirrored};
 ghost use Rattle.predicate_bounds.specs.Comparing.{compared_of, literal_in};
 
 use crate::steps::Literal;
@@ -18,8 +18,8 @@ pub(crate) struct Compared {
 }
 
 /// The comparison that holds exactly where `op` doesn't hold.
-pub(crate) fn opposite(op: Op) -> Op
-    ensures { result ≡ opposite op }
+pub(crate) fn negated_operator(op: Op) -> Op
+    ensures { result ≡ negated_operator op }
 {
     match op {
         Op::Eq => Op::Ne,

@@ -1,11 +1,11 @@
 //! Bounds of filtered entries: from an entry's own conjuncts and their lists to a list that dominates the scanned rows.
 //!
 //! In: a query, and each joined column's lists by values and ranges of filter columns. `read_steps` turns own conjuncts into steps that run over
-//! a stack of lists. It pushes NOT down to the comparisons, merges nested ANDs, and swaps the sides of a comparison with its literal on the
-//! left. All comparisons of a column with < <= > >= in an AND become one range. `QueryStats` holds the steps of each joined column, with the
+//! a stack of lists. It pushes NOT down to the comparisons, and merges nested ANDs. If a comparison has its literal on the left, its sides are
+//! swapped. All comparisons of a column with < <= > >= in an AND become one range. `QueryStats` holds the steps of each joined column, with the
 //! lists that they ask for. `bound_list` and `row_bound` run these steps. This crate doesn't know where the lists come from.
 //!
-//! Callers cite `steps_of` (in `specs/Steps.antt`) for the lists that an entry's own conjuncts ask for. `HasLists` and `HasRowLists` (in
+//! In contracts `steps_of` (in `specs/Steps.antt`) says which lists an entry's own conjuncts ask for. `HasLists` and `HasRowLists` (in
 //! `specs/StatsLists.antt`) say which lists statistics hold. The results are `filtered_list` and `row_bound` of `filtered_lists`.
 //!
 //! ```text

@@ -8,7 +8,7 @@ ghost use Rattle.predicate_bounds.specs.Added.{IsConjunctionAdded, and_if_earlie
 ghost use Rattle.predicate_bounds.specs.Steps.{range_of, step_answers, steps_of, value_of};
 ghost use Rattle.join_graph.specs.Conjuncts.{local_of, names_just, numbers_where};
 
-use crate::comparing::{Compared, compared_of, opposite};
+use crate::comparing::{Compared, compared_of, negated_operator};
 use crate::ranges::{has_column, intersection_of};
 use crate::steps::{Literal, Range, Step};
 use base_io::{NoMemory, Seq};
@@ -37,7 +37,7 @@ impl Members {
         }
     }
 
-    // Ends the steps of a member that leaves an answer on the stack: adds the step And, if an earlier member has left an answer there too.
+    // Ends the steps of a member that leaves an answer on the stack. If an earlier member has left an answer there too, the step And is added.
     fn add_and(&mut self, steps: &mut Seq<Step>) -> Result<(), NoMemory>
         ensures steps { OnOk result (steps.new ≡ steps.old ++ and_if_earlier self.old.has_answer) }
         ensures has_answer { OnOk result (self.new.has_answer ≡ true) }
@@ -118,7 +118,7 @@ impl Members {
         }
     }
 
-    // Adds a comparison. The step of any comparison but that of a column with a literal is Whole.
+    // Adds a comparison. If it isn't a comparison of a column with a literal, its step is Whole.
     fn add_comparison(
         &mut self,
         alloc: Global,
@@ -167,7 +167,7 @@ impl Members {
             }
             Cond::Not(inner) => self.add_condition(alloc, inner.get(), !holds, steps),
             Cond::Compare { op, left, right } => {
-                let op = if holds { *op } else { opposite(*op) };
+                let op = if holds { *op } else { negated_operator(*op) };
                 self.add_comparison(alloc, op, left, right, steps)
             }
         }
@@ -203,7 +203,7 @@ impl Members {
         ensures { OnOk result (IsConjunctionAdded self.old steps.old self.new steps.new
             (of_answer (or_answer step_answers (map (λ cond. conjunction_of step_answers cond holds) conds.now)))) }
     {
-        steps.push(Step::Nothing)?;
+        steps.push(Step::NoRows)?;
         for cond in conds {
             add_answer(alloc, cond, holds, steps)?;
             steps.push(Step::Or)?;

@@ -15,10 +15,10 @@ use std::alloc::Global;
 pub enum ListStep {
     /// Puts a list on the stack.
     List(Pieces),
-    /// Replaces the two lists on top by the list whose running sums are the lesser of the two lists' running sums, rank by rank.
+    /// Replaces the two lists on top by one list. Its running sum at each rank is the lesser of the two lists' running sums.
     And,
     /// Puts the empty list on the stack.
-    Nothing,
+    NoRows,
     /// Replaces the two lists on top by their sum, rank by rank.
     Or,
 }
@@ -65,7 +65,7 @@ fn take_step(alloc: Global, step: &ListStep, stack: &mut Seq<Pieces>) -> Result<
     match step {
         ListStep::List(list) => stack.push(list.copy()?),
         ListStep::And => and_top(stack),
-        ListStep::Nothing => stack.push(Pieces::empty(alloc)),
+        ListStep::NoRows => stack.push(Pieces::empty(alloc)),
         ListStep::Or => or_top(stack),
     }
 }

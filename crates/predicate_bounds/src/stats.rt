@@ -43,7 +43,7 @@ impl QueryStats {
         unreachable!()
     }
 
-    /// The row bound of an entry: the sum of the list of its first column, and at most `u64::MAX`. If the statistics stand for a database,
+    /// The row bound of an entry: the sum of the list of its first column, but at most `u64::MAX`. If the statistics stand for a database,
     /// the row bound is at least the number of rows of the entry's scan.
     pub fn row_bound(&self, alloc: Global, from: u8) -> Result<u64, NoMemory>
         requires entry { from < length self.now.entries }
@@ -61,7 +61,7 @@ impl QueryStats {
     }
 }
 
-// The sum of a list, and at most `u64::MAX`.
+// The sum of a list, but at most `u64::MAX`.
 fn rows_of(list: &Pieces) -> u64
     ensures { result ≡ min (sum list.now) (2 ^ 64 - 1) }
 {

@@ -1,5 +1,5 @@
-//! The steps by which an entry's own conjuncts combine answers, and the literals and ranges that they ask for. An answer is for some of the
-//! entry's rows: it is a list for these rows, their number, or a test that they pass.
+//! The steps by which an entry's own conjuncts combine answers, and the literals and ranges that they ask for. An answer stands for some of the
+//! entry's rows. It is a list for these rows, their number, or a test that they pass.
 ghost use Rattle.std.specs.Prelude.{◌≡◌, IfOk};
 ghost use Rattle.csv_tables.specs.Values.{Int, Text, value_cmp};
 ghost use Rattle.predicate_bounds.specs.Steps.{value_of};
@@ -36,7 +36,7 @@ pub enum Step {
     /// Combines the two answers on top by AND.
     And,
     /// Puts the answer for no row on the stack.
-    Nothing,
+    NoRows,
     /// Combines the two answers on top by OR.
     Or,
 }
@@ -53,7 +53,7 @@ impl Literal {
     }
 }
 
-// The order of a number and a literal.
+// Compares a number with a literal.
 fn compare_int(a: i64, b: &Literal) -> Ordering
     ensures { result ≡ value_cmp (Int a) (value_of b.now) }
 {
@@ -63,7 +63,7 @@ fn compare_int(a: i64, b: &Literal) -> Ordering
     }
 }
 
-// The order of a text and a literal.
+// Compares a text with a literal.
 fn compare_text(a: &str, b: &Literal) -> Ordering
     ensures { result ≡ value_cmp (Text a.now) (value_of b.now) }
 {
@@ -73,7 +73,7 @@ fn compare_text(a: &str, b: &Literal) -> Ordering
     }
 }
 
-/// The order of two literals: numbers by size, texts by code points, and numbers before texts.
+/// Compares two literals: numbers by size, and texts by code points. A number is less than a text.
 pub(crate) fn compare_literals(a: &Literal, b: &Literal) -> Ordering
     ensures { result ≡ value_cmp (value_of a.now) (value_of b.now) }
 {

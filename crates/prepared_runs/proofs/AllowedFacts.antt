@@ -1,4 +1,4 @@
--- A plan that was made costs no more than the budget.
+-- The cost of each plan that is made is within the budget.
 use Rattle.std.proofs.Common.{◌≡◌, ℕ, ◌≤◌, List, Result, Ok, length, ap, subst, arith}
 use Rattle.order_search.specs.Orders.{cost, greatest}
 use Rattle.order_search.specs.declared.refusal.PlanError.{PlanError}
@@ -15,7 +15,7 @@ use Rattle.query_types.specs.declared.types.Query.{Query}
 use Rattle.sql_meaning.specs.Tables.{Tables}
 use Rattle.prepared_runs.specs.Allowed.{shape_cost}
 use Rattle.prepared_runs.specs.Shapes.{answer_of, planned_by}
-use Rattle.prepared_runs.specs.Sources.{Sourced}
+use Rattle.prepared_runs.specs.Sources.{BoundsAndLists}
 use Rattle.prepared_runs.specs.declared.shapes.AnyPlan.{AnyPlan}
 use Rattle.safebound_words.specs.declared.command.Shape.{Shape}
 use Rattle.safebound_words.specs.declared.command.Shape.TheVariants as shapes
@@ -42,7 +42,7 @@ module _ (sets scans : List ℕ) (budget : ℕ) where
       let it = mapped_ok as_tree_plan (tree_answer sets scans budget) plan made in
       subst (λ (p : AnyPlan). shape_cost p ≤ budget) it.2 (tree_costs it.0 some few it.1)
 
-pub plan_costs : (query : Query) (tables : Tables) (given : Sourced) (accuracy budget : ℕ) → BoundLists query tables given.lists (given.scans accuracy) → 1 ≤ length query.from → length query.from ≤ 12
+pub plan_costs : (query : Query) (tables : Tables) (given : BoundsAndLists) (accuracy budget : ℕ) → BoundLists query tables given.lists (given.scans accuracy) → 1 ≤ length query.from → length query.from ≤ 12
     → (shape : Shape) (plan : AnyPlan) → planned_by shape given accuracy budget ≡ Ok plan → shape_cost plan ≤ budget
 unfolding planned_by
 plan_costs query tables given accuracy budget bound some few shape plan made =

@@ -1,4 +1,4 @@
--- A reader of a text returns the one answer that the text has, or NoMemory.
+-- The reader of a text returns the only answer that the text has, or NoMemory.
 use Rattle.std.proofs.Common.{◌≡◌, ◌⊎◌, ℕ, List, Option, Result, Ok, Err, inl, inr, ap, sym, ◌∙◌, subst}
 use Rattle.schema_types.specs.Texts.{IsSchemaOf}
 use Rattle.schema_types.specs.declared.errors.SchemaError.{SchemaError}
@@ -86,7 +86,7 @@ module _ (next : AnyPlan → Result RunOutcome Refusal) where
   plan_error_stops answer plan.PastBits (inl e) = cc
   plan_error_stops answer plan.PastBits (inr e) = (ap (λ (r : Result AnyPlan PlanError). with_refusal plan_refusal r >>= next) e, (λ file h. cc), (λ h. cc))
 
--- a plan within the budget is refused only if its bytes are past the limit of memory
+-- a plan within the budget is refused only if its bytes exceed the limit of memory
 module _ (limit : Option ℕ) (outcome : AnyPlan → RunOutcome) (answer : Result AnyPlan PlanError) where
   abbrev limited : AnyPlan → Result RunOutcome Refusal
   limited p = within_limit limit (shape_bytes p) (outcome p)

@@ -1,4 +1,4 @@
--- Each function of `append` does what its stage of the verdict says.
+-- Each function of `append` does what its stage of the verdict requires.
 use Rattle.std.proofs.Common.{◌≡◌, ℕ, ◌+◌, ◌<◌, ◌≤◌, Bool, true, false, if◌then◌else◌, inl, inr, List, [], length, get_or, Option, None, Some, Result, Ok, Err, refl, ap, sym, ◌∙◌, subst, arith}
 use Rattle.std.specs.Prelude.{IfErr, IfOk, IsOkAnd, find, nat_le}
 use Rattle.std.specs.List.{All}
@@ -29,7 +29,7 @@ use Rattle.table_files.specs.Stage.{table_at}
 use Rattle.table_files.specs.TableFile.{rows_in}
 use Rattle.prepared_runs.specs.Appending.{append_run, grown_stage, is_of_table, or_missing, rows_run, section_read, section_stage, stats_run}
 use Rattle.safebound_words.specs.declared.command.NewRows.{NewRows}
-use Rattle.safebound_words.specs.declared.command.Aim.TheVariants as aims
+use Rattle.safebound_words.specs.declared.command.SchemaTask.TheVariants as aims
 use Rattle.prepared_runs.specs.SectionRows.{HasAsMany, section_rows}
 use Rattle.prepared_runs.specs.StatsFiles.{stats_stage}
 use Rattle.prepared_runs.specs.RunOutcome.{Appended, RunOutcome}

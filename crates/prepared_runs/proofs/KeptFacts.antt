@@ -1,4 +1,4 @@
--- These lemmas say how many bytes the lists and buffers of a run hold, before its joins and after them, and which rows the buffers have.
+-- How many bytes the lists and buffers of a run take, before its joins and after them, and which rows the buffers have.
 use Rattle.std.proofs.Common.{◌≡◌, ℕ, ◌+◌, ◌*◌, ◌<◌, ◌≤◌, List, length, map, sum, get_or, Option, None, Some, Result, Ok, Err, refl, ap, sym, ◌∙◌, subst, arith}
 use Rattle.std.specs.Prelude.{IsOkAnd, OnOk}
 use Rattle.std.proofs.lemmas.List.{ext_get_or, get_or-map, length-map}
@@ -15,10 +15,15 @@ use Rattle.planning.proofs.FromLists.{is_plan_from, scan_kept}
 use Rattle.bushy_planning.proofs.ChosenTrees as stages
 use Rattle.query_types.specs.declared.types.Query.{Query}
 use Rattle.schema_types.specs.declared.types.Schema.{Schema}
+use Rattle.sql_meaning.specs.Databases.{IsDatabaseOf}
 use Rattle.sql_meaning.specs.Tables.{Tables, tables_of}
-use Rattle.join_steps.specs.Lists.{list_levels, list_sizes, lists_of, listed_row_count, AreOfScans}
+use Rattle.join_steps.specs.Lists.{list_sizes, lists_of, listed_row_count, AreOfScans}
 use Rattle.join_steps.proofs.WholeScans.{count_of, length-lists_of, list_in, no_rows, size_at, size_count}
-use Rattle.joined_texts.proofs.AuditLines.{counts_of_levels}
+use Rattle.joined_texts.specs.Printed.{constants_of}
+use Rattle.bushy_join.specs.Trees.{node_rows}
+use Rattle.tree_plans.specs.declared.bushy.BushyPlan.{BushyPlan}
+use Rattle.tree_rows.specs.Nodes.{Node, node_at}
+use Rattle.tree_rows.specs.Trees.{node_count}
 use Rattle.reduced_scans.specs.Lists.{HaveNoSpare}
 use Rattle.reserve_plan.specs.Memory.{lists_bytes}
 use Rattle.outcomes.specs.Reads.{◌>>=◌, AtFile, Reads}
@@ -26,25 +31,27 @@ use Rattle.outcomes.specs.declared.names.FileId.TheVariants as file
 use Rattle.outcomes.specs.declared.refusal.Refusal.{Refusal}
 use Rattle.table_files.specs.EntryTables.{entry_rows, tables_in}
 use Rattle.safebound_words.specs.declared.command.Command.{Command}
-use Rattle.prepared_runs.specs.KeptBuffers.{joined_bytes, counts_in, plan_joined, part_rows_in, AreDone, HasParts, IsJoined, HasBuffersOf, KeepsPending, KeepsItsBuffers}
+use Rattle.prepared_runs.specs.KeptBuffers.{joined_bytes, counts_by, counts_in, node_rows_in, plan_joined, part_rows_by, part_rows_in, AreDone, AreNodesOf, HasParts, IsJoined, HasBuffersOf, KeepsBuffers, KeepsPending, KeepsItsBuffers}
 use Rattle.prepared_runs.specs.RunOutcome.{RunOutcome, Planned}
 use Rattle.prepared_runs.specs.PreparedQuery.{room_and_list_bytes, plan_in, pending_plan, pending_text, AreOverLists, HoldsBytes}
-use Rattle.prepared_runs.specs.Shapes.{answer_of, part_count, part_rows, part_sizes, parts_bytes, planned_by, scan_bounds, shape_bytes}
-use Rattle.prepared_runs.specs.Shops.{shop_of, store_read}
-use Rattle.prepared_runs.specs.Sources.{Sourced}
+use Rattle.prepared_runs.specs.Shapes.{answer_of, part_count, part_rows, part_sizes, parts_bytes, planned_by, scan_bounds, shape_bytes, tree_of, IsPlanOver}
+use Rattle.prepared_runs.specs.Shops.{demo_number_of, store_read}
+use Rattle.prepared_runs.specs.Sources.{BoundsAndLists}
 use Rattle.prepared_runs.specs.Verdict.{aim_run, command_run, command_stage, schema_stage, verdict}
 use Rattle.prepared_runs.specs.declared.joined.Joined.{Joined}
-use Rattle.prepared_runs.specs.declared.joined.Joined.TheVariants as joined
 use Rattle.prepared_runs.specs.declared.prepare.PendingOutput.{PendingOutput}
 use Rattle.prepared_runs.specs.declared.prepare.PendingOutput.TheVariants as rest
 use Rattle.prepared_runs.specs.declared.scans.Joins.{Joins}
 use Rattle.prepared_runs.specs.declared.shapes.AnyPlan.{AnyPlan}
 use Rattle.prepared_runs.specs.declared.shapes.AnyPlan.TheVariants as shaped
 use Rattle.safebound_words.specs.declared.command.ListSource.{ListSource}
+use Rattle.safebound_words.specs.declared.command.OutText.{OutText}
+use Rattle.safebound_words.specs.declared.command.OutText.TheVariants as out_text
 use Rattle.safebound_words.specs.declared.command.Shape.{Shape}
 use Rattle.safebound_words.specs.declared.command.Shape.TheVariants as shapes
+use Rattle.prepared_runs.proofs.OrderParts.{counts_of_levels, each_part}
 use Rattle.prepared_runs.proofs.RootFacts.{counts_of_nodes}
-use Rattle.prepared_runs.proofs.ShapeFacts.{as_order_plan, as_tree_plan, mapped_ok}
+use Rattle.prepared_runs.proofs.ShapeFacts.{as_order_plan, as_tree_plan, over_fits, mapped_ok}
 
 pub if_ok : {A E P : Type 0} (r : Result A E) → P → OnOk r P
 if_ok (Ok x) is = is
@@ -68,7 +75,7 @@ own_bytes query tables family lists held are same count full =
     let one_each : held ≡ length (list_sizes query family) = count ∙ sym (size_count query family) in
     rw (one_each, sizes) refl
 
--- ---- the bounds of scans of a plan are those that the source gives
+-- ---- the bounds of a plan's scans: they are those of the source
 
 order_scans : (sets scans : List ℕ) (budget : ℕ) (plan : Plan) → plan_answer sets scans budget ≡ Ok plan → plan.scans ≡ scans
 order_scans sets scans budget plan made =
@@ -83,7 +90,7 @@ module _ (query : Query) (tables : Tables) (lists : List (List ℕ)) (sets scans
       let it = mapped_ok as_tree_plan (tree_answer sets scans budget) plan made in
       subst (λ (p : AnyPlan). scan_bounds p ≡ scans) it.2 (stages.scans_kept query tables lists sets scans budget it.0 bound some few it.1)
 
-pub scans_given : (query : Query) (tables : Tables) (given : Sourced) (accuracy budget : ℕ) → BoundLists query tables given.lists (given.scans accuracy) → 1 ≤ length query.from → length query.from ≤ 12
+pub scans_given : (query : Query) (tables : Tables) (given : BoundsAndLists) (accuracy budget : ℕ) → BoundLists query tables given.lists (given.scans accuracy) → 1 ≤ length query.from → length query.from ≤ 12
     → (shape : Shape) (plan : AnyPlan) → planned_by shape given accuracy budget ≡ Ok plan → scan_bounds plan ≡ given.scans accuracy
 unfolding planned_by
 scans_given query tables given accuracy budget bound some few shape plan made =
@@ -95,45 +102,68 @@ pub all_bytes : (plan : AnyPlan) → lists_bytes (scan_bounds plan) + parts_byte
 all_bytes (shaped.OrderPlan plan) = refl
 all_bytes (shaped.TreePlan plan) = refl
 
--- ---- joins that are done
+-- ---- finished joins
 
-module _ (query : Query) (db : Database) (lists : List (List ℕ)) where
-  pub counts_are : (it : Joined) → IsJoined query db lists it → counts_in it ≡ part_sizes query (tables_of db) lists (plan_joined it)
-  counts_are (joined.Levels plan own reserved) is = counts_of_levels (list_levels query (tables_of db) lists plan.order) plan.order reserved.levels is.choices is.count
-  counts_are (joined.Nodes plan done) is = counts_of_nodes query (tables_of db) plan is.plan_of.for_each_entry lists done.nodes is.count is.choices
+module _ (query : Query) (db : Database) (lists : List (List ℕ)) (database : IsDatabaseOf query db) where
+  counted : (plan : AnyPlan) (nodes : List Node) → IsPlanOver query (tables_of db) lists plan → AreNodesOf query db lists (tree_of plan) nodes
+      → counts_by (constants_of query (tables_of db)) plan nodes ≡ part_sizes query (tables_of db) lists plan
+  counted (shaped.OrderPlan plan) nodes over is = counts_of_levels query db lists plan nodes database over.for_each_entry is.rows.scanned is.choices
+  counted (shaped.TreePlan plan) nodes over is = counts_of_nodes query (tables_of db) plan is.plan_of.for_each_entry lists nodes is.count is.choices
 
-  parts_are : (it : Joined) → IsJoined query db lists it → (k : ℕ) → k < part_count (plan_joined it) → part_rows_in it k ≡ part_rows query (tables_of db) lists (plan_joined it) k
-  parts_are (joined.Levels plan own reserved) is k low = is.choices k low
-  parts_are (joined.Nodes plan done) is k low = is.choices (length plan.scans + k) (omega (arith, low))
+  parts_by : (plan : AnyPlan) (nodes : List Node) → IsPlanOver query (tables_of db) lists plan → AreNodesOf query db lists (tree_of plan) nodes
+      → (k : ℕ) → k < part_count plan → part_rows_by (constants_of query (tables_of db)) plan nodes k ≡ part_rows query (tables_of db) lists plan k
+  parts_by (shaped.OrderPlan plan) nodes over is k low = each_part query db lists plan nodes database over.for_each_entry is.rows.scanned is.choices k low
+  parts_by (shaped.TreePlan plan) nodes over is k low = is.choices (length plan.scans + k) (omega (arith, low))
+
+  its_nodes : (it : Joined) → IsJoined query db lists it → AreNodesOf query db lists (tree_of (plan_joined it)) it.done.nodes
+  its_nodes it is = subst (λ (t : BushyPlan). AreNodesOf query db lists t it.done.nodes) is.tree is.nodes
+
+  pub counts_are : (it : Joined) → IsJoined query db lists it → counts_in query db it ≡ part_sizes query (tables_of db) lists (plan_joined it)
+  counts_are it is = counted (plan_joined it) it.done.nodes is.plan_of (its_nodes it is)
+
+  pub parts_are : (it : Joined) → IsJoined query db lists it → (k : ℕ) → k < part_count (plan_joined it) → part_rows_in query (tables_of db) it k ≡ part_rows query (tables_of db) lists (plan_joined it) k
+  parts_are it is = parts_by (plan_joined it) it.done.nodes is.plan_of (its_nodes it is)
 
   pub has_parts : (it : Joined) → IsJoined query db lists it → HasParts (length query.from) it
-  has_parts (joined.Levels plan own reserved) is = (is.plan_of.for_each_entry, is.count)
-  has_parts (joined.Nodes plan done) is = (is.plan_of.for_each_entry, is.count)
+  has_parts it is = record {
+    plan = (over_fits query (tables_of db) lists (plan_joined it) is.plan_of).0;
+    nodes = omega (arith, is.nodes.count, is.nodes.plan_of.for_each_entry.scans, is.nodes.plan_of.for_each_entry.joins);
+  }
 
-pub are_done : (query : Query) (db : Database) (joins : Joins) (it : Joined) → plan_joined it ≡ plan_in joins.room → IsJoined query db (lists_of joins.lists.items) it → joined_bytes it ≡ room_and_list_bytes joins → AreDone query db joins it
-are_done query db joins it same is bytes = record {
-  plan = same;
-  parts = subst (λ (plan : AnyPlan). (k : ℕ) → k < part_count plan → part_rows_in it k ≡ part_rows query (tables_of db) (lists_of joins.lists.items) plan k) same
-      (parts_are query db (lists_of joins.lists.items) it is);
-  bytes = bytes;
-}
+pub are_done : (query : Query) (db : Database) (joins : Joins) (it : Joined) → IsDatabaseOf query db → plan_joined it ≡ plan_in joins.room → IsJoined query db (lists_of joins.lists.items) it
+    → joined_bytes it ≡ room_and_list_bytes joins → AreDone query db joins it
+are_done query db joins it database same is bytes =
+    let lists : List (List ℕ) = lists_of joins.lists.items in
+    let tree : it.tree ≡ tree_of (plan_in joins.room) = is.tree ∙ ap tree_of same in
+    record {
+      plan = same;
+      nodes = subst (λ (t : BushyPlan). (node : ℕ) → node < node_count t → node_rows_in it node ≡ node_rows query (tables_of db) lists t node) tree is.nodes.choices;
+      parts = subst (λ (plan : AnyPlan). (k : ℕ) → k < part_count plan → part_rows_in query (tables_of db) it k ≡ part_rows query (tables_of db) lists plan k) same
+          (parts_are query db lists database it is);
+      bytes = bytes;
+    }
 
 -- after the joins, the buffers that were prepared for them are the buffers that the run keeps
 module _ (query : Query) (db : Database) (source : ListSource) (lists : List (List ℕ)) (memory : Option ℕ) (same : tables_in (entry_rows db) ≡ tables_of db) where
-  kept_joins : (joins : Joins) (bytes : ℕ) (it : Joined) → lists_of joins.lists.items ≡ lists → room_and_list_bytes joins ≡ bytes → bytes ≡ shape_bytes (plan_in joins.room) → AreDone query db joins it
-      → (k : ℕ) → k < part_count (plan_in joins.room) → part_rows_in it k ≡ part_rows query (tables_in (entry_rows db)) lists (plan_in joins.room) k
-  kept_joins joins bytes it are holds is done k low =
-      done.parts k low
-      ∙ ap (λ (l : List (List ℕ)). part_rows query (tables_of db) l (plan_in joins.room) k) are
-      ∙ ap (λ (t : Tables). part_rows query t lists (plan_in joins.room) k) (sym same)
+  kept_joins : (joins : Joins) (it : Joined) (out : OutText) → lists_of joins.lists.items ≡ lists → room_and_list_bytes joins ≡ shape_bytes (plan_in joins.room) → AreDone query db joins it
+      → KeepsBuffers (record { query = query; rows = entry_rows db; plan = plan_in joins.room; source = source; lists = lists; memory = memory; out = out }) it
+  kept_joins joins it out are holds is =
+      let plan : AnyPlan = plan_in joins.room in
+      record {
+        plan = is.plan;
+        nodes = λ node low. is.nodes node low
+            ∙ ap (λ (l : List (List ℕ)). node_rows query (tables_of db) l (tree_of plan) node) are
+            ∙ ap (λ (t : Tables). node_rows query t lists (tree_of plan) node) (sym same);
+        parts = λ k low. subst (λ (t : Tables). part_rows_in query t it k ≡ part_rows query t lists plan k) (sym same)
+            (is.parts k low ∙ ap (λ (l : List (List ℕ)). part_rows query (tables_of db) l plan k) are);
+        bytes = is.bytes ∙ holds;
+      }
 
   pub kept_is : (bytes : ℕ) (left : PendingOutput) (kept : Option Joined) → AreOverLists lists left → HoldsBytes bytes left → bytes ≡ shape_bytes (pending_plan left) → KeepsPending query db left kept
       → HasBuffersOf (Planned (record { query = query; rows = entry_rows db; plan = pending_plan left; source = source; lists = lists; memory = memory; out = pending_text left })) kept
-  kept_is bytes (rest.Rows joins) (Some it) are holds is done =
-      record { plan = done.plan; parts = kept_joins joins bytes it are holds is done; bytes = done.bytes ∙ holds ∙ is }
+  kept_is bytes (rest.Rows joins) (Some it) are holds is done = kept_joins joins it out_text.Rows are (holds ∙ is) done
   kept_is bytes (rest.Rows joins) None are holds is done = done
-  kept_is bytes (rest.Audit joins) (Some it) are holds is done =
-      record { plan = done.plan; parts = kept_joins joins bytes it are holds is done; bytes = done.bytes ∙ holds ∙ is }
+  kept_is bytes (rest.Audit joins) (Some it) are holds is done = kept_joins joins it out_text.Audit are (holds ∙ is) done
   kept_is bytes (rest.Audit joins) None are holds is done = done
   kept_is bytes (rest.Nothing plan) kept are holds is none = none
 
@@ -147,8 +177,8 @@ keeps_so ask {first} after schema kept reads meets keeps files told =
     let stage : (schema_stage ask.schema_file files >>= (λ (s : Schema). aim_run ask.aim s files)) ≡ aim_run ask.aim schema files = rw (reads.gives files told) refl in
     subst (λ (r : Result RunOutcome Refusal). IsOkAnd r (λ outcome. HasBuffersOf outcome kept)) (sym stage) (keeps files (sym meets ∙ reads.same ∙ told))
 
-pub keeps_verdict : (words : List (List ℕ)) (ask : Command) → command_stage words ≡ Ok ask → (handed_in : Reading) (shop : Option ℕ) (kept : Option Joined) → shop_of words ≡ shop
-    → KeepsItsBuffers (store_read shop handed_in) (command_run ask) kept → KeepsItsBuffers (store_read (shop_of words) handed_in) (verdict words) kept
+pub keeps_verdict : (words : List (List ℕ)) (ask : Command) → command_stage words ≡ Ok ask → (handed_in : Reading) (shop : Option ℕ) (kept : Option Joined) → demo_number_of words ≡ shop
+    → KeepsItsBuffers (store_read shop handed_in) (command_run ask) kept → KeepsItsBuffers (store_read (demo_number_of words) handed_in) (verdict words) kept
 unfolding verdict
 keeps_verdict words ask command handed_in shop kept is keeps files told =
     let stage : (command_stage words >>= (λ (a : Command). command_run a files)) ≡ command_run ask files = rw command refl in

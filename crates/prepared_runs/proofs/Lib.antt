@@ -26,13 +26,13 @@
 --
 -- Sources of lists
 --
--- - What a source gives is a value (`sourced`, a record of bounds of sets, bounds of scans and lists). What is proved about it is one record
+-- - What a source gives is a value (`bounds_and_lists_by`, a record of bounds of sets, bounds of scans and lists). What is proved about it is one record
 --   (`IsSource`), whose parts have a line for each source (`rows_kept`, `scans_bound`, `levels_bound`, `all_sets` in SourceFacts). Everything
 --   above is about any value with that record: plans (`plan_fits`, `plan_over`), levels, rooms, texts. So no proof above has a case for each
 --   source.
 -- - `sets_by`, `scans_by`, `lists_by` and `planned_by` are `unfoldable`: goals stay as long as these names. They are opened in SourceFacts
 --   and ShapeFacts, and in the answers of `given_by` (`rw c.in-Columns.is`, and then the clause of the call is the goal). They are also
---   opened where the headline says what each source's scans are (`of_columns`, `of_keyed`, `of_reduced` in Runs). `sourced` itself is
+--   opened where the headline says what each source's scans are (`of_columns`, `of_keyed`, `of_reduced` in Runs). `bounds_and_lists_by` itself is
 --   transparent, so that its lists are `lists_by` without a lemma. A prepared run keeps no schema, since lists and scan bounds don't depend
 --   on it.
 -- - What a source needs of the tables (`SourceNeeds`) is a condition for its bounds of sets alone: its lists lose no row, and its bounds of scans
@@ -41,7 +41,7 @@
 --   for the code and for the verdict.
 -- - Whole scans are lists like any others (`lists_in`). Only `list_rows`, which makes lists, asks whether the lists are there already. Rooms,
 --   levels and texts are about lists, with one record (`CanJoin`: the lists lose no row, and there is room for a plan over them).
--- - The accuracy is an argument of what `sourced` gives, and not of `sourced`, so the lists of a run don't depend on it.
+-- - The accuracy is an argument of what `bounds_and_lists_by` gives, and not of `bounds_and_lists_by`, so the lists of a run don't depend on it.
 -- - `let Given { known, scans } = f()?` names its goals by the first variable (`in_ok-known`); the value is `field-0`.
 --
 -- Shapes
@@ -51,8 +51,8 @@
 --   `texts`, have a case for each shape.
 -- - In both shapes the entries of a choice for all entries are an order of the query's entries (`joined_entries`, `order_is`). So there is
 --   one proof that the printed rows are the answer, from `last` of `LoseNoRow`.
--- - A plan and its buffers are one value (`Room`). So no branch of the code has an order with the buffers of a tree, and what is left to do
---   has the plan.
+-- - A plan's tree and its buffers are one value (`Room`), so what is left to do has the plan. An order is a tree whose right children are leaves
+--   (`tree_of`), so rooms, joins and bytes have no case for an order. Its texts have: `OrderParts` says which node a level's rows are in.
 -- - No node of a tree has more rows than its bound, whatever the sizes of the tables (`nodes_fit` of bushy_planning). So the verdict's law
 --   has no condition on sizes. Joins over a tree also require that tables are small, which the code knows about tables that it read
 --   (`plan_over`).
@@ -69,6 +69,7 @@ pub mod Found
 pub mod KeptFacts
 pub mod KeyFacts
 pub mod LimitFacts
+pub mod OrderParts
 pub mod RootFacts
 pub mod Runs
 pub mod ShapeFacts

@@ -1,4 +1,4 @@
--- The root of a tree has the rows of the last level. The counts of the rows that were listed are the sizes of the tree's nodes.
+-- The root of a tree has the rows of the last level. The counts of the listed rows are the sizes of the tree's nodes.
 use Rattle.std.proofs.Common.{◌≡◌, ℕ, ◌+◌, ◌-◌, ◌*◌, ◌<◌, ◌&&◌, Bool, true, false, List, length, map, ltb, refl, ap, sym, ◌∙◌, subst, arith, inl, inr}
 use Rattle.std.specs.Prelude.{All}
 use Rattle.std.specs.List.{range_with_len}
@@ -20,7 +20,7 @@ use Rattle.tree_plans.specs.declared.bushy.BushyPlan.{BushyPlan}
 use Rattle.tree_rows.specs.Nodes.{Node, node_at}
 use Rattle.tree_rows.specs.Trees.{entries_at, node_count}
 use Rattle.join_steps.specs.Lists.{list_at, IsOrderOf}
-use Rattle.hash_join.specs.Levels.{query_level}
+use Rattle.join_steps.specs.Levels.{query_level}
 use Rattle.bushy_join.specs.Trees.{chosen_rows, is_joined_leaf, node_rows}
 use Rattle.bushy_join.proofs.Running.{are_choices}
 use Rattle.joined_texts.specs.JoinedRows.{root_of}

@@ -1,4 +1,4 @@
--- Every run that the verdict gives has no bound that is too low, prints the answer, and keeps its limit of memory.
+-- In every run of the verdict, no bound is too low, the printed rows are the answer, and the bytes are within the limit of memory.
 use Rattle.std.proofs.Common.{◌≡◌, ℕ, ◌≤◌, List, Result, Ok, Err, length, map, get_or, refl, ap, sym, ◌∙◌, subst, arith}
 use Rattle.std.specs.Prelude.{IfOk, IsPermutation}
 use Rattle.std.proofs.Math.Seq.{take-length}
@@ -31,16 +31,16 @@ use Rattle.join_steps.proofs.WholeScans.{scan_at, size_at}
 use Rattle.reduced_scans.specs.Rounds.{reduced_of}
 use Rattle.prepared_runs.specs.AcceptedQuery.{AcceptedQuery, BoundsHold, IsOverReducedScans, IsOverWholeScans, RowsAreTheAnswer, tables}
 use Rattle.safebound_words.specs.InRange.{HasRanges, IsInRange, WorkHasRanges}
-use Rattle.safebound_words.specs.declared.command.Aim.{Aim}
+use Rattle.safebound_words.specs.declared.command.SchemaTask.{SchemaTask}
 use Rattle.safebound_words.specs.declared.command.Command.{Command}
-use Rattle.safebound_words.specs.declared.command.Work.{Work}
-use Rattle.safebound_words.specs.declared.command.Aim.TheVariants as aims
-use Rattle.safebound_words.specs.declared.command.Work.TheVariants as works
+use Rattle.safebound_words.specs.declared.command.QueryTask.{QueryTask}
+use Rattle.safebound_words.specs.declared.command.SchemaTask.TheVariants as aims
+use Rattle.safebound_words.specs.declared.command.QueryTask.TheVariants as works
 use Rattle.prepared_runs.specs.StatsFiles.{stats_stage}
 use Rattle.prepared_runs.specs.Limits.{IsWithinLimit}
 use Rattle.prepared_runs.specs.RunOutcome.{Appended, StatsMade, KeepsItsLimit, NoBoundIsTooLow, RunOutcome, Planned, PlannedFromStats, PrintsTheAnswer}
 use Rattle.prepared_runs.specs.Shapes.{joined_entries, part_rows, scan_bounds, shape_bytes}
-use Rattle.prepared_runs.specs.Sources.{SourceNeeds, Sourced, lists_by, scans_by, sourced}
+use Rattle.prepared_runs.specs.Sources.{SourceNeeds, BoundsAndLists, lists_by, scans_by, bounds_and_lists_by}
 use Rattle.prepared_runs.specs.Standing.{IsSource, LoseNoRow}
 use Rattle.safebound_words.specs.declared.command.ListSource.{ListSource}
 use Rattle.safebound_words.specs.declared.command.ListSource.TheVariants as sources
@@ -102,7 +102,7 @@ plan_ok task schema query rows needs range some few own =
 
     made_ok : (plan : AnyPlan) → plan_asked task schema query (tables_in rows) ≡ Ok plan → IsMade plan
     made_ok plan made within =
-        let given : Sourced = sourced task.source schema query (tables_in rows) in
+        let given : BoundsAndLists = bounds_and_lists_by task.source schema query (tables_in rows) in
         let is : IsSource query (tables_in rows) given = stand query (tables_in rows) schema task.source needs in
         record {
           own = own;
@@ -113,7 +113,7 @@ plan_ok task schema query rows needs range some few own =
           scans = (task.accuracy, scan_is_given query (tables_in rows) given is task.accuracy task.terms.budget some few task.terms.shape plan made);
         }
 
-work_ok : (work : Work) (schema : Schema) (query : Query) (files : Files) → WorkHasRanges work → IsValid schema → IsOf schema query → IfOk (work_run work schema query files) IsSound
+work_ok : (work : QueryTask) (schema : Schema) (query : Query) (files : Files) → WorkHasRanges work → IsValid schema → IsOf schema query → IfOk (work_run work schema query files) IsSound
 work_ok (works.Plan task) schema query files range valid of =
     then_ok (λ rows. tables_stage schema query.from files ≡ Ok rows) IsSound (tables_stage schema query.from files) _ (is_ok (tables_stage schema query.from files))
     (λ rows is. plan_ok task schema query rows (needs_read task.source schema query files rows of is) range (omega (arith, of.some)) of.few (names_its_entries schema query of))
@@ -124,7 +124,7 @@ work_ok (works.PlanFromStats name terms) schema query files range valid of =
     then_ok (KeepsRules schema) IsSound (stats_stage name schema files) _ (stats_keep name schema files valid)
     (λ stats keeps. filed_plan_holds schema query of stats keeps terms range IsSound (λ plan holds within. (holds, within)))
 
-aim_ok : (aim : Aim) (schema : Schema) (files : Files) → HasRanges aim → IsValid schema → IfOk (aim_run aim schema files) IsSound
+aim_ok : (aim : SchemaTask) (schema : Schema) (files : Files) → HasRanges aim → IsValid schema → IfOk (aim_run aim schema files) IsSound
 aim_ok (aims.Query name work) schema files range valid =
     then_ok (IsOf schema) IsSound (query_stage name schema files) _ (query_ok name schema files)
     (λ query of. work_ok work schema query files range valid of)

@@ -1,9 +1,9 @@
--- A plan of either shape is made by the bounds that a source gives. Its bounds hold, and it joins each entry once.
-use Rattle.std.proofs.Common.{◌≡◌, ℕ, ◌+◌, ◌-◌, ◌<◌, ◌≤◌, List, Result, Ok, Err, eqb, length, get_or, refl, ap, sym, ◌∙◌, subst, arith}
+-- A plan of either shape, made from a source's bounds: its bounds hold, and it joins each entry once.
+use Rattle.std.proofs.Common.{◌≡◌, ℕ, ◌+◌, ◌-◌, ◌<◌, ◌≤◌, List, Result, Ok, Err, eqb, length, get_or, refl, ap, ◌∙◌, subst, arith}
 use Rattle.std.specs.Prelude.{◌≢◌}
 use Rattle.std.specs.List.{AllByRecursion, IsDistinct}
+use Rattle.limits.specs.Profile.{most_rows}
 use Rattle.csv_tables.specs.declared.types.Database.{Database}
-use Rattle.plans.specs.LeftDeep.{IsPlan}
 use Rattle.plans.specs.declared.left_deep.Plan.{Plan}
 use Rattle.order_search.specs.declared.refusal.PlanError.{PlanError}
 use Rattle.order_search.specs.declared.refusal.PlanError.TheVariants as error
@@ -14,21 +14,21 @@ use Rattle.tree_answers.specs.TreeAnswer.{tree_answer}
 use Rattle.tree_answers.proofs.OneAnswer as trees
 use Rattle.tree_plans.specs.TreePlans.{IsTreePlan}
 use Rattle.tree_plans.specs.declared.bushy.BushyPlan.{BushyPlan}
-use Rattle.tree_rows.specs.Trees.{node_count}
+use Rattle.tree_rows.specs.Trees.{entries_at, node_count}
 use Rattle.tree_rows.proofs.AllEntries.{root_all}
 use Rattle.tree_rows.proofs.Once.{plan_once}
+use Rattle.tree_rows.proofs.OrderNodes.{order_root}
 use Rattle.query_types.specs.declared.types.Query.{Query}
 use Rattle.sql_meaning.specs.Answers.{entries_of}
 use Rattle.sql_meaning.specs.Databases.{IsDatabaseOf}
-use Rattle.sql_meaning.specs.Tables.{Tables, tables_of}
-use Rattle.sql_meaning.proofs.AnswerFacts.{own_entries}
-use Rattle.join_steps.specs.Lists.{list_levels, listed_row_count, scans_of, IsOrderOf}
+use Rattle.sql_meaning.specs.Tables.{Tables, row_counts, tables_of}
+use Rattle.join_steps.specs.Lists.{listed_row_count, scans_of, IsOrderOf}
 use Rattle.join_steps.specs.Plans.{IsPlanOf}
-use Rattle.hash_join.specs.Levels.{query_level}
+use Rattle.bushy_join.specs.Trees.{IsTreePlanOf}
+use Rattle.bushy_join.proofs.OrderRows.{order_planned}
 use Rattle.bushy_join.proofs.Scans.{whole_is}
 use Rattle.level_bounds.specs.Orders.{IsOrderOfSet}
 use Rattle.level_bounds.proofs.SetNumbers.{order_of_all}
-use Rattle.planned_joins.specs.PlansOf.{HaveFewRows}
 use Rattle.outcomes.specs.Reads.{mapped}
 use Rattle.planning.specs.declared.known.QueryBounds.{QueryBounds}
 use Rattle.planning.specs.HasBounds.{HasBounds}
@@ -36,14 +36,18 @@ use Rattle.planning.specs.Standing.{BoundLevels}
 use Rattle.planning.proofs.FromLists.{is_plan_from, plan_over_lists, scan_kept}
 use Rattle.planning.proofs.ReducedPlans.{levels_of_scans}
 use Rattle.bushy_planning.proofs.ChosenTrees as stages
-use Rattle.prepared_runs.specs.Shapes.{IsPlanOver, IsShapedPlan, answer_of, joined_entries, part_bound, part_count, part_rows, planned_by, scan_bounds, whole_parts}
+use Rattle.prepared_runs.specs.Shapes.{IsPlanOver, IsShapedPlan, answer_of, joined_entries, part_bound, part_count, part_rows, planned_by, scan_bounds, tree_of, whole_parts}
 use Rattle.safebound_words.specs.Commands.{most_budget_of}
-use Rattle.prepared_runs.specs.Sources.{Sourced}
-use Rattle.prepared_runs.specs.Standing.{IsSource, LoseNoRow}
+use Rattle.prepared_runs.specs.Sources.{BoundsAndLists}
+use Rattle.prepared_runs.specs.Standing.{IsSource}
 use Rattle.prepared_runs.specs.declared.shapes.AnyPlan.{AnyPlan}
 use Rattle.prepared_runs.specs.declared.shapes.AnyPlan.TheVariants as shaped
 use Rattle.safebound_words.specs.declared.command.Shape.{Shape}
 use Rattle.safebound_words.specs.declared.command.Shape.TheVariants as shapes
+
+-- no table of the first n entries has more rows than a table may have
+abbrev pub HaveFewRows : Tables → ℕ → Type 0
+HaveFewRows tables n = (entry : ℕ) → entry < n → row_counts tables entry ≤ most_rows
 
 -- ---- an answer whose value was changed by a function
 
@@ -65,17 +69,17 @@ pub never_no_memory : (shape : Shape) (sets scans : List ℕ) (budget : ℕ) →
 never_no_memory shapes.Order sets scans budget = mapped_never_err as_order_plan (plan_answer sets scans budget) error.NoMemory (orders.never_memory sets scans budget)
 never_no_memory shapes.Tree sets scans budget = mapped_never_err as_tree_plan (tree_answer sets scans budget) error.NoMemory (trees.never_memory sets scans budget)
 
-pub never_wants_memory : (shape : Shape) (given : Sourced) (accuracy budget : ℕ) → planned_by shape given accuracy budget ≢ Err error.NoMemory
+pub never_wants_memory : (shape : Shape) (given : BoundsAndLists) (accuracy budget : ℕ) → planned_by shape given accuracy budget ≢ Err error.NoMemory
 unfolding planned_by
 never_wants_memory shape given accuracy budget = never_no_memory shape (given.sets accuracy) (given.scans accuracy) budget
 
-pub planned_known : (shape : Shape) (given : Sourced) (accuracy budget : ℕ) (known : QueryBounds) → HasBounds (given.sets accuracy) (given.scans accuracy) known
+pub planned_known : (shape : Shape) (given : BoundsAndLists) (accuracy budget : ℕ) (known : QueryBounds) → HasBounds (given.sets accuracy) (given.scans accuracy) known
     → answer_of shape known.sets known.scans budget ≡ planned_by shape given accuracy budget
 unfolding planned_by
 planned_known shape given accuracy budget known gives =
     ap (λ (s : List ℕ). answer_of shape s known.scans budget) gives.sets ∙ ap (λ (s : List ℕ). answer_of shape (given.sets accuracy) s budget) gives.scans
 
--- an answered plan is for as many entries as there are bounds of scans
+-- a plan has as many entries as there are bounds of scans
 pub answer_is_plan : (shape : Shape) (sets scans : List ℕ) (n budget : ℕ) → length scans ≡ n → 1 ≤ n → n ≤ 12 → (plan : AnyPlan)
     → answer_of shape sets scans budget ≡ Ok plan → IsShapedPlan n plan
 answer_is_plan shapes.Order sets scans n budget long some few plan made =
@@ -107,7 +111,7 @@ plan_over_fits query tables lists (shaped.TreePlan plan) of = record {
   parts = λ k low. of.nodes (length plan.scans + k) (omega arith);
 }
 
-module _ (query : Query) (tables : Tables) (given : Sourced) (is : IsSource query tables given) (accuracy budget : ℕ) (some : 1 ≤ length query.from) (few : length query.from ≤ 12) where
+module _ (query : Query) (tables : Tables) (given : BoundsAndLists) (is : IsSource query tables given) (accuracy budget : ℕ) (some : 1 ≤ length query.from) (few : length query.from ≤ 12) where
   abbrev sets : List ℕ
   sets = given.sets accuracy
 
@@ -178,7 +182,7 @@ pub over_fits : (query : Query) (tables : Tables) (lists : List (List ℕ)) (pla
 over_fits query tables lists (shaped.OrderPlan plan) is = (is.for_each_entry, is.for_each_entry.scans, is.scans)
 over_fits query tables lists (shaped.TreePlan plan) is = (is.for_each_entry, is.for_each_entry.scans, is.scans)
 
--- ---- the entries that a plan joins: each of n entries once
+-- ---- the entries that a plan joins: each entry once
 
 record HasAll (n : ℕ) (order : List ℕ) : Type 0 where
   entries : AllByRecursion (λ entry. entry < n) order
@@ -197,17 +201,21 @@ order_is query plan is = let its = has_all (length query.from) plan is in order_
 pub order_of : (query : Query) (plan : AnyPlan) → IsShapedPlan (length query.from) plan → IsOrderOf query (joined_entries plan)
 order_of query plan is = let its = has_all (length query.from) plan is in record { entries = its.entries; once = its.once; all = its.all }
 
--- ---- the parts of a plan over whole scans are those over whole tables
+-- ---- the parts of a plan over complete scans: they are those over complete tables
 
 pub whole_part : (query : Query) (tables : Tables) (plan : AnyPlan) → IsShapedPlan (length query.from) plan → (k : ℕ) → k < part_count plan
     → part_rows query tables (scans_of query tables) plan k ≡ whole_parts query tables plan k
 whole_part query tables (shaped.OrderPlan plan) is k low = levels_of_scans query tables plan.order (k + 1) (order_is query (shaped.OrderPlan plan) is)
 whole_part query tables (shaped.TreePlan plan) is k low = whole_is query tables plan (length plan.scans + k) is (omega arith)
 
--- ---- the last level over lists is the last level of the query
+-- ---- the tree of a plan
 
-pub last_level : (query : Query) (db : Database) (plan : Plan) (lists : List (List ℕ)) → IsDatabaseOf query db → LoseNoRow query (tables_of db) lists → IsPlan (length query.from) plan
-    → (k : ℕ) → k + 1 ≡ length plan.order → list_levels query (tables_of db) lists plan.order (k + 1) ≡ query_level query db plan.order (k + 1)
-last_level query db plan lists database rows is k end =
-    subst (λ (n : ℕ). list_levels query (tables_of db) lists plan.order n ≡ query_level query db plan.order n) (sym end)
-    (rows.last (own_entries query db database) plan.order (order_is query (shaped.OrderPlan plan) is))
+pub tree_over : (query : Query) (db : Database) (lists : List (List ℕ)) (plan : AnyPlan) → IsDatabaseOf query db → IsPlanOver query (tables_of db) lists plan → IsTreePlanOf query (tables_of db) lists (tree_of plan)
+tree_over query db lists (shaped.OrderPlan plan) database of =
+    order_planned query (tables_of db) lists plan database.some database.few of.for_each_entry of database.few_rows
+tree_over query db lists (shaped.TreePlan plan) database of = of
+
+-- the leaves of the tree, from left to right, are the entries in the order of the plan
+pub leaves_are : (n : ℕ) (plan : AnyPlan) → 1 ≤ n → IsShapedPlan n plan → entries_at (tree_of plan) (node_count (tree_of plan) - 1) ≡ joined_entries plan
+leaves_are n (shaped.OrderPlan plan) some is = order_root n plan is some
+leaves_are n (shaped.TreePlan plan) some is = refl

@@ -1,4 +1,4 @@
--- The lists that each source gives lose no row of the answer, and no bound that a source gives is too low.
+-- The lists of each source lose no row of the answer, and no bound of a source is too low.
 use Rattle.std.proofs.Common.{◌≡◌, ℕ, ◌^◌, List, length, None, ap, sym, ◌∙◌}
 use Rattle.std.proofs.lemmas.List.FromFn.{length-map-range_with_len}
 use Rattle.std.proofs.Math.Seq.{take-length}
@@ -35,7 +35,7 @@ use Rattle.stats_file_of_query.specs.Standing.{StandsFor}
 use Rattle.stats_file_bounds.specs.Entries.{KeepsRulesOfSome}
 use Rattle.stats_file_bounds.specs.Found.{first_missing}
 use Rattle.stats_file_bounds.proofs.FromFiles.{all_sets as file_sets, levels_fit, scans_fit}
-use Rattle.prepared_runs.specs.Sources.{SourceNeeds, sets_by, lists_by, scans_by, sourced, sourced_of_file}
+use Rattle.prepared_runs.specs.Sources.{SourceNeeds, sets_by, lists_by, scans_by, bounds_and_lists_by, sourced_of_file}
 use Rattle.prepared_runs.specs.Standing.{IsSource, LoseNoRow}
 use Rattle.safebound_words.specs.declared.command.ListSource.{ListSource}
 use Rattle.safebound_words.specs.declared.command.ListSource.TheVariants as sources
@@ -98,7 +98,7 @@ module _ (query : Query) (tables : Tables) where
     all_sets sources.Reduced accuracy = many (in_every_set (entry_bounds_over tables (reduced_of query tables) accuracy))
     all_sets sources.Counted accuracy = counted_sets
 
-    pub stand : (source : ListSource) → SourceNeeds source schema query tables → IsSource query tables (sourced source schema query tables)
+    pub stand : (source : ListSource) → SourceNeeds source schema query tables → IsSource query tables (bounds_and_lists_by source schema query tables)
     stand source needs = record { rows = rows_kept source; of_scans = scans_bound source; of_sets = levels_bound source needs; of_all_sets = all_sets source }
 
 -- ---- what a statistics file gives, for tables for which it stands

@@ -1,4 +1,4 @@
--- Each function does what its stage of the verdict says.
+-- Each function does what its stage of the verdict requires.
 use Rattle.std.proofs.Common.{◌≡◌, ℕ, ◌⊎◌, inl, inr, List, Result, Ok, Err, ap, sym, ◌∙◌, subst}
 use Rattle.std.specs.Prelude.{IfOk, IfErr, IsOkAnd}
 use Rattle.base_io.specs.Files.{Files}
@@ -17,10 +17,10 @@ use Rattle.outcomes.specs.declared.refusal.Refusal.{Refusal}
 use Rattle.outcomes.proofs.ReadFacts.{Meets, joined, then_gives, then_reads, then_stops, then_tells}
 use Rattle.table_files.specs.Stage.{tables_stage}
 use Rattle.table_files.specs.TableFile.{read}
-use Rattle.safebound_words.specs.declared.command.Aim.{Aim}
-use Rattle.safebound_words.specs.declared.command.Work.{Work}
-use Rattle.safebound_words.specs.declared.command.Aim.TheVariants as aims
-use Rattle.safebound_words.specs.declared.command.Work.TheVariants as works
+use Rattle.safebound_words.specs.declared.command.SchemaTask.{SchemaTask}
+use Rattle.safebound_words.specs.declared.command.QueryTask.{QueryTask}
+use Rattle.safebound_words.specs.declared.command.SchemaTask.TheVariants as aims
+use Rattle.safebound_words.specs.declared.command.QueryTask.TheVariants as works
 use Rattle.prepared_runs.specs.RunOutcome.{RunOutcome}
 use Rattle.prepared_runs.specs.PreparedRun.{planned_outcome}
 use Rattle.prepared_runs.specs.Verdict.{IsAimFile, IsWorkFile, aim_run, plan_stage, query_of_text, query_stage, schema_of_text, schema_stage, work_run}
@@ -81,15 +81,15 @@ module _ {store : Reading} (task : PlanWork) (schema : Schema) (query : Query) (
   tables_ran rows (Ok p) is tells h = then_gives store (tables_stage schema query.from) (plan_stage task schema query) C C rows (planned_outcome p) is h
   tables_ran rows (Err e) is tells h = then_tells store (tables_stage schema query.from) (plan_stage task schema query) C C rows e tells h
 
-pub work_done : {store : Reading} (asked work : Work) (schema : Schema) (query : Query) (answer : Result RunOutcome Failure) → asked ≡ work
+pub work_done : {store : Reading} (asked work : QueryTask) (schema : Schema) (query : Query) (answer : Result RunOutcome Failure) → asked ≡ work
     → Reads store (work_run work schema query) (IsWorkFile work schema query) answer
     → Reads store (work_run asked schema query) (IsWorkFile asked schema query) answer
 work_done {store} asked work schema query answer is h =
-    subst (λ (w : Work). Reads store (work_run w schema query) (IsWorkFile w schema query) answer) (sym is) h
+    subst (λ (w : QueryTask). Reads store (work_run w schema query) (IsWorkFile w schema query) answer) (sym is) h
 
 -- ---- the stages after the schema
 
-module _ (name : List ℕ) (work : Work) (schema : Schema) where
+module _ (name : List ℕ) (work : QueryTask) (schema : Schema) where
   abbrev AtQueryOrFile : Files → FileId → Type 0
   AtQueryOrFile = IsAimFile (aims.Query name work) schema
 
@@ -107,7 +107,7 @@ module _ (name : List ℕ) (work : Work) (schema : Schema) where
       AtQueryOrFile query answer meets
       (λ files id is at'. inr (subst (λ (r : Result Query Refusal). IsOkAnd r (λ q. IsWorkFile work schema q files id)) (sym is) at')) h k
 
-pub aim_done : {store : Reading} (asked aim : Aim) (schema : Schema) (answer : Result RunOutcome Failure) → asked ≡ aim
+pub aim_done : {store : Reading} (asked aim : SchemaTask) (schema : Schema) (answer : Result RunOutcome Failure) → asked ≡ aim
     → Reads store (aim_run aim schema) (IsAimFile aim schema) answer → Reads store (aim_run asked schema) (IsAimFile asked schema) answer
 aim_done {store} asked aim schema answer is h =
-    subst (λ (a : Aim). Reads store (aim_run a schema) (IsAimFile a schema) answer) (sym is) h
+    subst (λ (a : SchemaTask). Reads store (aim_run a schema) (IsAimFile a schema) answer) (sym is) h

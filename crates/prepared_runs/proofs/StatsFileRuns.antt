@@ -1,5 +1,4 @@
--- A statistics file that the verdict makes stands for its tables. A plan that the verdict makes from a statistics file has no bound that is
--- too low.
+-- A statistics file of the verdict stands for its tables. No bound of a plan that the verdict makes from a statistics file is too low.
 use Rattle.std.proofs.Common.{◌≡◌, ℕ, ◌<◌, ◌≤◌, List, [], Option, None, Some, Result, Ok, Err, length, get_or, refl, ap, sym, ◌∙◌, subst, arith}
 use Rattle.std.specs.Prelude.{IfOk}
 use Rattle.std.proofs.lemmas.List.{get_or-map, length-map}

@@ -1,4 +1,4 @@
--- Each function on statistics files does what its stage of the verdict says.
+-- Each function on statistics files does what its stage of the verdict requires.
 use Rattle.std.proofs.Common.{◌≡◌, ◌⊎◌, ℕ, inl, inr, List, Option, None, Result, Ok, Err, ap, sym, ◌∙◌, subst}
 use Rattle.std.specs.Prelude.{IfErr, IfOk}
 use Rattle.base_io.specs.Files.{Files}
@@ -24,14 +24,14 @@ use Rattle.schema_types.specs.Validity.{IsValid}
 use Rattle.schema_types.specs.declared.types.Schema.{Schema}
 use Rattle.stats_answers.specs.StatsTexts.{stats_answer}
 use Rattle.stats_answers.proofs.StatsAnswers as stats
-use Rattle.stats_file.specs.Answers.{Answers}
+use Rattle.stats_file.specs.Answers.{IsAllowedResult}
 use Rattle.stats_file.specs.declared.types.StatsError.{StatsError}
 use Rattle.stats_file.specs.declared.types.StatsError.TheVariants as stats_error
 use Rattle.stats_file.specs.declared.types.StatsFile.{StatsFile}
 use Rattle.stats_reading.specs.Names.{HasByteColumns}
 use Rattle.table_files.specs.Stage.{tables_stage}
 use Rattle.table_files.specs.TableFile.{read}
-use Rattle.safebound_words.specs.declared.command.Work.TheVariants as works
+use Rattle.safebound_words.specs.declared.command.QueryTask.TheVariants as works
 use Rattle.prepared_runs.specs.StatsFiles.{made_from_file, need_failure, plan_from_file_asked, stats_file_plan_stage, stats_of_text, stats_stage, stats_file_of_tables, unless_missing}
 use Rattle.prepared_runs.specs.RunOutcome.{RunOutcome}
 use Rattle.prepared_runs.specs.Shapes.{answer_of, planned_within}
@@ -62,10 +62,10 @@ module _ {store : Reading} (name : List ℕ) (schema : Schema) where
       then_tells store (read file.Stats 67108864 name) (stats_of_text schema) (AtFile file.Stats) (AtFile file.Stats) text e
       (subst (λ (t : List ℕ). StopsBy (stats_of_text schema t) e) same tells) h
 
--- ---- the reader returns the one answer that the text has, or NoMemory
+-- ---- the reader of a text returns the only answer that the text has, or NoMemory
 
 module _ (schema : Schema) (text : List ℕ) (is : IsValid schema) (bytes : HasByteColumns schema) where
-  pub stats_read : (x : StatsFile) → Answers schema text (Ok x) → stats_answer schema text ≡ Ok x
+  pub stats_read : (x : StatsFile) → IsAllowedResult schema text (Ok x) → stats_answer schema text ≡ Ok x
   stats_read x answers = same_value stats_error.NoMemory (stats_answer schema text) x (stats.only schema text (Ok x) is bytes answers)
 
   tells : (answer : Result StatsFile StatsError) (e : StatsError) → (◌≡◌ {A = Result StatsFile StatsError} (Err e) (Err stats_error.NoMemory)) ⊎ (Err e ≡ answer)
@@ -76,7 +76,7 @@ module _ (schema : Schema) (text : List ℕ) (is : IsValid schema) (bytes : HasB
   tells answer (stats_error.Rule line) (inl e) = cc
   tells answer (stats_error.Rule line) (inr e) = (ap (with_refusal stats_refusal) (sym e), (λ file h. cc), (λ h. cc))
 
-  pub stats_stops_by : (e : StatsError) → Answers schema text (Err e) → StopsBy (with_refusal stats_refusal (stats_answer schema text)) (stats_failure e)
+  pub stats_stops_by : (e : StatsError) → IsAllowedResult schema text (Err e) → StopsBy (with_refusal stats_refusal (stats_answer schema text)) (stats_failure e)
   stats_stops_by e answers = tells (stats_answer schema text) e (stats.only schema text (Err e) is bytes answers)
 
 -- ---- the plan from a file

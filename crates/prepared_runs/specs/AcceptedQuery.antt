@@ -14,8 +14,8 @@ use Rattle.safebound_words.specs.declared.command.ListSource.{ListSource}
 use Rattle.safebound_words.specs.declared.command.ListSource.TheVariants as sources
 use Rattle.safebound_words.specs.declared.command.OutText.{OutText}
 
--- a query, the rows of each FROM entry's table, the plan, and the source of the plan's bounds. `lists` has for each entry the numbers of the
--- rows that are joined. `memory` is the limit of memory, if there is one. `out` says which text goes to out
+-- a query, the rows of each FROM entry's table, the plan, and the source of the plan's bounds. `lists` has, for each entry, the numbers of the rows
+-- that are joined. `memory` is the limit of memory, if there is one. `out` says which text goes to the stream out
 pub record AcceptedQuery : Type 0 where
   pub query : Query
   pub rows : List (List Row)
@@ -36,7 +36,7 @@ scan_rows run entry = list_at run.lists entry
 abbrev pub part_counts : AcceptedQuery → List ℕ
 part_counts run = part_sizes run.query (tables run) run.lists run.plan
 
--- the choices that take one row of each scan and for which every conjunct holds, in lexicographic order
+-- the choices of one row from each scan that satisfy every conjunct, in lexicographic order
 abbrev pub joined_rows : AcceptedQuery → List (List ℕ)
 joined_rows run = list_levels run.query (tables run) run.lists (joined_entries run.plan) (length (joined_entries run.plan))
 
@@ -44,16 +44,16 @@ joined_rows run = list_levels run.query (tables run) run.lists (joined_entries r
 abbrev pub printed : AcceptedQuery → List Row
 printed run = map (λ choice. selected run.query (tables run) (row_in (joined_entries run.plan) choice)) (joined_rows run)
 
--- each entry's list has the rows for which all conjuncts hold that name this entry alone. The levels or inner nodes over the lists are those
--- over whole tables
+-- each entry's list has the rows that satisfy all conjuncts on this entry alone. The levels or inner nodes over the lists are those over complete
+-- tables
 pub record IsOverWholeScans (run : AcceptedQuery) : Type 0 where
   pub scans : (entry : ℕ) → entry < length run.query.from
       → scan_rows run entry ≡ scan (conjuncts_of run.query (tables run)) (row_counts (tables run)) entry
   pub parts : (k : ℕ) → k < part_count run.plan
       → part_rows run.query (tables run) run.lists run.plan k ≡ whole_parts run.query (tables run) run.plan k
 
--- the lists are the reduced scans: the largest lists in which each row has its partners (law `reduced_scans_are_by_rounds` of reduced_scans).
--- Each list has exactly as many rows as the plan says
+-- the lists are the reduced scans: the largest lists in which each row has a match across each equality (law `reduced_scans_are_by_rounds` of
+-- reduced_scans). Each list has exactly as many rows as the plan says
 pub record IsOverReducedScans (run : AcceptedQuery) : Type 0 where
   pub scans : run.lists ≡ reduced_of run.query (tables run)
   pub exact : (entry : ℕ) → entry < length run.query.from → slice_index (scan_bounds run.plan) entry ≡ length (scan_rows run entry)

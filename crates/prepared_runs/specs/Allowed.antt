@@ -1,4 +1,4 @@
--- Which plans may take memory for their joins.
+-- The plans that may take memory for their joins.
 use Rattle.std.specs.Prelude.{ℕ, ◌≤◌, ◌≢◌}
 use Rattle.order_search.specs.Orders.{greatest}
 use Rattle.prepared_runs.specs.Limits.{IsWithinLimit}

@@ -22,12 +22,12 @@ use Rattle.prepared_runs.specs.RunOutcome.{Appended, RunOutcome}
 
 -- ---- the section to which rows are appended
 
--- whether the section is of the table `name`. Letter case makes no difference
+-- whether the section belongs to the table `name`. Letter case makes no difference
 abbrev pub is_of_table : Schema → List ℕ → TableStats → Bool
 is_of_table schema name section = str_eq_ignore_ascii_case (table_at schema section.table).name name
 
--- the section, or the refusal Missing, with 0 for the FROM entry. The section is missing if the schema has no table of the name, or the file
--- no section of the table
+-- the section, or the refusal Missing, with 0 for the FROM entry. The section is missing if the schema has no table of this name, or if the file has
+-- no section of this table
 abbrev pub or_missing : Option TableStats → Result TableStats Refusal
 or_missing None = Err (refusal.Stats cause.Missing 0)
 or_missing (Some section) = Ok section
@@ -37,7 +37,7 @@ section_stage name schema stats = or_missing (find (is_of_table schema name) sta
 
 -- ---- the file with new rows
 
--- the statistics file with the new rows. The table had `before` rows; with the new rows it may have at most `most_rows`
+-- the statistics file with the new rows. The table had `before` rows before; with the new rows it may have at most `most_rows`
 unfoldable pub grown_stage : Schema → StatsFile → ℕ → ℕ → List Row → Result RunOutcome Refusal
 grown_stage schema stats table before rows =
     if nat_le (before + length rows) most_rows

@@ -1,30 +1,23 @@
 -- The buffers of a run, after its joins are done and its texts are written.
-use Rattle.std.specs.Prelude.{ℕ, ◌≡◌, ◌+◌, ◌<◌, List, length, Option, None, Some, IsOkAnd, IsSomeAnd, Result}
+use Rattle.std.specs.Prelude.{ℕ, ◌≡◌, ◌+◌, ◌*◌, ◌<◌, Bool, List, length, Option, None, Some, IsOkAnd, IsSomeAnd, Result}
 use Rattle.base_io.specs.Devices.{Reading}
 use Rattle.base_io.specs.Files.{Files}
 use Rattle.csv_tables.specs.declared.types.Database.{Database}
-use Rattle.link_index.specs.Forest.{Level, rows_at}
-use Rattle.plans.specs.declared.left_deep.Plan.{Plan}
 use Rattle.tree_plans.specs.declared.bushy.BushyPlan.{BushyPlan}
 use Rattle.query_types.specs.declared.types.Query.{Query}
-use Rattle.sql_meaning.specs.Tables.{tables_of}
-use Rattle.join_steps.specs.Lists.{list_levels, lists_of}
-use Rattle.join_steps.specs.Plans.{IsPlanOf}
+use Rattle.sql_meaning.specs.Tables.{Tables, tables_of}
+use Rattle.join_steps.specs.Lists.{lists_of}
 use Rattle.bushy_join.specs.Trees.{node_rows, IsTreePlanOf}
-use Rattle.joined_texts.specs.Printed.{level_counts, node_counts}
-use Rattle.plans.specs.LeftDeep.{IsPlan}
-use Rattle.reserve_plan.specs.Memory.{buffers_bytes, reserved_bytes}
-use Rattle.tree_plans.specs.TreePlans.{IsTreePlan}
+use Rattle.joined_texts.specs.Printed.{constants_of, level_counts, node_counts, rows_of_level}
 use Rattle.tree_rows.specs.Nodes.{Node, node_at}
 use Rattle.tree_rows.specs.Trees.{entries_at, node_count}
 use Rattle.outcomes.specs.declared.refusal.Refusal.{Refusal}
 use Rattle.prepared_runs.specs.AcceptedQuery.{AcceptedQuery, tables}
 use Rattle.prepared_runs.specs.RunOutcome.{Appended, StatsMade, RunOutcome, Planned, PlannedFromStats}
 use Rattle.prepared_runs.specs.PreparedQuery.{room_and_list_bytes, plan_in}
-use Rattle.prepared_runs.specs.Shapes.{part_count, part_rows, shape_bytes}
+use Rattle.prepared_runs.specs.Shapes.{IsPlanOver, IsShapedPlan, part_count, part_rows, shape_bytes, shaped_by, tree_of}
 use Rattle.prepared_runs.specs.Standing.{LoseNoRow}
 use Rattle.prepared_runs.specs.declared.joined.Joined.{Joined}
-use Rattle.prepared_runs.specs.declared.joined.Joined.TheVariants as joined
 use Rattle.prepared_runs.specs.declared.prepare.PendingOutput.{PendingOutput}
 use Rattle.prepared_runs.specs.declared.prepare.PendingOutput.TheVariants as rest
 use Rattle.prepared_runs.specs.declared.scans.Joins.{Joins}
@@ -33,43 +26,44 @@ use Rattle.prepared_runs.specs.declared.shapes.AnyPlan.TheVariants as shaped
 use Rattle.safebound_words.specs.declared.command.OutText.{OutText}
 use Rattle.safebound_words.specs.declared.command.OutText.TheVariants as out_text
 
--- ---- what the buffers hold. A part of a plan is a level of its order, or an inner node of its tree
+-- ---- the contents of the buffers. A part of a plan is a level of its order, or an inner node of its tree
 
 -- the plan whose joins are done
 abbrev pub plan_joined : Joined → AnyPlan
-plan_joined (joined.Levels plan lists reserved) = shaped.OrderPlan plan
-plan_joined (joined.Nodes plan done) = shaped.TreePlan plan
+plan_joined it = shaped_by it.order it.tree
 
--- the rows of part k: a level of the order, or an inner node of the tree
-abbrev pub part_rows_in : Joined → ℕ → List (List ℕ)
-part_rows_in (joined.Levels plan lists reserved) k = rows_at reserved.levels k
-part_rows_in (joined.Nodes plan done) k = (node_at done.nodes (length plan.scans + k)).rows
+-- the rows of a node of the plan's tree
+abbrev pub node_rows_in : Joined → ℕ → List (List ℕ)
+node_rows_in it node = (node_at it.done.nodes node).rows
+
+-- the rows of part k of a plan, by the nodes of its tree. Those of level 1 of an order depend on the conjuncts that name no entry (`constants`)
+abbrev pub part_rows_by : Bool → AnyPlan → List Node → ℕ → List (List ℕ)
+part_rows_by constants (shaped.OrderPlan plan) nodes k = rows_of_level constants plan.order nodes (k + 1)
+part_rows_by constants (shaped.TreePlan plan) nodes k = (node_at nodes (length plan.scans + k)).rows
+
+abbrev pub part_rows_in : Query → Tables → Joined → ℕ → List (List ℕ)
+part_rows_in query tables it k = part_rows_by (constants_of query tables) (plan_joined it) it.done.nodes k
 
 -- how many rows each part has
-abbrev pub counts_in : Joined → List ℕ
-counts_in (joined.Levels plan lists reserved) = level_counts reserved.levels
-counts_in (joined.Nodes plan done) = node_counts (length plan.scans) done.nodes
+abbrev pub counts_by : Bool → AnyPlan → List Node → List ℕ
+counts_by constants (shaped.OrderPlan plan) nodes = level_counts constants plan.order nodes
+counts_by constants (shaped.TreePlan plan) nodes = node_counts (length plan.scans) nodes
 
--- how many bytes the lists and all buffers hold: each one's capacity, times the size of an item
+abbrev pub counts_in : Query → Database → Joined → List ℕ
+counts_in query db it = counts_by (constants_of query (tables_of db)) (plan_joined it) it.done.nodes
+
+-- how many bytes the lists and all buffers take: the capacity of each, times the size of an item
 abbrev pub joined_bytes : Joined → ℕ
-joined_bytes (joined.Levels plan lists reserved) = buffers_bytes lists + reserved_bytes reserved
-joined_bytes (joined.Nodes plan done) = done.bytes
+joined_bytes it = it.done.bytes
 
--- the plan is for n entries. There is a level for each entry of the order, or a node for each leaf and each join of the tree
-abbrev pub HasParts : ℕ → Joined → Type 0
-HasParts n (joined.Levels plan lists reserved) = IsPlan n plan × (length reserved.levels ≡ length plan.order)
-HasParts n (joined.Nodes plan done) = IsTreePlan n plan × (length done.nodes ≡ node_count plan)
+-- the plan is for n entries, and there is a node for each leaf and each join of its tree
+pub record HasParts (n : ℕ) (it : Joined) : Type 0 where
+  pub plan : IsShapedPlan n (plan_joined it)
+  pub nodes : length it.done.nodes + 1 ≡ 2 * n
 
 -- ---- joins over lists that lose no row of the answer
 
--- the lists lose no row of the answer (`LoseNoRow`), the plan's bounds fit them (`IsPlanOf`), and each level of the order has its choices
-pub record AreLevelsOf (query : Query) (db : Database) (lists : List (List ℕ)) (plan : Plan) (levels : List Level) : Type 0 where
-  pub rows : LoseNoRow query (tables_of db) lists
-  pub plan_of : IsPlanOf query (tables_of db) lists plan
-  pub count : length levels ≡ length plan.order
-  pub choices : (k : ℕ) → k < length plan.order → rows_at levels k ≡ list_levels query (tables_of db) lists plan.order (k + 1)
-
--- the lists lose no row of the answer (`LoseNoRow`), the plan's bounds fit them (`IsTreePlanOf`), and each node of the tree has its
+-- the lists lose no row of the answer (`LoseNoRow`), the tree's bounds fit them (`IsTreePlanOf`), and each node of the tree has its
 -- entries and its choices
 pub record AreNodesOf (query : Query) (db : Database) (lists : List (List ℕ)) (plan : BushyPlan) (nodes : List Node) : Type 0 where
   pub rows : LoseNoRow query (tables_of db) lists
@@ -78,17 +72,22 @@ pub record AreNodesOf (query : Query) (db : Database) (lists : List (List ℕ)) 
   pub entries : (node : ℕ) → node < node_count plan → (node_at nodes node).entries ≡ entries_at plan node
   pub choices : (node : ℕ) → node < node_count plan → (node_at nodes node).rows ≡ node_rows query (tables_of db) lists plan node
 
-abbrev pub IsJoined : Query → Database → List (List ℕ) → Joined → Type 0
-IsJoined query db lists (joined.Levels plan own reserved) = AreLevelsOf query db lists plan reserved.levels
-IsJoined query db lists (joined.Nodes plan done) = AreNodesOf query db lists plan done.nodes
+-- the plan's bounds fit the lists, and each node of its tree has its entries and its choices
+pub record IsJoined (query : Query) (db : Database) (lists : List (List ℕ)) (it : Joined) : Type 0 where
+  pub plan_of : IsPlanOver query (tables_of db) lists (plan_joined it)
+  pub tree : it.tree ≡ tree_of (plan_joined it)
+  pub nodes : AreNodesOf query db lists it.tree it.done.nodes
 
--- ---- the buffers that are still there after a run
+-- ---- the buffers after a run
 
--- the buffers that were prepared now have the rows of each part, and hold as many bytes as before
+-- the buffers that were prepared now have the rows of each node of the plan's tree, and so those of each part of the plan. They hold as many bytes
+-- as before
 pub record AreDone (query : Query) (db : Database) (joins : Joins) (kept : Joined) : Type 0 where
   pub plan : plan_joined kept ≡ plan_in joins.room
+  pub nodes : (node : ℕ) → node < node_count (tree_of (plan_in joins.room))
+      → node_rows_in kept node ≡ node_rows query (tables_of db) (lists_of joins.lists.items) (tree_of (plan_in joins.room)) node
   pub parts : (k : ℕ) → k < part_count (plan_in joins.room)
-      → part_rows_in kept k ≡ part_rows query (tables_of db) (lists_of joins.lists.items) (plan_in joins.room) k
+      → part_rows_in query (tables_of db) kept k ≡ part_rows query (tables_of db) (lists_of joins.lists.items) (plan_in joins.room) k
   pub bytes : joined_bytes kept ≡ room_and_list_bytes joins
 
 -- `kept` has the buffers of the joins that were left to do. If no join was left, it is None
@@ -97,10 +96,14 @@ KeepsPending query db (rest.Rows joins) kept = IsSomeAnd kept (AreDone query db 
 KeepsPending query db (rest.Audit joins) kept = IsSomeAnd kept (AreDone query db joins)
 KeepsPending query db (rest.Nothing plan) kept = kept ≡ None
 
--- the buffers of a run have the rows of each part of its plan, and hold exactly the bytes of the plan
+-- the buffers of a run have the rows of each node of its plan's tree, and so those of each part of the plan. They hold exactly the bytes of the
+-- plan
 pub record KeepsBuffers (run : AcceptedQuery) (kept : Joined) : Type 0 where
   pub plan : plan_joined kept ≡ run.plan
-  pub parts : (k : ℕ) → k < part_count run.plan → part_rows_in kept k ≡ part_rows run.query (tables run) run.lists run.plan k
+  pub nodes : (node : ℕ) → node < node_count (tree_of run.plan)
+      → node_rows_in kept node ≡ node_rows run.query (tables run) run.lists (tree_of run.plan) node
+  pub parts : (k : ℕ) → k < part_count run.plan
+      → part_rows_in run.query (tables run) kept k ≡ part_rows run.query (tables run) run.lists run.plan k
   pub bytes : joined_bytes kept ≡ shape_bytes run.plan
 
 -- `run`, `audit` and `demo` keep their buffers; `plan` takes no buffers

@@ -11,8 +11,8 @@ shop_asked None = None
 shop_asked (Some command) = command.shop
 
 -- the number of the shop whose files the words ask for
-abbrev pub shop_of : List (List ℕ) → Option ℕ
-shop_of words = shop_asked (command_of words)
+abbrev pub demo_number_of : List (List ℕ) → Option ℕ
+demo_number_of words = shop_asked (command_of words)
 
 -- a store with exactly the files of the shop, in which no read fails
 abbrev pub shop_store : ℕ → Reading

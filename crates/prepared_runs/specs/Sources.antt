@@ -40,15 +40,15 @@ sets_by sources.Keyed schema query tables accuracy = set_bounds_by_keys schema q
 sets_by sources.Reduced schema query tables accuracy = set_bounds_over query tables (reduced_of query tables) accuracy
 sets_by sources.Counted schema query tables accuracy = set_bounds_by_counts query tables (reduced_of query tables)
 
--- what a source gives for a query over tables: at each accuracy a bound for each set of entries and one for each scan, and for each entry the
+-- the result of a source for a query over tables: at each accuracy a bound for each set of entries and a bound for each scan, and for each entry the
 -- rows that are joined
-pub record Sourced : Type 0 where
+pub record BoundsAndLists : Type 0 where
   pub sets : ℕ → List ℕ
   pub scans : ℕ → List ℕ
   pub lists : List (List ℕ)
 
-abbrev pub sourced : ListSource → Schema → Query → Tables → Sourced
-sourced source schema query tables = record {
+abbrev pub bounds_and_lists_by : ListSource → Schema → Query → Tables → BoundsAndLists
+bounds_and_lists_by source schema query tables = record {
   sets = sets_by source schema query tables;
   scans = scans_by source query tables;
   lists = lists_by source query tables;
@@ -56,15 +56,15 @@ sourced source schema query tables = record {
 
 -- the bounds that a statistics file gives for a query, and the lists of any tables. The bounds are the same at each accuracy, and the lists are
 -- the scans of the tables
-abbrev pub sourced_of_file : Query → StatsFile → Tables → Sourced
+abbrev pub sourced_of_file : Query → StatsFile → Tables → BoundsAndLists
 sourced_of_file query file tables = record {
   sets = λ accuracy. set_bounds_of_file query file;
   scans = λ accuracy. scan_bounds_of_file query file;
   lists = scans_of query tables;
 }
 
--- what a source needs of the tables: the source Keyed carries conditions along declared keys, so the declared keys must hold. They hold in
--- all tables that were read from files
+-- the condition of a source on the tables: the source Keyed carries conditions along declared keys, so the declared keys must hold. They hold in all
+-- tables that were read from files
 abbrev pub SourceNeeds : ListSource → Schema → Query → Tables → Type 0
 SourceNeeds sources.Columns schema query tables = ⊤
 SourceNeeds sources.Keyed schema query tables = DeclaredKeysHold schema query tables

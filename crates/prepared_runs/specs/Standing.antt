@@ -1,4 +1,4 @@
--- What is proved about the bounds and lists of each source (law `sources_are_sound` of safebound_laws).
+-- Facts about the bounds and lists of each source (law `sources_are_sound` of safebound_laws).
 use Rattle.std.specs.Prelude.{◌≡◌, ℕ, ◌^◌, List, length}
 use Rattle.query_types.specs.Named.{NamesItsEntries}
 use Rattle.query_types.specs.declared.types.Query.{Query}
@@ -8,7 +8,7 @@ use Rattle.sql_meaning.specs.Tables.{Tables, row_counts}
 use Rattle.join_steps.specs.Lists.{list_levels, AreOfScans}
 use Rattle.level_bounds.specs.Orders.{IsOrderOfSet}
 use Rattle.planning.specs.Standing.{BoundLevels, BoundLists}
-use Rattle.prepared_runs.specs.Sources.{Sourced}
+use Rattle.prepared_runs.specs.Sources.{BoundsAndLists}
 
 -- no row of the answer is lost if only the listed rows are joined: the lists have scanned rows, and the last level over the lists is the last
 -- level of the query
@@ -19,7 +19,7 @@ pub record LoseNoRow (query : Query) (tables : Tables) (lists : List (List ℕ))
 
 -- the source's lists lose no row of the answer. At every accuracy, no list has more rows than its bound, and no level over the lists has
 -- more rows than the bound of its set
-pub record IsSource (query : Query) (tables : Tables) (given : Sourced) : Type 0 where
+pub record IsSource (query : Query) (tables : Tables) (given : BoundsAndLists) : Type 0 where
   pub rows : LoseNoRow query tables given.lists
   pub of_scans : (accuracy : ℕ) → BoundLists query tables given.lists (given.scans accuracy)
   pub of_sets : (accuracy : ℕ) → BoundLevels query tables given.lists (given.sets accuracy)

@@ -1,4 +1,4 @@
--- The verdict: what the words and the files determine. It is computed in stages: the words, the schema, the query, the tables or the
+-- The verdict: the result that the words and the files determine. It is computed in stages: the words, the schema, the query, the tables or the
 -- statistics file, and the plan. For `append` the stages after the schema are the statistics file and the new rows of one of its tables.
 use Rattle.std.specs.Prelude.{ℕ, ◌≡◌, ◌⊎◌, List, Option, None, Some, Result, Ok, Err, IsOkAnd}
 use Rattle.limits.specs.Profile.{most_text}
@@ -23,15 +23,15 @@ use Rattle.table_files.specs.TableFile.{read}
 use Rattle.prepared_runs.specs.AcceptedQuery.{AcceptedQuery}
 use Rattle.prepared_runs.specs.Appending.{append_run, section_read}
 use Rattle.safebound_words.specs.Answer.{command_of}
-use Rattle.safebound_words.specs.declared.command.Aim.{Aim}
+use Rattle.safebound_words.specs.declared.command.SchemaTask.{SchemaTask}
 use Rattle.safebound_words.specs.declared.command.Command.{Command}
-use Rattle.safebound_words.specs.declared.command.Work.{Work}
-use Rattle.safebound_words.specs.declared.command.Aim.TheVariants as aims
-use Rattle.safebound_words.specs.declared.command.Work.TheVariants as works
+use Rattle.safebound_words.specs.declared.command.QueryTask.{QueryTask}
+use Rattle.safebound_words.specs.declared.command.SchemaTask.TheVariants as aims
+use Rattle.safebound_words.specs.declared.command.QueryTask.TheVariants as works
 use Rattle.prepared_runs.specs.StatsFiles.{stats_file_plan_stage, stats_stage, stats_file_of_tables}
 use Rattle.prepared_runs.specs.RunOutcome.{RunOutcome, Planned}
 use Rattle.prepared_runs.specs.Shapes.{planned_by, planned_within}
-use Rattle.prepared_runs.specs.Sources.{lists_by, sourced}
+use Rattle.prepared_runs.specs.Sources.{lists_by, bounds_and_lists_by}
 use Rattle.prepared_runs.specs.declared.shapes.AnyPlan.{AnyPlan}
 use Rattle.safebound_words.specs.declared.command.PlanWork.{PlanWork}
 
@@ -63,7 +63,7 @@ query_stage name schema files = do
 
 -- the plan of a query over its tables, in the shape that the task asks for, by the bounds that its source gives
 abbrev pub plan_asked : PlanWork → Schema → Query → Tables → Result AnyPlan PlanError
-plan_asked task schema query ts = planned_by task.terms.shape (sourced task.source schema query ts) task.accuracy task.terms.budget
+plan_asked task schema query ts = planned_by task.terms.shape (bounds_and_lists_by task.source schema query ts) task.accuracy task.terms.budget
 
 -- the accepted query for a plan, with the rows that the source gives
 abbrev pub run_asked : PlanWork → Query → List (List Row) → AnyPlan → AcceptedQuery
@@ -84,7 +84,7 @@ plan_stage task schema query rows =
     planned_within task.terms.memory (λ plan. Planned (run_asked task query rows plan)) (plan_asked task schema query (tables_in rows))
 
 -- the outcome of the work on a query, or the first refusal
-abbrev pub work_run : Work → Schema → Query → Files → Result RunOutcome Refusal
+abbrev pub work_run : QueryTask → Schema → Query → Files → Result RunOutcome Refusal
 work_run (works.Plan task) schema query files = do
   rows ← tables_stage schema query.from files
   plan_stage task schema query rows
@@ -96,7 +96,7 @@ work_run (works.PlanFromStats name terms) schema query files = do
   stats_file_plan_stage terms query stats
 
 -- the outcome of an aim over a schema, or the first refusal. The aim is work on a query, or new rows to append
-abbrev pub aim_run : Aim → Schema → Files → Result RunOutcome Refusal
+abbrev pub aim_run : SchemaTask → Schema → Files → Result RunOutcome Refusal
 aim_run (aims.Query name work) schema files = do
   query ← query_stage name schema files
   work_run work schema query files
@@ -122,14 +122,14 @@ schema_read words files = do
 -- ---- which files the verdict reads
 
 -- The file `id` is read for the query: it is the file of one of the query's tables, and no table before is refused; or it is the statistics file.
-abbrev pub IsWorkFile : Work → Schema → Query → Files → FileId → Type 0
+abbrev pub IsWorkFile : QueryTask → Schema → Query → Files → FileId → Type 0
 IsWorkFile (works.Plan task) schema query files id = IsTableReached schema (tables_of_query query.from) files id
 IsWorkFile (works.WriteStats accuracy) schema query files id = IsTableReached schema (tables_of_query query.from) files id
 IsWorkFile (works.PlanFromStats name terms) schema query files id = id ≡ file.Stats
 
 -- The file `id` is read after the schema. It is the file of the query, or it is read for the query. For `append` it is the statistics file,
 -- or, if the statistics file has a section of the table, the file of new rows.
-abbrev pub IsAimFile : Aim → Schema → Files → FileId → Type 0
+abbrev pub IsAimFile : SchemaTask → Schema → Files → FileId → Type 0
 IsAimFile (aims.Query name work) schema files id =
     (id ≡ file.Query) ⊎ IsOkAnd (query_stage name schema files) (λ query. IsWorkFile work schema query files id)
 IsAimFile (aims.Append append) schema files id =

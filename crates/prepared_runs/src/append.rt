@@ -11,7 +11,7 @@ ghost use Rattle.stats_reading.specs.Names.{HasByteColumns};
 ghost use Rattle.table_files.specs.EntryTables.{rows_of_read};
 ghost use Rattle.table_files.specs.Stage.{table_at};
 ghost use Rattle.prepared_runs.specs.Appending.{append_run, grown_stage, is_of_table, rows_run, section_stage, stats_run};
-ghost use Rattle.safebound_words.specs.declared.command.Aim.TheVariants as aims;
+ghost use Rattle.safebound_words.specs.declared.command.SchemaTask.TheVariants as aims;
 ghost use Rattle.prepared_runs.specs.SectionRows.{HasAsMany, section_rows};
 ghost use Rattle.prepared_runs.specs.PreparedRun.{appended_from};
 ghost use Rattle.prepared_runs.specs.Verdict.{IsAimFile};
@@ -92,7 +92,7 @@ fn count_section(name: &Word, schema: &Schema, stats: &StatsFile) -> Result<Sect
 }
 
 // Whether a table may have `before` rows and `more` further rows.
-fn are_few(before: u32, more: u32) -> bool
+fn fits_with(before: u32, more: u32) -> bool
     ensures { result ≡ nat_le (before + more) most_rows }
 {
     u64::from(before) + u64::from(more) <= u64::from(MOST_ROWS)
@@ -113,7 +113,7 @@ fn grow(
     ensures made { IfOk result (λ made. grown_stage schema.now stats found.table found.rows (rows_of_read rows) ≡ Ok (appended_from schema.now made)) }
     ensures refused { IfErr result (StopsBy (grown_stage schema.now stats found.table found.rows (rows_of_read rows))) }
 {
-    if !are_few(found.rows, rows.cells.rows) {
+    if !fits_with(found.rows, rows.cells.rows) {
         return Err(Failure::Refused(Refusal::Limit {
             which: LimitKind::Rows,
             file: FileId::Table(found.table),

@@ -7,7 +7,7 @@ ghost use Rattle.stats_reading.specs.Names.{HasByteColumns};
 ghost use Rattle.query_types.specs.Validity.{IsOf};
 ghost use Rattle.prepared_runs.specs.Verdict.{query_stage, schema_stage};
 
-use base_io::Store;
+use base_io::{Seq, Store};
 use limits::MOST_TEXT;
 use outcomes::{Failure, FileId};
 use query_types::Query;
@@ -23,7 +23,13 @@ pub fn load_schema<S: Store>(alloc: Global, store: &mut S, name: &Word) -> Resul
     ensures bytes { IfOk result HasByteColumns }
     ensures reads { Reads (reading S.files S.faults S.misses store.old store.new) (schema_stage name.now) (AtFile FileId.Schema) result }
 {
-    let text = load_file(alloc, store, FileId::Schema, name.get(), MOST_TEXT)?;
+    let text = load_file(
+        Seq::new(alloc),
+        store,
+        FileId::Schema,
+        name.get(),
+        MOST_TEXT,
+    )?;
     let schema = read_schema(alloc, text.as_slice())?;
     Ok(schema)
 }
@@ -40,7 +46,7 @@ pub fn load_query<S: Store>(
     ensures reads { Reads (reading S.files S.faults S.misses store.old store.new) (query_stage name.now schema.now)
         (AtFile FileId.Query) result }
 {
-    let text = load_file(alloc, store, FileId::Query, name.get(), MOST_TEXT)?;
+    let text = load_file(Seq::new(alloc), store, FileId::Query, name.get(), MOST_TEXT)?;
     let query = read_query(alloc, schema, text.as_slice())?;
     Ok(query)
 }

@@ -4,9 +4,9 @@
 //! plan, and take all memory of the run. They write nothing. `join` lists the rows of a plan in the memory that was taken. `open_shop` makes
 //! the files that `demo` reads.
 //!
-//! Callers cite `verdict` (in `specs/Verdict.antt`). The verdict is computed in stages, from the words to the plan, and is a `RunOutcome` or
-//! a refusal. Each function that reads has the clause `Reads` over its stage of the verdict. What `prepare_run` returns can be written
-//! without further memory (`CanBeWritten` in `specs/PreparedRun.antt`).
+//! Contracts use `verdict` (in `specs/Verdict.antt`). The verdict is computed in stages, from the words to the plan. It is a `RunOutcome` or a
+//! refusal. Each function that reads has the clause `Reads` over its stage of the verdict. The result of `prepare_run` can be written without further
+//! memory (`CanBeWritten` in `specs/PreparedRun.antt`).
 //!
 //! ```text
 //! let schema = load_schema(alloc, store, &command.schema_file)?;

@@ -2,22 +2,22 @@
 ghost use Rattle.std.specs.Prelude.{◌≡◌, ◌≤◌, ℕ};
 ghost use Rattle.limits.specs.Profile.{most_entries};
 ghost use Rattle.plans.specs.LeftDeep.{IsPlan};
-ghost use Rattle.reserve_plan.specs.Memory.{plan_bytes};
+ghost use Rattle.tree_plans.specs.Orders.{tree_of_order};
+ghost use Rattle.tree_rows.specs.Memory.{tree_bytes};
 ghost use Rattle.prepared_runs.specs.Limits.{limit_test};
 ghost use Rattle.prepared_runs.specs.Shapes.{IsShapedPlan, shape_bytes};
 
 use crate::shapes::AnyPlan;
 use outcomes::Refusal;
 use plans::Plan;
-use reserve_plan::plan_memory;
-use tree_rows::tree_memory;
+use tree_rows::{order_memory, tree_memory};
 
-// The bytes that the buffers of an order take.
-fn order_memory(plan: &Plan) -> u128
+// The bytes that the buffers of an order's tree take.
+fn bytes_of_order(plan: &Plan) -> u128
     requires { (n : ℕ) × (1 ≤ n) × (n ≤ most_entries) × IsPlan n plan.now }
-    ensures { result ≡ plan_bytes plan.now.order plan.now.scans plan.now.levels }
+    ensures { result ≡ tree_bytes (tree_of_order plan.now) }
 {
-    plan_memory(
+    order_memory(
         plan.order.as_slice(),
         plan.scans.as_slice(),
         plan.levels.as_slice(),
@@ -30,7 +30,7 @@ pub fn memory_of(plan: &AnyPlan) -> u128
     ensures { result ≡ shape_bytes plan.now }
 {
     match plan {
-        AnyPlan::OrderPlan(plan) => order_memory(plan),
+        AnyPlan::OrderPlan(plan) => bytes_of_order(plan),
         AnyPlan::TreePlan(plan) => tree_memory(plan),
     }
 }

@@ -1,4 +1,4 @@
-//! Everything that a run does before it writes: it reads, plans, and takes all memory.
+//! All steps of a run before it writes: it reads, plans, and takes all memory.
 ghost use Rattle.std.specs.Prelude.{◌≡◌, ◌≤◌, IfErr, IfOk, Ok};
 ghost use Rattle.base_io.specs.Devices.{reading};
 ghost use Rattle.key_carriers.specs.DeclaredKeys.{DeclaredKeysHold};
@@ -11,8 +11,8 @@ ghost use Rattle.sql_meaning.specs.Tables.{tables_of};
 ghost use Rattle.table_files.specs.EntryTables.{entry_rows, tables_in};
 ghost use Rattle.table_files.specs.Stage.{IsReached, tables_of_query};
 ghost use Rattle.safebound_words.specs.InRange.{HasRanges, IsInRange, WorkHasRanges};
-ghost use Rattle.safebound_words.specs.declared.command.Aim.TheVariants as aims;
-ghost use Rattle.safebound_words.specs.declared.command.Work.TheVariants as works;
+ghost use Rattle.safebound_words.specs.declared.command.SchemaTask.TheVariants as aims;
+ghost use Rattle.safebound_words.specs.declared.command.QueryTask.TheVariants as works;
 ghost use Rattle.prepared_runs.specs.Allowed.{shape_cost};
 ghost use Rattle.prepared_runs.specs.Limits.{IsWithinLimit};
 ghost use Rattle.prepared_runs.specs.PreparedQuery.{AreOverLists, HasRoom, HoldExactly, HoldsBytes, IsPrepared, lists_in, pending_plan, pending_text};
@@ -34,12 +34,12 @@ use csv_tables::Database;
 use limits::Accuracy;
 use outcomes::Failure;
 use query_types::Query;
-use safebound_words::{Aim, ListSource, OutText, PlanWork, Word, Work};
+use safebound_words::{ListSource, OutText, PlanWork, QueryTask, SchemaTask, Word};
 use schema_types::Schema;
 use std::alloc::Global;
 use table_files::read_tables;
 
-/// What is left to do after the plan text is written. All memory that is needed for it is here.
+/// The steps that remain after the plan text is written. All memory that they need has been taken.
 #[derive(Drop)]
 pub enum PendingOutput {
     /// The joins are left, and then the rows of the answer are written.
@@ -62,14 +62,14 @@ pub struct PreparedQuery {
     pub rest: PendingOutput,
 }
 
-// What is left to do if nothing is joined: nothing but the plan's text. No memory is taken.
+// The remaining steps if nothing is joined: only the plan's text is written. No memory is taken.
 fn without_joins(planned: PlanWithScans) -> PendingOutput
     ensures { result ≡ PendingOutput.Nothing planned.plan }
 {
     PendingOutput::Nothing(planned.plan)
 }
 
-// Takes the memory for what is left to do. `planned` is within the budget and the limit of memory.
+// Takes the memory of the remaining steps. `planned` is within the budget and the limit of memory.
 fn make_room(
     alloc: Global,
     task: &PlanWork,
@@ -109,7 +109,7 @@ pub enum PreparedRun {
     Appended(PreparedAppend),
 }
 
-// Plans a query over its database, and takes the memory for what is left to do, unless the plan needs more than the limit.
+// Plans a query over its database, and takes the memory of the remaining steps, unless the plan exceeds the limit.
 fn prepare_plan(
     alloc: Global,
     task: &PlanWork,
@@ -158,11 +158,11 @@ fn prepare_tables<S: Store>(
     prepare_plan(alloc, task, schema, query, db)
 }
 
-// Reads the files that `work` needs, and does everything of the work but the writing.
+// Reads the files that `work` needs, and does all of the work except writing.
 fn prepare_query<S: Store>(
     alloc: Global,
     store: &mut S,
-    work: &Work,
+    work: &QueryTask,
     schema: &Schema,
     query: Query,
 ) -> Result<PreparedRun, Failure>
@@ -175,11 +175,11 @@ fn prepare_query<S: Store>(
         (IsWorkFile work.now schema.now query) (mapped (outcome_of schema.now) result) }
 {
     match work {
-        Work::Plan(plan) => {
+        QueryTask::Plan(plan) => {
             let prepared = prepare_tables(alloc, store, plan, schema, query)?;
             Ok(PreparedRun::Planned(prepared))
         }
-        Work::WriteStats { accuracy } => {
+        QueryTask::WriteStats { accuracy } => {
             let made_stats = prepare_stats_file(
                 alloc,
                 store,
@@ -189,7 +189,7 @@ fn prepare_query<S: Store>(
             )?;
             Ok(PreparedRun::StatsMade(made_stats))
         }
-        Work::PlanFromStats { file, terms } => {
+        QueryTask::PlanFromStats { file, terms } => {
             let made = prepare_stats_file_plan(alloc, store, schema, query, file, terms)?;
             Ok(PreparedRun::PlannedFromStats(made))
         }
@@ -201,7 +201,7 @@ fn prepare_work<S: Store>(
     alloc: Global,
     store: &mut S,
     file: &Word,
-    work: &Work,
+    work: &QueryTask,
     schema: &Schema,
 ) -> Result<PreparedRun, Failure>
     requires schema { IsValid schema.now }
@@ -220,7 +220,7 @@ fn prepare_work<S: Store>(
 pub fn prepare_run<S: Store>(
     alloc: Global,
     store: &mut S,
-    aim: &Aim,
+    aim: &SchemaTask,
     schema: &Schema,
 ) -> Result<PreparedRun, Failure>
     requires schema { IsValid schema.now }
@@ -231,8 +231,8 @@ pub fn prepare_run<S: Store>(
         (IsAimFile aim.now schema.now) (mapped (outcome_of schema.now) result) }
 {
     match aim {
-        Aim::Query { file, work } => prepare_work(alloc, store, file, work, schema),
-        Aim::Append(append) => {
+        SchemaTask::Query { file, work } => prepare_work(alloc, store, file, work, schema),
+        SchemaTask::Append(append) => {
             let made = prepare_append(alloc, store, append, schema)?;
             Ok(PreparedRun::Appended(made))
         }

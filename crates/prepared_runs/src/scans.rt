@@ -10,7 +10,7 @@ ghost use Rattle.safebound_words.specs.InRange.{IsInRange};
 ghost use Rattle.prepared_runs.specs.Allowed.{MayJoin, shape_cost};
 ghost use Rattle.prepared_runs.specs.PreparedQuery.{CanJoin, HoldExactly, room_and_list_bytes, lists_in, plan_in};
 ghost use Rattle.prepared_runs.specs.Shapes.{IsPlanOver, scan_bounds, shape_bytes};
-ghost use Rattle.prepared_runs.specs.Sources.{lists_by, scans_by, sourced};
+ghost use Rattle.prepared_runs.specs.Sources.{lists_by, scans_by, bounds_and_lists_by};
 ghost use Rattle.prepared_runs.specs.Standing.{LoseNoRow};
 ghost use Rattle.prepared_runs.specs.Verdict.{plan_asked};
 
@@ -18,11 +18,10 @@ use crate::shapes::{AnyPlan, Room, bounds_of_scans, plan_by, reserve_room};
 use base_io::NoMemory;
 use counted_planning::from_counts;
 use csv_tables::Database;
-use join_steps::scan_all;
+use join_steps::{reserve_scans, scan_all};
 use key_bounds::from_keys;
 use limits::Accuracy;
 use order_search::PlanError;
-use planned_joins::reserve_scans;
 use planning::{QueryBounds, from_reduced, from_statistics};
 use query_types::Query;
 use row_buf::RowBuf;
@@ -33,13 +32,13 @@ use std::alloc::Global;
 /// The rows that are joined.
 #[derive(Drop)]
 pub enum Scans {
-    /// Each entry's whole scan. The row numbers aren't listed yet.
+    /// Each entry's complete scan. The row numbers aren't listed yet.
     Whole,
     /// For each entry a list of row numbers, in file order.
     Listed(Vec<RowBuf<u32>>),
 }
 
-// What a source gives: the bounds of all sets of entries and of their scans, and the rows that are joined.
+// The result of a source: the bounds of all sets of entries and of their scans, and the rows that are joined.
 #[derive(Drop)]
 struct Given {
     known: QueryBounds,
@@ -60,7 +59,7 @@ pub struct Joins {
     pub room: Room,
 }
 
-// What the source gives for a query over its database. This is the only function whose code depends on the source.
+// The result of the source for a query over its database. This is the only function whose code depends on the source.
 fn given_by(
     alloc: Global,
     source: ListSource,
@@ -70,7 +69,7 @@ fn given_by(
     db: &Database,
 ) -> Result<Given, NoMemory>
     requires database { IsDatabaseOf query.now db.now }
-    ensures known { let given = sourced source schema.now query.now (tables_of db.now) in
+    ensures known { let given = bounds_and_lists_by source schema.now query.now (tables_of db.now) in
         IfOk result (λ made. HasBounds (given.sets accuracy) (given.scans accuracy) made.known) }
     ensures lists { IfOk result (λ made. lists_in made.scans query.now (tables_of db.now)
         ≡ lists_by source query.now (tables_of db.now)) }
@@ -158,7 +157,7 @@ fn list_scans(
     Ok(lists)
 }
 
-// The list of each entry's rows. If the scans are whole, their rows are listed now; otherwise the lists are in `scans`.
+// The list of each entry's rows. Complete scans are listed now; otherwise the lists are in `scans`.
 fn list_rows(
     alloc: Global,
     task: &PlanWork,

@@ -13,14 +13,12 @@ use base_io::NoMemory;
 use bushy_planning::plan_tree_from;
 use csv_tables::Database;
 use order_search::PlanError;
-use planned_joins::reserve_plan;
 use planning::{QueryBounds, plan_from};
 use plans::Plan;
 use query_types::Query;
-use reserve_plan::Reserved;
 use safebound_words::{PlanWork, Shape};
 use std::alloc::Global;
-use tree_plans::BushyPlan;
+use tree_plans::{BushyPlan, tree_of_order};
 use tree_rows::{BushyReserved, reserve_bushy};
 
 /// A plan of either shape.
@@ -32,13 +30,12 @@ pub enum AnyPlan {
     TreePlan(BushyPlan),
 }
 
-/// A plan, and buffers for the rows that its joins list.
+/// A join tree, and buffers for the rows that its joins list. An order is a tree whose right children are leaves; its plan is kept for the texts.
 #[derive(Drop)]
-pub enum Room {
-    /// The buffers are those of the levels of an order.
-    Levels(Plan, Reserved),
-    /// The buffers are those of the inner nodes of a join tree.
-    Nodes(BushyPlan, BushyReserved),
+pub struct Room {
+    pub order: Option<Plan>,
+    pub tree: BushyPlan,
+    pub reserved: BushyReserved,
 }
 
 /// The best plan of a shape by the bounds `known`, or why no plan is within the budget.
@@ -82,25 +79,34 @@ pub fn reserve_room(
     alloc: Global,
     _task: &PlanWork,
     plan: AnyPlan,
-    query: &Query,
-    db: &Database,
+    _query: &Query,
+    _db: &Database,
 ) -> Result<Room, NoMemory>
     requires allowed { MayJoin _task.now plan }
-    requires database { IsDatabaseOf query.now db.now }
-    requires plan { (lists : List (List ℕ)) × IsPlanOver query.now (tables_of db.now) lists plan }
+    requires database { IsDatabaseOf _query.now _db.now }
+    requires plan { (lists : List (List ℕ)) × IsPlanOver _query.now (tables_of _db.now) lists plan }
     ensures plan { IfOk result (λ room. plan_in room ≡ plan) }
     ensures bytes { IfOk result (λ room. room_bytes room ≡ parts_bytes plan) }
-    ensures ready { IfOk result (λ room. (lists : List (List ℕ)) → IsPlanOver query.now (tables_of db.now) lists plan
-        → IsRoomOver query.now (tables_of db.now) lists room) }
+    ensures ready { IfOk result (λ room. (lists : List (List ℕ)) → IsPlanOver _query.now (tables_of _db.now) lists plan
+        → IsRoomOver _query.now (tables_of _db.now) lists room) }
 {
     match plan {
         AnyPlan::OrderPlan(plan) => {
-            let reserved = reserve_plan(alloc, query, db, &plan)?;
-            Ok(Room::Levels(plan, reserved))
+            let tree = tree_of_order(alloc, &plan)?;
+            let reserved = reserve_bushy(alloc, &tree)?;
+            Ok(Room {
+                order: Some(plan),
+                tree,
+                reserved,
+            })
         }
-        AnyPlan::TreePlan(plan) => {
-            let reserved = reserve_bushy(alloc, &plan)?;
-            Ok(Room::Nodes(plan, reserved))
+        AnyPlan::TreePlan(tree) => {
+            let reserved = reserve_bushy(alloc, &tree)?;
+            Ok(Room {
+                order: None,
+                tree,
+                reserved,
+            })
         }
     }
 }

@@ -12,7 +12,7 @@ ghost use Rattle.stats_reading.specs.Names.{HasByteColumns};
 ghost use Rattle.sql_meaning.specs.Tables.{tables_of};
 ghost use Rattle.table_files.specs.EntryTables.{entry_rows, tables_in};
 ghost use Rattle.table_files.specs.Stage.{IsReached, tables_of_query};
-ghost use Rattle.safebound_words.specs.declared.command.Work.TheVariants as works;
+ghost use Rattle.safebound_words.specs.declared.command.QueryTask.TheVariants as works;
 ghost use Rattle.stats_file_bounds.specs.Bounds.{scan_bounds_of_file, set_bounds_of_file};
 ghost use Rattle.safebound_words.specs.Commands.{most_budget_of};
 ghost use Rattle.prepared_runs.specs.Shapes.{planned_within};
@@ -22,7 +22,7 @@ ghost use Rattle.prepared_runs.specs.Verdict.{work_run};
 
 use crate::limit::{check_limit, memory_of};
 use crate::shapes::{AnyPlan, plan_by};
-use base_io::{NoMemory, Store};
+use base_io::{NoMemory, Seq, Store};
 use csv_tables::Database;
 use limits::{Accuracy, MOST_FILE};
 use outcomes::{Failure, FileId, Refusal, StatsCause};
@@ -68,7 +68,7 @@ pub(crate) fn load_stats<S: Store>(
     ensures reads { Reads (reading S.files S.faults S.misses store.old store.new) (stats_stage name.now schema.now)
         (AtFile FileId.Stats) result }
 {
-    let text = load_file(alloc, store, FileId::Stats, name.get(), MOST_FILE)?;
+    let text = load_file(Seq::new(alloc), store, FileId::Stats, name.get(), MOST_FILE)?;
     let file = read_stats(alloc, schema, text.as_slice())?;
     Ok(file)
 }

@@ -1,4 +1,4 @@
--- The line of an error is put part by part: `error`, words with a blank before each, and the line end.
+-- The line of an error is written piece by piece: `error`, words with a blank before each, and the line end.
 use Rattle.std.proofs.Common.{◌≡◌, ℕ, List, [], ◌∷◌, ◌++◌, map, refl, ap, sym, ◌∙◌}
 use Rattle.std.specs.Prelude.{codes}
 use Rattle.std.specs.List.{flat_map}

@@ -1,4 +1,4 @@
--- The fields of a record are put one after another, with a comma before each but the first.
+-- The fields of a record are written one after another, with a comma before each but the first.
 use Rattle.std.proofs.Common.{◌≡◌, ℕ, ◌≤◌, ◌-◌, List, [], ◌∷◌, ◌++◌, take, drop, length, map, get_or, ap, sym, ◌∙◌, append-nil, arith}
 use Rattle.std.specs.List.{flat_map, join_with_byte}
 use Rattle.std.proofs.lemmas.Grind.{common_steps}

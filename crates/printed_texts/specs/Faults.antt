@@ -1,4 +1,4 @@
--- The line for each status but Done: `error`, and then words with a blank before each.
+-- The line for each status but Done: `error`, then words with a blank before each.
 use Rattle.std.specs.Prelude.{ℕ, Bool, true, false, List, [], ◌∷◌, ◌++◌, map, codes, decimal, Option, None, Some, slice_get, if◌then◌else◌}
 use Rattle.std.specs.Char.{to_ascii_lowercase}
 use Rattle.std.specs.List.{flat_map}
@@ -46,7 +46,7 @@ abbrev pub file_of_table : Option Table → List ℕ
 file_of_table None = []
 file_of_table (Some table) = table_file table
 
--- the file of a table's rows: the file that the command names, or otherwise the table's own file
+-- the file of a table's rows: the file that the command names, or else the table's own file
 abbrev pub file_of_rows : Option (List ℕ) → Option Table → List ℕ
 file_of_rows None table = file_of_table table
 file_of_rows (Some name) table = name
@@ -55,9 +55,9 @@ abbrev pub name_of_column : Option Column → List ℕ
 name_of_column None = []
 name_of_column (Some column) = column.name
 
-abbrev pub column_in : Option Table → ℕ → List ℕ
-column_in None number = []
-column_in (Some table) number = name_of_column (slice_get table.columns number)
+abbrev pub column_name_in : Option Table → ℕ → List ℕ
+column_name_in None number = []
+column_name_in (Some table) number = name_of_column (slice_get table.columns number)
 
 -- the name of a file in a line: the command's word, or the name of a table's own file
 abbrev pub file_name : FileId → NamesInLine → List ℕ
@@ -81,12 +81,12 @@ stats_cause stats.Syntax = codes "syntax"
 stats_cause stats.Rule = codes "rule"
 stats_cause stats.Missing = codes "missing"
 
--- the words for what is wrong with a table's file. A column is given by its name
+-- the words for a fault in a table's file. A column is given by its name
 abbrev pub table_cause : TableCause → Option Table → List (List ℕ)
 table_cause (table.Utf8 at) t = codes "utf8" ∷ (decimal at ∷ [])
-table_cause (table.Header number) t = codes "header" ∷ (column_in t number ∷ [])
+table_cause (table.Header number) t = codes "header" ∷ (column_name_in t number ∷ [])
 table_cause (table.Width row found) t = codes "width" ∷ (decimal row ∷ (decimal found ∷ []))
-table_cause (table.Field row number) t = codes "field" ∷ (decimal row ∷ (column_in t number ∷ []))
+table_cause (table.Field row number) t = codes "field" ∷ (decimal row ∷ (column_name_in t number ∷ []))
 table_cause (table.Key row earlier) t = codes "key" ∷ (decimal row ∷ (decimal earlier ∷ []))
 
 abbrev pub table_words : List ℕ → Option Table → TableCause → List (List ℕ)
@@ -104,7 +104,7 @@ limit_word limit.InValues = codes "in-values"
 limit_word limit.Conjuncts = codes "conjuncts"
 limit_word limit.Outputs = codes "outputs"
 
--- whether the limit is for a whole file; if so, the line has the file's name
+-- whether the limit applies to a file as a whole; if so, the line has the file's name
 abbrev pub is_of_file : LimitKind → Bool
 is_of_file limit.FileBytes = true
 is_of_file limit.Rows = true
@@ -125,7 +125,7 @@ abbrev pub sink_name : SinkId → List ℕ
 sink_name sink.Out = codes "out"
 sink_name sink.Notes = codes "notes"
 
--- the words for a read that failed, and also for a file that isn't there
+-- the words for a file that doesn't exist or can't be read
 abbrev pub read_words : FileId → NamesInLine → List (List ℕ)
 read_words id names = codes "read" ∷ (file_name id names ∷ [])
 

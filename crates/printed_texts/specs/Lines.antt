@@ -15,9 +15,9 @@ pub record IsChoice (db : Database) (rows : List ℕ) : Type 0 where
   pub exists : (entry : ℕ) → entry < length db.slots → slice_index rows entry < (cells_of db entry).rows
 
 -- the line is the header, or its rows are a choice
-abbrev pub IsLineOf : Database → RowsRecord → Type 0
-IsLineOf db line.Header = ⊤
-IsLineOf db (line.Rows rows) = IsChoice db rows.now
+abbrev pub IsRecordOf : Database → RowsRecord → Type 0
+IsRecordOf db line.Header = ⊤
+IsRecordOf db (line.Rows rows) = IsChoice db rows.now
 
 -- an output's value in a choice, as text that isn't quoted yet
 abbrev pub field_of : Tables → List ℕ → Out → List ℕ

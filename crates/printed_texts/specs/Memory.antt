@@ -5,7 +5,7 @@ use Rattle.std.specs.Prelude.{ℕ, List, [], ◌++◌, Option, None, Some, codes
 abbrev pub memory_line : ℕ → List ℕ
 memory_line bytes = codes "memory " ++ (decimal bytes ++ codes "\n")
 
--- the line, if there is a limit; otherwise no text
+-- the line, if there is a limit; otherwise the empty text
 abbrev pub memory_text : Option ℕ → ℕ → List ℕ
 memory_text None bytes = []
 memory_text (Some limit) bytes = memory_line bytes

@@ -1,4 +1,4 @@
--- The rows text: a CSV text with the rows of an answer.
+-- The rows text: the rows of an answer as CSV.
 use Rattle.std.specs.Prelude.{ℕ, List, ◌++◌, map}
 use Rattle.std.specs.Fmt.{signed_decimal}
 use Rattle.std.specs.List.{flat_map}

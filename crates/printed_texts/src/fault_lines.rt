@@ -2,8 +2,8 @@
 ghost use Rattle.std.specs.Prelude.{◌≡◌, ◌≢◌, ◌∷◌, [], codes, decimal, option_copied, option_map};
 ghost use Rattle.base_io.specs.Devices.{growth};
 ghost use Rattle.base_io.specs.Writes.{Wrote};
-ghost use Rattle.printed_texts.specs.Faults.{column_in, error_line, fault_line, file_name, file_of_rows, file_of_table, is_of_file as of_file, limit_word as word_of_limit, limit_words, query_cause, read_words, refusal_words, schema_cause, sink_name, stats_cause, table_cause, table_in, table_words};
-ghost use Rattle.printed_texts.specs.Words.{file_text, names_of_line};
+ghost use Rattle.printed_texts.specs.Faults.{column_name_in, error_line, fault_line, file_name, file_of_rows, file_of_table, is_of_file as of_file, limit_word as word_of_limit, limit_words, query_cause, read_words, refusal_words, schema_cause, sink_name, stats_cause, table_cause, table_in, table_words};
+ghost use Rattle.printed_texts.specs.Words.{file_word_text, names_of_line};
 
 use crate::lines::{FileWord, write_error_line, write_words_about};
 use base_io::{Failed, Sink};
@@ -31,7 +31,7 @@ fn table_at<'a>(schema: Option<&'a Schema>, number: u32) -> Option<&'a Table>
 }
 
 fn table_word<'a>(table: Option<&'a Table>) -> FileWord<'a>
-    ensures { file_text result ≡ file_of_table (option_copied table.entry) }
+    ensures { file_word_text result ≡ file_of_table (option_copied table.entry) }
 {
     match table {
         Some(table) => FileWord::OfTable(table),
@@ -39,9 +39,9 @@ fn table_word<'a>(table: Option<&'a Table>) -> FileWord<'a>
     }
 }
 
-// The file of a table's rows: the file that the command names, or otherwise the table's own file.
+// The file of a table's rows: the file that the command names, or else the table's own file.
 fn rows_word<'a>(rows_file: Option<&'a str>, table: Option<&'a Table>) -> FileWord<'a>
-    ensures { file_text result ≡ file_of_rows (option_map (λ name. name.now) rows_file.entry) (option_copied table.entry) }
+    ensures { file_word_text result ≡ file_of_rows (option_map (λ name. name.now) rows_file.entry) (option_copied table.entry) }
 {
     match rows_file {
         Some(name) => FileWord::Given(name.as_bytes()),
@@ -50,7 +50,7 @@ fn rows_word<'a>(rows_file: Option<&'a str>, table: Option<&'a Table>) -> FileWo
 }
 
 fn name_of_column(table: &Table, number: u32) -> &[u8]
-    ensures { result.now ≡ column_in (Some table.now) number }
+    ensures { result.now ≡ column_name_in (Some table.now) number }
 {
     match table.columns.as_slice().get(number as usize) {
         Some(column) => column.name.as_str().as_bytes(),
@@ -59,7 +59,7 @@ fn name_of_column(table: &Table, number: u32) -> &[u8]
 }
 
 fn column_name<'a>(table: Option<&'a Table>, number: u32) -> &'a [u8]
-    ensures { result.now ≡ column_in (option_copied table.entry) number }
+    ensures { result.now ≡ column_name_in (option_copied table.entry) number }
 {
     match table {
         Some(table) => name_of_column(table, number),
@@ -69,7 +69,7 @@ fn column_name<'a>(table: Option<&'a Table>, number: u32) -> &'a [u8]
 
 // The name of `file` in a line.
 fn file_word<'a>(file: FileId, names: LineNames<'a>) -> FileWord<'a>
-    ensures { file_text result ≡ file_name file (names_of_line names.entry) }
+    ensures { file_word_text result ≡ file_name file (names_of_line names.entry) }
 {
     match file {
         FileId::Schema => FileWord::Given(names.schema_file.as_bytes()),
@@ -175,8 +175,8 @@ const FIELD: &[u8] = b"field";
 
 const KEY: &[u8] = b"key";
 
-// Writes the line of a refused schema, query or statistics text: the word for the text, the cause, and a number that says where. The number
-// is an offset in the text, a line, or a FROM entry.
+// Writes the line of a refused schema, query or statistics text. It has the word for the text, the cause, and a number for the place: an offset in
+// the text, a line, or a FROM entry.
 fn write_cause_at<N: Sink>(text: &[u8], cause: &[u8], at: u32, sink: &mut N) -> Result<(), Failed>
     ensures { Wrote (growth N.taken N.faults sink.old sink.new) (error_line (text.now ∷ (cause.now ∷ (decimal at ∷ [])))) result }
 {
@@ -193,7 +193,7 @@ fn write_numbers<N: Sink>(
     sink: &mut N,
 ) -> Result<(), Failed>
     ensures { Wrote (growth N.taken N.faults sink.old sink.new)
-        (error_line (codes "table" ∷ (file_text file.entry ∷ (cause.now ∷ (decimal first ∷ (decimal second ∷ [])))))) result }
+        (error_line (codes "table" ∷ (file_word_text file.entry ∷ (cause.now ∷ (decimal first ∷ (decimal second ∷ [])))))) result }
 {
     let (mut one, mut other) = (itoa::Buffer::new(), itoa::Buffer::new());
     let one = one.format(first).as_bytes();
@@ -208,7 +208,7 @@ fn write_table_fault<N: Sink>(
     cause: TableCause,
     sink: &mut N,
 ) -> Result<(), Failed>
-    ensures { Wrote (growth N.taken N.faults sink.old sink.new) (error_line (table_words (file_text file.entry) (option_copied table.entry) cause)) result }
+    ensures { Wrote (growth N.taken N.faults sink.old sink.new) (error_line (table_words (file_word_text file.entry) (option_copied table.entry) cause)) result }
 {
     let mut digits = itoa::Buffer::new();
     match cause {
@@ -235,7 +235,7 @@ fn write_limit<N: Sink>(
     found: u64,
     sink: &mut N,
 ) -> Result<(), Failed>
-    ensures { Wrote (growth N.taken N.faults sink.old sink.new) (error_line (limit_words which (file_text file.entry) found)) result }
+    ensures { Wrote (growth N.taken N.faults sink.old sink.new) (error_line (limit_words which (file_word_text file.entry) found)) result }
 {
     let mut digits = itoa::Buffer::new();
     let found = digits.format(found).as_bytes();
@@ -260,7 +260,7 @@ fn write_memory_limit<N: Sink>(bytes: u128, sink: &mut N) -> Result<(), Failed>
     write_error_line(&[MEMORY_LIMIT, digits.format(bytes).as_bytes()], sink)
 }
 
-// Writes the line of a file that isn't there, or that couldn't be read.
+// Writes the line of a file that doesn't exist or can't be read.
 fn write_read<N: Sink>(file: FileId, names: LineNames, sink: &mut N) -> Result<(), Failed>
     ensures { Wrote (growth N.taken N.faults sink.old sink.new) (error_line (read_words file (names_of_line names.entry))) result }
 {

@@ -1,12 +1,12 @@
-//! Writes the line of a fault: `error`, then words with a blank before each, and LF. One of the words may be the name of a file. No function
-//! here takes memory.
+//! Writes the line of a fault: `error`, then words with a blank before each, and LF. One of the words may be the name of a file. No function here
+//! takes memory.
 ghost use Rattle.std.specs.Prelude.{◌≡◌, ◌≤◌, ◌++◌, ◌∷◌, map};
 ghost use Rattle.std.specs.Char.{to_ascii_lowercase};
 ghost use Rattle.std.specs.List.{flat_map};
 ghost use Rattle.base_io.specs.Devices.{growth};
 ghost use Rattle.base_io.specs.Writes.{WroteBuffered, Wrote};
 ghost use Rattle.printed_texts.specs.Faults.{after_blank, error_line, table_file};
-ghost use Rattle.printed_texts.specs.Words.{file_text};
+ghost use Rattle.printed_texts.specs.Words.{file_word_text};
 
 use base_io::{Buffer, Failed, Sink};
 use schema_types::Table;
@@ -19,7 +19,7 @@ const CSV: &[u8] = b".csv";
 
 const LINE_END: &[u8] = b"\n";
 
-/// The name of a file in a line: a name that was given, or the name of a table's own file, which is the table's name in lower case and `.csv`.
+/// The name of a file in a line: a given name, or the name of a table's own file, which is the table's name in lower case and `.csv`.
 #[derive(Clone, Copy)]
 pub enum FileWord<'a> {
     Given(&'a [u8]),
@@ -44,7 +44,7 @@ fn put_table_file<N: Sink>(table: &Table, buffer: &mut Buffer, sink: &mut N) -> 
 }
 
 fn put_file_name<N: Sink>(file: FileWord, buffer: &mut Buffer, sink: &mut N) -> Result<(), Failed>
-    ensures { WroteBuffered (growth N.taken N.faults sink.old sink.new) buffer.old buffer.new (file_text file.entry) result }
+    ensures { WroteBuffered (growth N.taken N.faults sink.old sink.new) buffer.old buffer.new (file_word_text file.entry) result }
 {
     match file {
         FileWord::Given(name) => buffer.put(sink, name),
@@ -54,7 +54,7 @@ fn put_file_name<N: Sink>(file: FileWord, buffer: &mut Buffer, sink: &mut N) -> 
 
 // Puts a blank and the name of a file.
 fn put_file<N: Sink>(file: FileWord, buffer: &mut Buffer, sink: &mut N) -> Result<(), Failed>
-    ensures { WroteBuffered (growth N.taken N.faults sink.old sink.new) buffer.old buffer.new (after_blank (file_text file.entry)) result }
+    ensures { WroteBuffered (growth N.taken N.faults sink.old sink.new) buffer.old buffer.new (after_blank (file_word_text file.entry)) result }
 {
     buffer.put(sink, SPACE)?;
     put_file_name(file, buffer, sink)
@@ -85,7 +85,7 @@ fn put_words_about<N: Sink>(
     sink: &mut N,
 ) -> Result<(), Failed>
     ensures { WroteBuffered (growth N.taken N.faults sink.old sink.new) buffer.old buffer.new
-        (flat_map after_blank (map (λ w. w.now) words.now ++ (file_text file.entry ∷ map (λ w. w.now) more.now))) result }
+        (flat_map after_blank (map (λ w. w.now) words.now ++ (file_word_text file.entry ∷ map (λ w. w.now) more.now))) result }
 {
     put_words(words, buffer, sink)?;
     put_file(file, buffer, sink)?;
@@ -112,7 +112,7 @@ pub fn write_words_about<N: Sink>(
     sink: &mut N,
 ) -> Result<(), Failed>
     ensures { Wrote (growth N.taken N.faults sink.old sink.new)
-        (error_line (map (λ w. w.now) words.now ++ (file_text file.entry ∷ map (λ w. w.now) more.now))) result }
+        (error_line (map (λ w. w.now) words.now ++ (file_word_text file.entry ∷ map (λ w. w.now) more.now))) result }
 {
     let mut buffer = Buffer::new();
     buffer.put(sink, ERROR)?;

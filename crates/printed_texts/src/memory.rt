@@ -26,7 +26,7 @@ fn write_bytes<N: Sink>(bytes: u128, sink: &mut N) -> Result<(), Failed>
     buffer.flush(sink)
 }
 
-/// Writes how many bytes the plan takes, if the command gave a limit of memory; otherwise nothing is written. The line follows the plan text.
+/// Writes how many bytes the plan takes, if the command gave a limit of memory; otherwise writes nothing. The line follows the plan text.
 pub fn write_memory<N: Sink>(limit: Option<u64>, bytes: u128, sink: &mut N) -> Result<(), Failed>
     ensures { Wrote (growth N.taken N.faults sink.old sink.new) (memory_text limit bytes) result }
 {

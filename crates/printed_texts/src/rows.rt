@@ -7,7 +7,7 @@ ghost use Rattle.row_printer.specs.Fields.{field_text, lone_field_text};
 ghost use Rattle.sql_meaning.specs.Databases.{AreTables, IsColumnOf};
 ghost use Rattle.sql_meaning.specs.ValueRefs.{value_of_ref};
 ghost use Rattle.sql_meaning.specs.Tables.{tables_of};
-ghost use Rattle.printed_texts.specs.Lines.{IsLineOf, field_at, fields_at, line_at, next_field};
+ghost use Rattle.printed_texts.specs.Lines.{IsRecordOf, field_at, fields_at, line_at, next_field};
 ghost use Rattle.printed_texts.specs.Texts.{value_text};
 
 use base_io::{Buffer, Failed, Sink};
@@ -27,7 +27,7 @@ pub enum RowsRecord<'a> {
 fn field<'a>(out: &'a Out, line: RowsRecord, db: &'a Database) -> ValueRef<'a>
     requires tables { AreTables db.now }
     requires column { IsColumnOf db.now out.now.column }
-    requires line { IsLineOf db.now line }
+    requires line { IsRecordOf db.now line }
     ensures { value_text (value_of_ref result) ≡ field_at (tables_of db.now) line.entry out.now }
 {
     match line {
@@ -73,7 +73,7 @@ fn put_next<N: Sink>(
 ) -> Result<(), Failed>
     requires tables { AreTables db.now }
     requires column { IsColumnOf db.now out.now.column }
-    requires line { IsLineOf db.now line }
+    requires line { IsRecordOf db.now line }
     ensures { WroteBuffered (growth N.taken N.faults sink.old sink.new) buffer.old buffer.new
         (next_field (tables_of db.now) line.entry out.now) result }
 {
@@ -91,7 +91,7 @@ fn put_others<N: Sink>(
 ) -> Result<(), Failed>
     requires tables { AreTables db.now }
     requires columns { All (λ out. IsColumnOf db.now out.column) outs.now }
-    requires line { IsLineOf db.now line }
+    requires line { IsRecordOf db.now line }
     ensures { WroteBuffered (growth N.taken N.faults sink.old sink.new) buffer.old buffer.new
         (flat_map (next_field (tables_of db.now) line.entry) outs.now) result }
 {
@@ -112,7 +112,7 @@ fn put_several<N: Sink>(
     requires several { 2 ≤ length outs.now }
     requires tables { AreTables db.now }
     requires columns { All (λ out. IsColumnOf db.now out.column) outs.now }
-    requires line { IsLineOf db.now line }
+    requires line { IsRecordOf db.now line }
     ensures { WroteBuffered (growth N.taken N.faults sink.old sink.new) buffer.old buffer.new
         (fields_at outs.now (tables_of db.now) line.entry) result }
 {
@@ -131,7 +131,7 @@ fn put_fields<N: Sink>(
 ) -> Result<(), Failed>
     requires tables { AreTables db.now }
     requires columns { All (λ out. IsColumnOf db.now out.column) outs.now }
-    requires line { IsLineOf db.now line }
+    requires line { IsRecordOf db.now line }
     ensures { WroteBuffered (growth N.taken N.faults sink.old sink.new) buffer.old buffer.new
         (fields_at outs.now (tables_of db.now) line.entry) result }
 {
@@ -152,7 +152,7 @@ pub fn put_line<N: Sink>(
 ) -> Result<(), Failed>
     requires tables { AreTables db.now }
     requires columns { All (λ out. IsColumnOf db.now out.column) outs.now }
-    requires line { IsLineOf db.now line }
+    requires line { IsRecordOf db.now line }
     ensures { WroteBuffered (growth N.taken N.faults sink.old sink.new) buffer.old buffer.new
         (line_at outs.now (tables_of db.now) line.entry) result }
 {

@@ -20,12 +20,12 @@ use Rattle.tree_bounds.specs.SetBounds.{bound_of_set}
 use Rattle.bound_fold.proofs.TestedSets.{each_in_set, each_named}
 use Rattle.sql_meaning.specs.Tables.{Tables, row_counts}
 use Rattle.level_bounds.specs.Keys.{Keys}
-use Rattle.level_bounds.specs.Whole.{AreCompressed, keys_of, uncompressed}
+use Rattle.level_bounds.specs.WholeTables.{AreCompressed, keys_of, uncompressed}
 use Rattle.level_bounds.proofs.NearWhole.{near}
 use Rattle.set_bounds.proofs.SetBySet.{told_at}
 use Rattle.filtered_lists.proofs.Lists.{unfiltered, unfiltered_rows}
 use Rattle.entry_sets.proofs.Listing.{entry_below}
-use Rattle.query_bounds.specs.Bounds.{entry_bounds, is_among, scan_list, scan_rows, set_bounds}
+use Rattle.query_bounds.specs.Bounds.{entry_bounds, is_among, scan_list, scan_row_bound, set_bounds}
 use Rattle.query_bounds.specs.Statistics.{AreOfWholeTables, Statistics}
 use Rattle.query_bounds.proofs.Holding.{pair_at}
 use Rattle.query_bounds.proofs.Sets.{both_among}
@@ -46,9 +46,9 @@ module _ (query : Query) (known : Statistics) (tables : Tables) (key : Keys) (ac
   abbrev list_of : ℕ → ℕ → List ℕ
   list_of entry column = compressed accuracy (degree_list (keys_of tables key entry column))
 
-  rows_are : (entry : ℕ) → entry < length query.from → (if ltb entry (length query.from) then scan_rows query known entry else 0) ≡ row_counts tables entry
+  rows_are : (entry : ℕ) → entry < length query.from → (if ltb entry (length query.from) then scan_row_bound query known entry else 0) ≡ row_counts tables entry
   rows_are entry low =
-      ap (λ (t : Bool). if t then scan_rows query known entry else 0) (lt-ltb entry (length query.from) low)
+      ap (λ (t : Bool). if t then scan_row_bound query known entry else 0) (lt-ltb entry (length query.from) low)
       ∙ unfiltered_rows (known.counts entry) entry query.conjuncts (whole.unfiltered entry) ∙ whole.counts entry low
 
   list_are : (entry column : ℕ) → is_among (places_of (equalities_of query)) entry column ≡ true → (known.lists entry column).whole ≡ list_of entry column

@@ -1,4 +1,4 @@
--- The code's bounds of scans and of sets are those of the definitions.
+-- The bounds of scans and of sets that the code computes are those of the definitions.
 use Rattle.std.proofs.Common.{◌≡◌, ℕ, zero, suc, ◌-◌, ◌<◌, ◌^◌, Bool, true, false, ◌||◌, eqb, List, [], ◌∷◌, map, length, get_or, Some, None, refl, ap, ◌∙◌, arith}
 use Rattle.std.specs.Prelude.{IsSome, if◌then◌else◌}
 use Rattle.std.specs.List.{range_with_len}
@@ -14,20 +14,20 @@ use Rattle.query_types.specs.declared.types.Query.{Query}
 use Rattle.tree_bounds.specs.TreeBounds.{EntryBounds}
 use Rattle.tree_bounds.proofs.SmallSets.{empty_is}
 use Rattle.bound_fold.specs.declared.lists.EntryLists.{EntryLists}
-use Rattle.bound_fold.specs.Lists.{list_of, rows_of}
+use Rattle.bound_fold.specs.Lists.{list_of, row_bound_of}
 use Rattle.bound_fold.specs.Sets.{SetHasBounds}
 use Rattle.bound_fold.proofs.TestedSets.{each_in_set, each_named}
 use Rattle.set_bounds.specs.AllSets.{bound_in_128_bits, bounds_of_sets}
 use Rattle.set_bounds.proofs.SetBySet.{told_at}
 use Rattle.entry_sets.proofs.Listing.{entry_below}
-use Rattle.query_bounds.specs.Bounds.{HoldsKnown, is_among, is_at, scan_list, scan_rows}
+use Rattle.query_bounds.specs.Bounds.{HoldsKnown, is_among, is_at, scan_list, scan_row_bound}
 use Rattle.query_bounds.specs.Statistics.{Statistics}
 use Rattle.query_bounds.proofs.Holding.{is_some_of}
 
 -- ---- entries and columns that have a row bound and a list
 
-pub row_there : (query : Query) (known : Statistics) (n : ℕ) (places : List Place) (lists : EntryLists) → HoldsKnown query known n places lists → (entry : ℕ) → entry < n → rows_of lists entry ≡ Some (scan_rows query known entry)
-row_there query known n places lists held entry low = held.rows entry ∙ ap (λ (t : Bool). if t then Some (scan_rows query known entry) else None) (lt-ltb entry n low)
+pub row_there : (query : Query) (known : Statistics) (n : ℕ) (places : List Place) (lists : EntryLists) → HoldsKnown query known n places lists → (entry : ℕ) → entry < n → row_bound_of lists entry ≡ Some (scan_row_bound query known entry)
+row_there query known n places lists held entry low = held.rows entry ∙ ap (λ (t : Bool). if t then Some (scan_row_bound query known entry) else None) (lt-ltb entry n low)
 
 pub list_there : (query : Query) (known : Statistics) (n : ℕ) (places : List Place) (lists : EntryLists) → HoldsKnown query known n places lists → (entry column : ℕ) → is_among places entry column ≡ true
     → list_of lists entry column ≡ Some (scan_list query known entry column)
@@ -62,7 +62,7 @@ both_among (e ∷ es) (suc k) d low =
 
 pub all_listed : (query : Query) (known : Statistics) (n : ℕ) (es : List Edge) (lists : EntryLists) → HoldsKnown query known n (places_of es) lists → SetHasBounds lists es (2 ^ n - 1)
 all_listed query known n es lists held = record {
-  rows = each_in_set (λ k. IsSome (rows_of lists k)) (2 ^ n - 1) (λ k low has. is_some_of (rows_of lists k) (scan_rows query known k)
+  rows = each_in_set (λ k. IsSome (row_bound_of lists k)) (2 ^ n - 1) (λ k low has. is_some_of (row_bound_of lists k) (scan_row_bound query known k)
       (row_there query known n (places_of es) lists held k (entry_below n (2 ^ n - 1) k (omega (arith, pow_pos n)) has)));
   columns = each_named (λ entry column. IsSome (list_of lists entry column)) (2 ^ n - 1) es (λ k d low joins.
       let among = both_among es k d low in
@@ -75,8 +75,8 @@ all_listed query known n es lists held = record {
 
 -- ---- the bound of an entry's scan
 
-pub scan_at : (query : Query) (known : Statistics) (n entry : ℕ) (scans : List ℕ) → scans ≡ map (scan_rows query known) (range_with_len 0 n) → entry < n → get_or scans entry 0 ≡ scan_rows query known entry
-scan_at query known n entry scans is low = ap (λ (s : List ℕ). get_or s entry 0) is ∙ get_or-map-range_with_len (scan_rows query known) 0 n entry entry 0 low (omega arith)
+pub scan_at : (query : Query) (known : Statistics) (n entry : ℕ) (scans : List ℕ) → scans ≡ map (scan_row_bound query known) (range_with_len 0 n) → entry < n → get_or scans entry 0 ≡ scan_row_bound query known entry
+scan_at query known n entry scans is low = ap (λ (s : List ℕ). get_or s entry 0) is ∙ get_or-map-range_with_len (scan_row_bound query known) 0 n entry entry 0 low (omega arith)
 
 -- ---- the bounds of sets
 

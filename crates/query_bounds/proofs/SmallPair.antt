@@ -1,4 +1,4 @@
--- The bounds of the worked example are computed here.
+-- The bounds of the example of two tables, by computation.
 use Rattle.std.proofs.Common.{◌≡◌, [], ◌∷◌, refl, arith}
 use Rattle.entry_sets.specs.Sets.{entries_of_set}
 use Rattle.query_grammar.specs.declared.tree.Op.TheVariants as op

@@ -1,10 +1,10 @@
--- When the list of a column may be added.
+-- A condition under which the list of a column may be added.
 use Rattle.std.specs.Prelude.{◌≡◌, ◌<◌, length, Some}
 use Rattle.std.specs.List.{sum}
 use Rattle.berge_tree.specs.declared.edges.Place.{Place}
 use Rattle.query_types.specs.declared.types.Query.{Query}
 use Rattle.bound_fold.specs.declared.lists.EntryLists.{EntryLists}
-use Rattle.bound_fold.specs.Lists.{rows_of}
+use Rattle.bound_fold.specs.Lists.{row_bound_of}
 use Rattle.filtered_lists.specs.Lists.{ColumnLists, filtered_list}
 use Rattle.predicate_bounds.specs.declared.columns.QueryStats.{QueryStats}
 use Rattle.predicate_bounds.specs.StatsLists.{HasLists}
@@ -16,4 +16,4 @@ pub record MayAdd (stats : QueryStats) (place : Place) (lists : EntryLists) : Ty
   pub known : ColumnLists
   pub entry : place.entry < length stats.entries
   pub tells : HasLists query stats place.entry place.column known
-  pub rows : rows_of lists place.entry ≡ Some (sum (filtered_list known place.entry query.conjuncts))
+  pub rows : row_bound_of lists place.entry ≡ Some (sum (filtered_list known place.entry query.conjuncts))

@@ -1,4 +1,4 @@
--- Two tables that are joined by one column, for worked examples.
+-- Two tables that are joined by one column, for examples.
 use Rattle.std.specs.Prelude.{ℕ, ◌==◌, if◌then◌else◌, List, [], ◌∷◌}
 use Rattle.query_grammar.specs.declared.tree.Op.TheVariants as op
 use Rattle.query_types.specs.declared.types.Cond.{Compare}
@@ -14,11 +14,11 @@ pair = record {
   select = record { column = record { from = 0; column = 0 }; name = 88 ∷ [] } ∷ [];
 }
 
--- R(X) has the rows 1, 1, 1, 2, 2, 3, and S(X) the rows 1, 1, 4, 5, 6
+-- R(X) has the rows 1, 1, 1, 2, 2, 3, so 6 rows. S(X) has the rows 1, 1, 4, 5, 6, so 5 rows
 abbrev pub pair_rows : ℕ → ℕ
 pair_rows entry = if entry == 0 then 6 else 5
 
--- the degree lists of R(X) and S(X) are 3, 2, 1 and 2, 1, 1, 1. Compressed at accuracy 1 they are these lists
+-- R(X) has the degree list 3, 2, 1, and S(X) has 2, 1, 1, 1. These are the two lists compressed at accuracy 1
 abbrev pub pair_list : ℕ → List ℕ
 pair_list entry = if entry == 0 then 3 ∷ 3 ∷ [] else 2 ∷ 2 ∷ 1 ∷ []
 

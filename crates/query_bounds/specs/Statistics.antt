@@ -1,4 +1,4 @@
--- What is known about a query's entries (`Statistics`), when a `QueryStats` has it, and when it holds for tables.
+-- The known counts and lists of a query's entries (`Statistics`). A `QueryStats` may have them, and they may bound tables.
 use Rattle.std.specs.Prelude.{◌≡◌, ℕ, ◌<◌, ◌≤◌, ◌^◌, [], length}
 use Rattle.degree_sequences.specs.Compression.{compressed}
 use Rattle.degree_sequences.specs.Degrees.{degree_list}
@@ -7,7 +7,7 @@ use Rattle.join_graph.specs.Conjuncts.{equalities_of}
 use Rattle.tree_bounds.specs.Columns.{EachNamedColumn}
 use Rattle.sql_meaning.specs.Tables.{Tables, row_counts}
 use Rattle.level_bounds.specs.Keys.{Keys}
-use Rattle.level_bounds.specs.Whole.{keys_of}
+use Rattle.level_bounds.specs.WholeTables.{keys_of}
 use Rattle.filtered_lists.specs.Filters.{own_conjuncts}
 use Rattle.filtered_lists.specs.Lists.{ColumnLists, RowCounts}
 use Rattle.filtered_lists.specs.Standing.{CountsStandFor, ListsStandFor, SumTo}
@@ -19,10 +19,10 @@ pub record Statistics : Type 0 where
   pub counts : ℕ → RowCounts
   pub lists : ℕ → ℕ → ColumnLists
 
--- ---- when a `QueryStats` has the known counts and lists
+-- ---- a `QueryStats` that has the known counts and lists
 
--- for an entry's row bound `stats` has the lists of one of the entry's columns. The sum of each list is the entry's row count for the same
--- filter, and the count of all rows is at most 2^32
+-- for the row bound of an entry, `stats` has the lists of one of the entry's columns. The sum of each list is the entry's row count for the same
+-- filter. The count of all rows is at most 2^32
 pub record TellsRowBound (query : Query) (stats : QueryStats) (known : Statistics) (entry : ℕ) : Type 0 where
   pub column : ℕ
   pub lists : HasRowLists query stats entry (known.lists entry column)
@@ -34,18 +34,18 @@ pub record TellsColumn (query : Query) (stats : QueryStats) (known : Statistics)
   pub lists : HasLists query stats entry column (known.lists entry column)
   pub sums : SumTo (known.lists entry column) (known.counts entry)
 
--- `stats` has what is known about all FROM entries, and about all columns that an equality joins
-pub record Tells (query : Query) (stats : QueryStats) (known : Statistics) : Type 0 where
+-- `stats` has the known counts and lists of all FROM entries, and of all columns that an equality joins
+pub record HasStatistics (query : Query) (stats : QueryStats) (known : Statistics) : Type 0 where
   pub one_each : length stats.entries ≡ length query.from
   pub entries : (entry : ℕ) → entry < length query.from → TellsRowBound query stats known entry
   pub columns : EachNamedColumn (TellsColumn query stats known) (equalities_of query)
 
--- `stats` has the counts and lists of some `Statistics`, which are the field `known`
+-- `stats` has the counts and lists of some `Statistics`, the field `known`
 pub record TellsSomeStatistics (query : Query) (stats : QueryStats) : Type 0 where
   pub known : Statistics
-  pub tells : Tells query stats known
+  pub tells : HasStatistics query stats known
 
--- ---- when the known counts and lists bound tables
+-- ---- known counts and lists that bound tables
 
 -- the known counts bound the rows of each entry's table, and the known lists dominate the keys of each column that an equality joins
 pub record StandFor (query : Query) (known : Statistics) (tables : Tables) (key : Keys) : Type 0 where
@@ -53,10 +53,10 @@ pub record StandFor (query : Query) (known : Statistics) (tables : Tables) (key 
   pub lists : EachNamedColumn
       (λ entry column. ListsStandFor (known.lists entry column) tables entry (key entry column)) (equalities_of query)
 
--- ---- whole columns
+-- ---- statistics of whole columns, without filters
 
--- no entry has own conjuncts, and whole tables are known: each entry's number of rows, and the degree list of each column that an equality
--- joins, compressed at this accuracy
+-- no entry has own conjuncts. The statistics have each table's number of rows. For each column that an equality joins they have the degree list,
+-- compressed at this accuracy
 pub record AreOfWholeTables (query : Query) (known : Statistics) (tables : Tables) (key : Keys) (accuracy : ℕ) : Type 0 where
   pub unfiltered : (entry : ℕ) → own_conjuncts entry query.conjuncts ≡ []
   pub counts : (entry : ℕ) → entry < length query.from → (known.counts entry).whole ≡ row_counts tables entry

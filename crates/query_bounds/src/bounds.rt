@@ -7,8 +7,8 @@ use base_io::{NoMemory, Seq};
 use bound_fold::EntryLists;
 use std::alloc::Global;
 
-/// The row bound of each of the first `count` entries, in FROM order. The row bound of an entry bounds its scan (SafeBound, SIGMOD 2023); it
-/// is 0 for an entry whose row bound wasn't set.
+/// The row bound of each of the first `count` entries, in FROM order. An entry's row bound bounds the rows of its scan (SafeBound, SIGMOD 2023). It
+/// is 0 if it wasn't set.
 pub fn scans_of(alloc: Global, lists: &EntryLists, count: u8) -> Result<Seq<u64>, NoMemory>
     ensures { IfOk result (λ scans. scans ≡ map (bounds_of lists.now).rows (range_with_len 0 count)) }
 {

@@ -1,10 +1,10 @@
-//! A worked example: two tables joined by one column. The bounds are proved by computation.
+//! An example: two tables joined by one column. The bounds are proved by computation.
 ghost use Rattle.std.specs.Prelude.{◌≡◌, ◌∷◌, []};
 ghost use Rattle.query_bounds.specs.Bounds.{scan_bounds, set_bounds};
 ghost use Rattle.query_bounds.specs.Examples.{pair, pair_known};
 
-/// R(X) has the rows 1, 1, 1, 2, 2, 3, and S(X) has the rows 1, 1, 4, 5, 6. The bound of the empty set is 1, that of R is 6, that of S is 5,
-/// and that of both together is 12.
+/// R(X) has the rows 1, 1, 1, 2, 2, 3, and S(X) has the rows 1, 1, 4, 5, 6. The bounds of the sets are 1 for the empty set, 6 for R, 5 for S, and 12
+/// for R and S.
 pub fn pairs()
     ensures scans { scan_bounds pair pair_known ≡ 6 ∷ 5 ∷ [] }
     ensures sets { set_bounds pair pair_known ≡ 1 ∷ 6 ∷ 5 ∷ 12 ∷ [] }

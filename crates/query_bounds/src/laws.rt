@@ -6,13 +6,13 @@ ghost use Rattle.join_graph.specs.Conjuncts.{equalities_of};
 ghost use Rattle.tree_bounds.specs.SetBounds.{bound_of_set};
 ghost use Rattle.sql_meaning.specs.Tables.{Tables};
 ghost use Rattle.level_bounds.specs.Keys.{Keys};
-ghost use Rattle.level_bounds.specs.Whole.{uncompressed};
+ghost use Rattle.level_bounds.specs.WholeTables.{uncompressed};
 ghost use Rattle.query_bounds.specs.Bounds.{set_bounds};
 ghost use Rattle.query_bounds.specs.Statistics.{AreOfWholeTables, Statistics};
 
-/// Bounds from compressed lists are near those from degree lists, if no conjunct names just one entry. Take the bound of a set of n entries
-/// from compressed lists of whole columns, at accuracy K, and the bound of the set from the columns' degree lists. Then K^n times the first
-/// bound is at most (K + 1)^n times the second.
+/// Bounds from compressed lists are near those from degree lists, if no conjunct names just one entry. A set of n entries has a bound from the
+/// columns' compressed lists at accuracy K, and a bound from the columns' degree lists. K^n times the first bound is at most (K + 1)^n times the
+/// second.
 pub fn unfiltered_bounds_are_near()
     ensures { (query : Query) (known : Statistics) (tables : Tables) (key : Keys) (accuracy subset : ℕ)
         → AreOfWholeTables query known tables key accuracy → subset < 2 ^ length query.from

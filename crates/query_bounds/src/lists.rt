@@ -1,14 +1,14 @@
-//! From statistics to the row bound of each entry and the list of each joined column.
+//! Takes the row bound of each entry and the list of each joined column from statistics.
 ghost use Rattle.std.specs.Prelude.{◌≡◌, ◌≢◌, ◌⊎◌, ◌≤◌, ℕ, [], length, IfOk, OnOk, Some, unwrap_or};
 ghost use Rattle.limits.specs.Profile.{most_entries};
 ghost use Rattle.join_graph.specs.Conjuncts.{equalities_of};
-ghost use Rattle.bound_fold.specs.Lists.{bounds_of, list_of, rows_of};
+ghost use Rattle.bound_fold.specs.Lists.{bounds_of, list_of, row_bound_of};
 ghost use Rattle.query_types.specs.declared.types.Query.{Query};
 ghost use Rattle.filtered_lists.specs.Lists.{ColumnLists, filtered_list};
 ghost use Rattle.predicate_bounds.specs.StatsLists.{HasLists};
 ghost use Rattle.query_bounds.specs.Adding.{MayAdd};
 ghost use Rattle.query_bounds.specs.Bounds.{HoldsKnown, entry_bounds, joined_columns};
-ghost use Rattle.query_bounds.specs.Statistics.{TellsSomeStatistics, Statistics, Tells};
+ghost use Rattle.query_bounds.specs.Statistics.{TellsSomeStatistics, Statistics, HasStatistics};
 
 use base_io::NoMemory;
 use berge_tree::Place;
@@ -22,7 +22,7 @@ use std::alloc::Global;
 fn with_rows(alloc: Global, query: &Query, stats: &QueryStats) -> Result<EntryLists, NoMemory>
     requires few { length query.now.from ≤ most_entries }
     requires told { TellsSomeStatistics query.now stats.now }
-    ensures { IfOk result (λ lists. (known : Statistics) → Tells query.now stats.now known
+    ensures { IfOk result (λ lists. (known : Statistics) → HasStatistics query.now stats.now known
         → HoldsKnown query.now known (length query.now.from) [] lists) }
 {
     let mut lists = EntryLists::new(alloc);
@@ -33,7 +33,7 @@ fn with_rows(alloc: Global, query: &Query, stats: &QueryStats) -> Result<EntryLi
     Ok(lists)
 }
 
-// Adds the list of the joined column `place`, which is an entry with one of its columns, to `lists`, if `lists` doesn't have it yet.
+// Adds the list of the joined column `place` to `lists`, unless `lists` has it. `place` is an entry and one of its columns.
 fn add_list(
     alloc: Global,
     stats: &QueryStats,
@@ -46,7 +46,7 @@ fn add_list(
         ≡ Some (unwrap_or (list_of lists.old place.entry place.column) (filtered_list known place.entry query.conjuncts))) }
     ensures others { (entry column : ℕ) → ((entry ≢ place.entry) ⊎ (column ≢ place.column))
         → list_of lists.new entry column ≡ list_of lists.old entry column }
-    ensures rows { (entry : ℕ) → rows_of lists.new entry ≡ rows_of lists.old entry }
+    ensures rows { (entry : ℕ) → row_bound_of lists.new entry ≡ row_bound_of lists.old entry }
 {
     if lists.list(place.entry, place.column).is_none() {
         let list = stats.bound_list(alloc, place.entry, place.column)?;
@@ -55,8 +55,8 @@ fn add_list(
     Ok(())
 }
 
-/// The row bound of each FROM entry, and the list of each column that an equality of the query joins. A column that several equalities join
-/// has one list. `parts` is what `split` makes of the query.
+/// The row bound of each FROM entry, and the list of each column that an equality of the query joins. A column that several equalities join has one
+/// list. `parts` is the result of `split` for the query.
 pub fn entry_lists(
     alloc: Global,
     query: &Query,
@@ -66,9 +66,9 @@ pub fn entry_lists(
     requires few { length query.now.from ≤ most_entries }
     requires equalities { parts.now.equalities ≡ equalities_of query.now }
     requires told { TellsSomeStatistics query.now stats.now }
-    ensures holds { IfOk result (λ lists. (known : Statistics) → Tells query.now stats.now known
+    ensures holds { IfOk result (λ lists. (known : Statistics) → HasStatistics query.now stats.now known
         → HoldsKnown query.now known (length query.now.from) (joined_columns query.now) lists) }
-    ensures bounds { IfOk result (λ lists. (known : Statistics) → Tells query.now stats.now known
+    ensures bounds { IfOk result (λ lists. (known : Statistics) → HasStatistics query.now stats.now known
         → bounds_of lists ≡ entry_bounds query.now known) }
 {
     let mut lists = with_rows(alloc, query, stats)?;

@@ -1,9 +1,9 @@
--- The reader of conditions reads the language of conditions with parentheses nested to any depth.
+-- The parser of conditions reads all conditions, however deep their parentheses are nested.
 use Rattle.std.proofs.Common.{◌≡◌, ℕ, zero, suc, ◌+◌, ◌≤◌, Option, Some, None, List, ◌++◌, sym, ap, ◌∙◌, arith}
 use Rattle.ll_grammars.specs.declared.lexeme.Lexeme.{Lexeme}
 use Rattle.ll_grammars.specs.declared.terminal.Terminal.TheVariants as terminal
 use Rattle.ll_grammars.specs.Language.{Language}
-use Rattle.ll_grammars.specs.Reads.{Reads, BeginsOutside, SameHead, Splits}
+use Rattle.ll_grammars.specs.Parses.{Parses, BeginsOutside, SameHead, Splits}
 use Rattle.ll_grammars.proofs.Growing.{IsIn, itself_grows, then_grows, made_grows, either_grows, listed_grows, parentheses_grow}
 use Rattle.query_grammar.specs.declared.tree.CondNode.{CondNode}
 use Rattle.query_grammar.specs.Nesting.{nesting}
@@ -12,7 +12,7 @@ use Rattle.query_grammar.specs.Readers.{read_within, read_condition}
 use Rattle.query_grammar.proofs.ConditionRules.{cond_shape, reads_within}
 use Rattle.query_grammar.proofs.EnoughDepth.{within_alike}
 
--- ---- a text of conditions nested at most n deep is also one of conditions nested at most m deep, if n ≤ m
+-- ---- conditions nested at most n deep are also nested at most m deep, if n ≤ m
 
 conds_grow : (T T' : Language CondNode) → IsIn T T' → IsIn (ConditionOf T) (ConditionOf T')
 conds_grow T T' h = made_grows _ _ _ (listed_grows terminal.Or _ _ (made_grows _ _ _ (listed_grows terminal.And _ _ (made_grows _ _ _ (then_grows _ _ _ _ (itself_grows _) h)))))
@@ -32,7 +32,7 @@ tests_grow (suc n) (suc m) le = tests_of_grow (ConditionOf (TestWithin n)) (Cond
 grows : (n m : ℕ) → n ≤ m → IsIn (ConditionOf (TestWithin n)) (ConditionOf (TestWithin m))
 grows n m le = conds_grow (TestWithin n) (TestWithin m) (tests_grow n m le)
 
--- ---- the reader reads each text with as much depth as the text is nested
+-- ---- the parser needs only as much depth as the text is nested
 
 enough : (n : ℕ) (text : List Lexeme) → nesting text ≤ n → read_condition text ≡ read_within n text
 unfolding read_condition
@@ -59,7 +59,7 @@ looks front rest other same stop =
     let here = enough n (front ++ rest) (omega arith) in
     enough n (front ++ other) (omega arith) ∙ (reads_within n).looks front rest other same (ap (λ x. x.1) (sym here) ∙ stop) ∙ ap (λ x. (x.0, other)) (sym here)
 
-pub reads_condition : Reads SearchCondition cond_shape read_condition
+pub reads_condition : Parses SearchCondition cond_shape read_condition
 unfolding SearchCondition
 reads_condition =
     let base = reads_within 0 in

@@ -1,5 +1,5 @@
--- Each text of a condition's rules closes the parentheses that it opens: so the tokens after the text are nested no deeper than the text and
--- these tokens together.
+-- Each text of a rule for conditions closes the parentheses that it opens. So parentheses in the tokens after the text are nested no deeper than in
+-- the text and these tokens together.
 use Rattle.std.proofs.Common.{◌≡◌, ℕ, zero, suc, ◌≤◌, true, Option, Some, None, List, [], ◌∷◌, ◌++◌, inl, inr, refl, sym, subst, append_assoc, arith}
 use Rattle.ll_grammars.specs.declared.lexeme.Lexeme.{Lexeme}
 use Rattle.ll_grammars.specs.declared.terminal.Terminal.{Terminal}
@@ -11,18 +11,18 @@ use Rattle.ll_grammars.proofs.Sets.{apart_false}
 use Rattle.query_grammar.specs.declared.tree.CondNode.{CondNode}
 use Rattle.query_grammar.specs.declared.tree.Op.TheVariants as op
 use Rattle.query_grammar.specs.Nesting.{nesting_from}
-use Rattle.query_grammar.specs.Values.{is_written, meaning, column, number, text, of_column, of_literal, comparison, between, among_values, tested, negate, all_of, any_of}
+use Rattle.query_grammar.specs.Values.{is_written, constant, column, number, text, of_column, of_literal, comparison, between, among_values, tested, negate, all_of, any_of}
 use Rattle.query_grammar.specs.Grammar.{name_terminals, sign_terminals, digit_terminals, Name, ColumnReference, Literal, Operand, ComparisonOperator, Negation, InValueList, Predicate, BooleanTest, BooleanFactor, BooleanTerm, ConditionOf, EmptyLanguage, TestWithin}
-use Rattle.query_grammar.proofs.Counting.{nesting-open_after, keeps_open, opens_one, closes_one}
+use Rattle.query_grammar.proofs.Counting.{nesting-open_after, preserves_open, opens_one, closes_one}
 
 pub record IsBalanced {A : Type 0} (L : Language A) : Type 0 where
   pub closes : (front : List Lexeme) (value : A) → L front value → (n : ℕ) (rest : List Lexeme) → nesting_from n rest ≤ nesting_from n (front ++ rest)
 
--- ---- languages that are put together from languages whose texts close what they open
+-- ---- languages built from balanced languages
 
 one_balanced : (terminals : List Terminal) → apart (terminal.Close ∷ []) terminals ≡ true → IsBalanced (one terminals)
 one_balanced terminals h = record {
-  closes = λ front value l n rest. subst (λ x. nesting_from n rest ≤ nesting_from n (x ++ rest)) (sym l.0) (keeps_open n value rest (apart_false (terminal.Close ∷ []) terminals value.terminal h l.1));
+  closes = λ front value l n rest. subst (λ x. nesting_from n rest ≤ nesting_from n (x ++ rest)) (sym l.0) (preserves_open n value rest (apart_false (terminal.Close ∷ []) terminals value.terminal h l.1));
 }
 
 pub word_balanced : (t : Terminal) → apart (terminal.Close ∷ []) (t ∷ []) ≡ true → IsBalanced (word t)
@@ -87,7 +87,7 @@ parentheses_balanced {A = A} {L = L} h = record { closes = at } where
       let shape : front ++ rest ≡ open_ ∷ behind = rw (l.2.whole, l.2.first.0, inner.whole, inner.second.0, append_assoc inner.front (close ∷ []) rest) refl in
       subst (λ x. nesting_from n rest ≤ nesting_from n x) (sym shape) whole
 
--- ---- the rules
+-- ---- the rules for conditions
 
 names_balanced : IsBalanced Name
 names_balanced = one_balanced name_terminals refl
@@ -105,11 +105,11 @@ operands_balanced = either_balanced (made_balanced of_column columns_balanced) (
 
 operators_balanced : IsBalanced ComparisonOperator
 operators_balanced =
-    either_balanced (made_balanced (meaning op.Eq) (word_balanced terminal.Equal refl))
-    (either_balanced (made_balanced (meaning op.Ne) (word_balanced terminal.NotEqual refl))
-    (either_balanced (made_balanced (meaning op.Lt) (word_balanced terminal.Less refl))
-    (either_balanced (made_balanced (meaning op.Le) (word_balanced terminal.LessOrEqual refl))
-    (either_balanced (made_balanced (meaning op.Gt) (word_balanced terminal.Greater refl)) (made_balanced (meaning op.Ge) (word_balanced terminal.GreaterOrEqual refl))))))
+    either_balanced (made_balanced (constant op.Eq) (word_balanced terminal.Equal refl))
+    (either_balanced (made_balanced (constant op.Ne) (word_balanced terminal.NotEqual refl))
+    (either_balanced (made_balanced (constant op.Lt) (word_balanced terminal.Less refl))
+    (either_balanced (made_balanced (constant op.Le) (word_balanced terminal.LessOrEqual refl))
+    (either_balanced (made_balanced (constant op.Gt) (word_balanced terminal.Greater refl)) (made_balanced (constant op.Ge) (word_balanced terminal.GreaterOrEqual refl))))))
 
 pub negations_balanced : IsBalanced Negation
 negations_balanced = made_balanced is_written (maybe_balanced (word_balanced terminal.Not refl))

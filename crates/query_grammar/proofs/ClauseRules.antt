@@ -1,9 +1,9 @@
--- The readers of FROM, WHERE and whole queries read their rules. C is the language of conditions, and the parser c reads it.
+-- The parsers of FROM, of WHERE and of queries read their rules. C is the language of conditions, and the parser c reads it.
 use Rattle.std.proofs.Common.{refl}
 use Rattle.ll_grammars.specs.declared.terminal.Terminal.TheVariants as terminal
 use Rattle.ll_grammars.specs.Language.{Language, ◌▸◌, mapped, many}
 use Rattle.ll_grammars.specs.Reading.{Parser}
-use Rattle.ll_grammars.specs.Reads.{FirstAndFollow, Reads}
+use Rattle.ll_grammars.specs.Parses.{FirstAndFollow, Parses}
 use Rattle.ll_grammars.specs.Rules.{first_and_others, second, word, listed}
 use Rattle.ll_grammars.proofs.Steps.{then_shape, maybe_shape}
 use Rattle.ll_grammars.proofs.Repeats.{many_shape}
@@ -19,7 +19,7 @@ use Rattle.query_grammar.proofs.OutputRules.{outs_shape, reads_outs}
 abbrev pub source_shape : FirstAndFollow
 source_shape = then_shape name_shape new_name_shape
 
-pub reads_source : Reads TableReference source_shape read_source
+pub reads_source : Parses TableReference source_shape read_source
 unfolding read_source
 reads_source = value source (row reads_name reads_new_name refl)
 
@@ -38,35 +38,35 @@ where_shape = next_shape terminal.Where cond_shape
 abbrev pub query_shape : FirstAndFollow
 query_shape = then_shape (word_shape terminal.Select) (then_shape outs_shape (then_shape (word_shape terminal.From) (then_shape parts_shape (then_shape (maybe_shape where_shape) (maybe_shape (word_shape terminal.Semicolon))))))
 
-module _ {C : Language CondNode} {c : Parser CondNode} (reads : Reads C cond_shape c) where
-  pub reads_join : Reads (QualifiedJoin C) join_shape (read_join c)
+module _ {C : Language CondNode} {c : Parser CondNode} (reads : Parses C cond_shape c) where
+  pub reads_join : Parses (QualifiedJoin C) join_shape (read_join c)
   unfolding read_join
   reads_join = value join (row (option (a_word terminal.Inner refl) refl) (row (a_word terminal.Join refl) (row reads_source (row (a_word terminal.On refl) reads refl) refl) refl) refl)
 
-  pub reads_joins : Reads (many (QualifiedJoin C)) (many_shape join_shape) (read_joins c)
+  pub reads_joins : Parses (many (QualifiedJoin C)) (many_shape join_shape) (read_joins c)
   unfolding read_joins
   reads_joins = repeat reads_join refl refl
 
-  pub reads_part : Reads (FromPart C) part_shape (read_part c)
+  pub reads_part : Parses (FromPart C) part_shape (read_part c)
   unfolding read_part
   reads_part = value part (row reads_source reads_joins refl)
 
-  pub reads_next_part : Reads (mapped second (word terminal.Comma ▸ FromPart C)) (next_shape terminal.Comma part_shape) (read_next_part c)
+  pub reads_next_part : Parses (mapped second (word terminal.Comma ▸ FromPart C)) (next_shape terminal.Comma part_shape) (read_next_part c)
   unfolding read_next_part
   reads_next_part = value second (row (a_word terminal.Comma refl) reads_part refl)
 
-  pub reads_parts : Reads (listed terminal.Comma (FromPart C)) parts_shape (read_parts c)
+  pub reads_parts : Parses (listed terminal.Comma (FromPart C)) parts_shape (read_parts c)
   unfolding read_parts
   reads_parts = value first_and_others (row reads_part (repeat reads_next_part refl refl) refl)
 
-  pub reads_where : Reads (mapped second (word terminal.Where ▸ C)) where_shape (read_condition_after_where c)
+  pub reads_where : Parses (mapped second (word terminal.Where ▸ C)) where_shape (read_condition_after_where c)
   unfolding read_condition_after_where
   reads_where = value second (row (a_word terminal.Where refl) reads refl)
 
-  pub reads_filter : Reads (WhereClause C) (maybe_shape where_shape) (read_filter c)
+  pub reads_filter : Parses (WhereClause C) (maybe_shape where_shape) (read_filter c)
   unfolding read_filter
   reads_filter = option reads_where refl
 
-  pub reads_query : Reads (QueryOf C) query_shape (read_query c)
+  pub reads_query : Parses (QueryOf C) query_shape (read_query c)
   unfolding read_query
   reads_query = value query (row (a_word terminal.Select refl) (row reads_outs (row (a_word terminal.From refl) (row reads_parts (row reads_filter (option (a_word terminal.Semicolon refl) refl) refl) refl) refl) refl) refl)

@@ -1,10 +1,10 @@
--- The readers of conditions read their rules, at each depth of parentheses.
+-- The parsers of conditions read their rules, at each depth of parentheses.
 use Rattle.std.proofs.Common.{ℕ, zero, suc, List, refl}
 use Rattle.ll_grammars.specs.declared.lexeme.Lexeme.{Lexeme}
 use Rattle.ll_grammars.specs.declared.terminal.Terminal.TheVariants as terminal
 use Rattle.ll_grammars.specs.Language.{Language, ◌▸◌, mapped}
 use Rattle.ll_grammars.specs.Reading.{Parser}
-use Rattle.ll_grammars.specs.Reads.{FirstAndFollow, Reads}
+use Rattle.ll_grammars.specs.Parses.{FirstAndFollow, Parses}
 use Rattle.ll_grammars.specs.Rules.{first_and_others, second, word, listed, in_parentheses}
 use Rattle.ll_grammars.proofs.Steps.{then_shape, either_shape}
 use Rattle.ll_grammars.proofs.Combined.{row, value, choice, repeat, a_word, inside, word_shape, next_shape, listed_shape, right_only}
@@ -27,47 +27,47 @@ term_shape = listed_shape terminal.And factor_shape
 abbrev pub cond_shape : FirstAndFollow
 cond_shape = listed_shape terminal.Or term_shape
 
-module _ {T : Language CondNode} {t : Parser CondNode} (reads : Reads T test_shape t) where
-  pub reads_factor : Reads (BooleanFactor T) factor_shape (read_factor t)
+module _ {T : Language CondNode} {t : Parser CondNode} (reads : Parses T test_shape t) where
+  pub reads_factor : Parses (BooleanFactor T) factor_shape (read_factor t)
   unfolding read_factor
   reads_factor = value negate (row reads_negation reads refl)
 
-  pub reads_next_factor : Reads (mapped second (word terminal.And ▸ BooleanFactor T)) (next_shape terminal.And factor_shape) (read_next_factor t)
+  pub reads_next_factor : Parses (mapped second (word terminal.And ▸ BooleanFactor T)) (next_shape terminal.And factor_shape) (read_next_factor t)
   unfolding read_next_factor
   reads_next_factor = value second (row (a_word terminal.And refl) reads_factor refl)
 
-  pub reads_factors : Reads (listed terminal.And (BooleanFactor T)) term_shape (read_factors t)
+  pub reads_factors : Parses (listed terminal.And (BooleanFactor T)) term_shape (read_factors t)
   unfolding read_factors
   reads_factors = value first_and_others (row reads_factor (repeat reads_next_factor refl refl) refl)
 
-  pub reads_term : Reads (BooleanTerm T) term_shape (read_term t)
+  pub reads_term : Parses (BooleanTerm T) term_shape (read_term t)
   unfolding read_term
   reads_term = value all_of reads_factors
 
-  pub reads_next_term : Reads (mapped second (word terminal.Or ▸ BooleanTerm T)) (next_shape terminal.Or term_shape) (read_next_term t)
+  pub reads_next_term : Parses (mapped second (word terminal.Or ▸ BooleanTerm T)) (next_shape terminal.Or term_shape) (read_next_term t)
   unfolding read_next_term
   reads_next_term = value second (row (a_word terminal.Or refl) reads_term refl)
 
-  pub reads_terms : Reads (listed terminal.Or (BooleanTerm T)) cond_shape (read_terms t)
+  pub reads_terms : Parses (listed terminal.Or (BooleanTerm T)) cond_shape (read_terms t)
   unfolding read_terms
   reads_terms = value first_and_others (row reads_term (repeat reads_next_term refl refl) refl)
 
-  pub reads_cond : Reads (ConditionOf T) cond_shape (read_cond t)
+  pub reads_cond : Parses (ConditionOf T) cond_shape (read_cond t)
   unfolding read_cond
   reads_cond = value any_of reads_terms
 
-  pub reads_inside : Reads (in_parentheses (ConditionOf T)) (word_shape terminal.Open) (read_inside t)
+  pub reads_inside : Parses (in_parentheses (ConditionOf T)) (word_shape terminal.Open) (read_inside t)
   unfolding read_inside
   reads_inside = inside reads_cond refl
 
 none_inside : (text : List Lexeme) (c : CondNode) → in_parentheses EmptyLanguage text c → ⊥
 none_inside text c l = l.2.second.first
 
-pub reads_test : (n : ℕ) → Reads (TestWithin n) test_shape (read_test n)
+pub reads_test : (n : ℕ) → Parses (TestWithin n) test_shape (read_test n)
 unfolding read_test
 reads_test zero = right_only (word_shape terminal.Open) none_inside reads_flat refl
 reads_test (suc n) = choice (reads_inside (reads_test n)) reads_flat refl refl refl
 
-pub reads_within : (n : ℕ) → Reads (ConditionOf (TestWithin n)) cond_shape (read_within n)
+pub reads_within : (n : ℕ) → Parses (ConditionOf (TestWithin n)) cond_shape (read_within n)
 unfolding read_within
 reads_within n = reads_cond (reads_test n)

@@ -1,4 +1,4 @@
--- These lemmas are about the number of open parentheses, and about how deep they are nested.
+-- The number of open parentheses, and how deep they are nested.
 use Rattle.std.proofs.Common.{◌≡◌, ℕ, suc, ◌-◌, ◌≤◌, Bool, true, false, cond, List, [], ◌∷◌, ◌++◌, refl, subst, arith}
 use Rattle.ll_grammars.specs.declared.lexeme.Lexeme.{Lexeme}
 use Rattle.ll_grammars.specs.declared.terminal.Terminal.TheVariants as terminal
@@ -32,8 +32,8 @@ nesting-rest (t ∷ front) rest =
     let behind = nesting-open_after 0 t (front ++ rest) in
     omega arith
 
-pub keeps_open : (n : ℕ) (t : Lexeme) (rest : List Lexeme) → among (terminal.Close ∷ []) t.terminal ≡ false → nesting_from n rest ≤ nesting_from n (t ∷ rest)
-keeps_open n t rest h =
+pub preserves_open : (n : ℕ) (t : Lexeme) (rest : List Lexeme) → among (terminal.Close ∷ []) t.terminal ≡ false → nesting_from n rest ≤ nesting_from n (t ∷ rest)
+preserves_open n t rest h =
     let more = nesting-more rest n (open_after n t) (at (among (terminal.Open ∷ []) t.terminal) (among (terminal.Close ∷ []) t.terminal) h) in
     let behind = nesting-open_after n t rest in
     omega arith where

@@ -1,11 +1,11 @@
--- A reader with enough depth for the nesting of the tokens reads the same as a reader with more depth.
+-- A parser with enough depth for the nesting of the tokens reads the same as a parser with more depth.
 use Rattle.std.proofs.Common.{◌≡◌, ℕ, zero, suc, ◌+◌, ◌-◌, ◌≤◌, ◌<◌, Bool, true, false, List, [], ◌∷◌, refl, sym, ap, subst, ◌∙◌, arith}
 use Rattle.ll_grammars.specs.declared.lexeme.Lexeme.{Lexeme}
 use Rattle.ll_grammars.specs.declared.terminal.Terminal.TheVariants as terminal
 use Rattle.ll_grammars.specs.Terminals.{among}
 use Rattle.ll_grammars.specs.Language.{Language}
 use Rattle.ll_grammars.specs.Reading.{Parser, Answer, ◌>>=◌, give, starts, read_then}
-use Rattle.ll_grammars.specs.Reads.{FirstAndFollow, Reads}
+use Rattle.ll_grammars.specs.Parses.{FirstAndFollow, Parses}
 use Rattle.ll_grammars.specs.Rules.{first_and_others, second, middle, read_word, read_in_parentheses}
 use Rattle.ll_grammars.proofs.Combined.{a_word}
 use Rattle.ll_grammars.proofs.Alike.{AreAlikeOn, StaysIn, itself_alike, stays, then_alike, made_alike, many_alike}
@@ -38,15 +38,15 @@ opened : (n : ℕ) (x : Lexeme) (rest : List Lexeme) → among (terminal.Open �
 unfolding read_test read_inside
 opened n x rest h = rw h refl
 
--- ---- readers on token lists whose nesting, with n open parentheses before them, is at most `limit`
+-- ---- parsers on token lists whose nesting, with n open parentheses before them, is at most `limit`
 
 abbrev pub Within : ℕ → ℕ → List Lexeme → Type 0
 Within n limit text = nesting_from n text ≤ limit
 
-stays_within : {A : Type 0} {L : Language A} {s : FirstAndFollow} {p : Parser A} (n limit : ℕ) → Reads L s p → IsBalanced L → StaysIn (Within n limit) p
+stays_within : {A : Type 0} {L : Language A} {s : FirstAndFollow} {p : Parser A} (n limit : ℕ) → Parses L s p → IsBalanced L → StaysIn (Within n limit) p
 stays_within n limit reads balanced = stays (Within n limit) reads (λ front rest value l h. let less = balanced.closes front value l n rest in omega arith)
 
-module _ {T : Language CondNode} {t : Parser CondNode} (t' : Parser CondNode) (reads : Reads T test_shape t) (balanced : IsBalanced T) (n limit : ℕ) (same : AreAlikeOn (Within n limit) t t') where
+module _ {T : Language CondNode} {t : Parser CondNode} (t' : Parser CondNode) (reads : Parses T test_shape t) (balanced : IsBalanced T) (n limit : ℕ) (same : AreAlikeOn (Within n limit) t t') where
   abbrev P : List Lexeme → Type 0
   P = Within n limit
 

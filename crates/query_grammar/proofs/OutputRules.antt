@@ -1,10 +1,10 @@
--- The readers of outputs read their rules. A name is read before it is known whether it is an alias or the name of a column.
+-- The parsers of outputs read their rules. A name is read before it is known whether it is an alias or the name of a column.
 use Rattle.std.proofs.Common.{◌≡◌, Option, Some, None, List, [], ◌++◌, inl, inr, refl, sym, ap, ◌∙◌, append_assoc}
 use Rattle.std.proofs.lemmas.List.{append-nil}
 use Rattle.ll_grammars.specs.declared.lexeme.Lexeme.{Lexeme}
 use Rattle.ll_grammars.specs.declared.terminal.Terminal.TheVariants as terminal
 use Rattle.ll_grammars.specs.Language.{Language, Then, ◌▸◌, mapped, ◌∪◌, maybe}
-use Rattle.ll_grammars.specs.Reads.{FirstAndFollow, Reads}
+use Rattle.ll_grammars.specs.Parses.{FirstAndFollow, Parses}
 use Rattle.ll_grammars.specs.Rules.{first_and_others, second, word, listed}
 use Rattle.ll_grammars.proofs.Steps.{then_shape, either_shape}
 use Rattle.ll_grammars.proofs.Otherwise.{otherwise_shape, otherwise}
@@ -14,7 +14,7 @@ use Rattle.query_grammar.specs.declared.tree.OutNode.{OutNode}
 use Rattle.query_grammar.specs.declared.tree.OutNode.TheVariants as out
 use Rattle.query_grammar.specs.Values.{column, one_column, everything, these_outs}
 use Rattle.query_grammar.specs.Grammar.{Name, NewName, SelectSublist, SelectList}
-use Rattle.query_grammar.specs.Readers.{applied, star_of, qualified, plain, read_dotted_out, read_out, read_next_out, read_listed_outs, read_outs}
+use Rattle.query_grammar.specs.Readers.{apply_to_beginning, star_of, qualified, plain, read_dotted_out, read_out, read_next_out, read_listed_outs, read_outs}
 use Rattle.query_grammar.proofs.OperandRules.{name_shape, new_name_shape, reads_name, reads_new_name}
 
 abbrev AfterDot : Language (Lexeme → OutNode)
@@ -28,7 +28,7 @@ abbrev AfterName : Language (Lexeme → OutNode)
 AfterName = Dotted ∪ mapped plain NewName
 
 abbrev Factored : Language OutNode
-Factored = mapped applied (Name ▸ AfterName)
+Factored = mapped apply_to_beginning (Name ▸ AfterName)
 
 to_outs : (text : List Lexeme) (v : OutNode) → Factored text v → SelectSublist text v
 to_outs text v l = at l.2.second where
@@ -124,28 +124,28 @@ from_outs text v (inr l) = let c = l.2.first in from_column text l.2.front l.2.r
 abbrev pub dotted_out_shape : FirstAndFollow
 dotted_out_shape = then_shape (word_shape terminal.Dot) (either_shape (word_shape terminal.Star) (then_shape name_shape new_name_shape))
 
-pub reads_dotted_out : Reads Dotted dotted_out_shape read_dotted_out
+pub reads_dotted_out : Parses Dotted dotted_out_shape read_dotted_out
 unfolding read_dotted_out
 reads_dotted_out = value second (row (a_word terminal.Dot refl) (choice (value star_of (a_word terminal.Star refl)) (value qualified (row reads_name reads_new_name refl)) refl refl refl) refl)
 
 abbrev pub out_shape : FirstAndFollow
 out_shape = then_shape name_shape (otherwise_shape dotted_out_shape new_name_shape)
 
-pub reads_out : Reads SelectSublist out_shape read_out
+pub reads_out : Parses SelectSublist out_shape read_out
 unfolding read_out
-reads_out = reads_same to_outs from_outs (value applied (row reads_name (otherwise reads_dotted_out (value plain reads_new_name) refl refl) refl))
+reads_out = reads_same to_outs from_outs (value apply_to_beginning (row reads_name (otherwise reads_dotted_out (value plain reads_new_name) refl refl) refl))
 
-pub reads_next_out : Reads (mapped second (word terminal.Comma ▸ SelectSublist)) (next_shape terminal.Comma out_shape) read_next_out
+pub reads_next_out : Parses (mapped second (word terminal.Comma ▸ SelectSublist)) (next_shape terminal.Comma out_shape) read_next_out
 unfolding read_next_out
 reads_next_out = value second (row (a_word terminal.Comma refl) reads_out refl)
 
-pub reads_listed_outs : Reads (listed terminal.Comma SelectSublist) (listed_shape terminal.Comma out_shape) read_listed_outs
+pub reads_listed_outs : Parses (listed terminal.Comma SelectSublist) (listed_shape terminal.Comma out_shape) read_listed_outs
 unfolding read_listed_outs
 reads_listed_outs = value first_and_others (row reads_out (repeat reads_next_out refl refl) refl)
 
 abbrev pub outs_shape : FirstAndFollow
 outs_shape = either_shape (word_shape terminal.Star) (listed_shape terminal.Comma out_shape)
 
-pub reads_outs : Reads SelectList outs_shape read_outs
+pub reads_outs : Parses SelectList outs_shape read_outs
 unfolding read_outs
 reads_outs = choice (value everything (a_word terminal.Star refl)) (value these_outs reads_listed_outs) refl refl refl

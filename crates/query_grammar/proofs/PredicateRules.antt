@@ -1,10 +1,10 @@
--- The reader of predicates reads their rule. The left operand is read before it is known which predicate follows. So the reader follows a rule
--- in which this operand is a common beginning (`Factored`). It has the same texts as the rule of the grammar.
+-- The parser of predicates reads its rule. The left operand is read before it is known which predicate follows. So the parser follows a rule in which
+-- this operand is a common beginning (`Factored`). The rule has the same texts as the grammar's.
 use Rattle.std.proofs.Common.{◌≡◌, Bool, List, inl, inr, refl, ap, ◌∙◌}
 use Rattle.ll_grammars.specs.declared.lexeme.Lexeme.{Lexeme}
 use Rattle.ll_grammars.specs.declared.terminal.Terminal.TheVariants as terminal
 use Rattle.ll_grammars.specs.Language.{Language, Then, ◌▸◌, mapped, ◌∪◌}
-use Rattle.ll_grammars.specs.Reads.{FirstAndFollow, Reads}
+use Rattle.ll_grammars.specs.Parses.{FirstAndFollow, Parses}
 use Rattle.ll_grammars.specs.Rules.{word}
 use Rattle.ll_grammars.proofs.Steps.{then_shape, either_shape}
 use Rattle.ll_grammars.proofs.Combined.{row, value, choice, a_word, word_shape, reads_same}
@@ -12,7 +12,7 @@ use Rattle.query_grammar.specs.declared.tree.OperandNode.{OperandNode}
 use Rattle.query_grammar.specs.declared.tree.TestNode.{TestNode}
 use Rattle.query_grammar.specs.Values.{tested}
 use Rattle.query_grammar.specs.Grammar.{Operand, ComparisonOperator, Negation, InValueList, Predicate}
-use Rattle.query_grammar.specs.Readers.{applied, compare, ranged, listed_in, read_predicate, read_flat}
+use Rattle.query_grammar.specs.Readers.{apply_to_beginning, compare, ranged, listed_in, read_predicate, read_flat}
 use Rattle.query_grammar.proofs.OperandRules.{operand_shape, operator_shape, negation_shape, value_list_shape, reads_operand, reads_operator, reads_negation, reads_value_list}
 
 abbrev AfterNot : Language (Bool → OperandNode → TestNode)
@@ -21,14 +21,14 @@ AfterNot = mapped ranged (word terminal.Between ▸ Operand ▸ word terminal.An
 
 abbrev AfterOperand : Language (OperandNode → TestNode)
 AfterOperand = mapped compare (ComparisonOperator ▸ Operand)
-    ∪ mapped applied (Negation ▸ AfterNot)
+    ∪ mapped apply_to_beginning (Negation ▸ AfterNot)
 
 abbrev Factored : Language TestNode
-Factored = mapped applied (Operand ▸ AfterOperand)
+Factored = mapped apply_to_beginning (Operand ▸ AfterOperand)
 
 to_predicates : (text : List Lexeme) (v : TestNode) → Factored text v → Predicate text v
 to_predicates text v l = at l.2.second where
-  behind_not : (parts : Bool × (Bool → OperandNode → TestNode)) → applied parts ≡ l.0.1 → (t : Then Negation AfterNot l.2.rest parts) → AfterNot t.rest parts.1 → Predicate text v
+  behind_not : (parts : Bool × (Bool → OperandNode → TestNode)) → apply_to_beginning parts ≡ l.0.1 → (t : Then Negation AfterNot l.2.rest parts) → AfterNot t.rest parts.1 → Predicate text v
   behind_not parts e t (inl b) = inr (inl (
     (l.0.0, (parts.0, b.0)),
     ap (λ (g : Bool → OperandNode → TestNode). g parts.0 l.0.0) b.1 ∙ ap (λ (f : OperandNode → TestNode). f l.0.0) e ∙ l.1,
@@ -49,7 +49,7 @@ from_predicates text v (inl l) = ((l.0.0, compare l.0.1), l.1, record { front = 
 from_predicates text v (inr (inl l)) =
     let t = l.2.second in
     let parts : Bool × (Bool → OperandNode → TestNode) = (l.0.1.0, ranged l.0.1.1) in (
-      (l.0.0, applied parts),
+      (l.0.0, apply_to_beginning parts),
       l.1,
       record {
         front = l.2.front;
@@ -62,7 +62,7 @@ from_predicates text v (inr (inl l)) =
 from_predicates text v (inr (inr l)) =
     let t = l.2.second in
     let parts : Bool × (Bool → OperandNode → TestNode) = (l.0.1.0, listed_in l.0.1.1) in (
-      (l.0.0, applied parts),
+      (l.0.0, apply_to_beginning parts),
       l.1,
       record {
         front = l.2.front;
@@ -82,15 +82,15 @@ behind_not_shape = either_shape between_shape (then_shape (word_shape terminal.I
 abbrev pub predicate_shape : FirstAndFollow
 predicate_shape = then_shape operand_shape (either_shape (then_shape operator_shape operand_shape) (then_shape negation_shape behind_not_shape))
 
-pub reads_predicate : Reads Predicate predicate_shape read_predicate
+pub reads_predicate : Parses Predicate predicate_shape read_predicate
 unfolding read_predicate
 reads_predicate =
     let between_ = row (a_word terminal.Between refl) (row reads_operand (row (a_word terminal.And refl) reads_operand refl) refl) refl in
     let in_ = row (a_word terminal.In refl) reads_value_list refl in
     let behind_not_ = choice (value ranged between_) (value listed_in in_) refl refl refl in
     let compared_ = row reads_operator reads_operand refl in
-    reads_same to_predicates from_predicates (value applied (row reads_operand (choice (value compare compared_) (value applied (row reads_negation behind_not_ refl)) refl refl refl) refl))
+    reads_same to_predicates from_predicates (value apply_to_beginning (row reads_operand (choice (value compare compared_) (value apply_to_beginning (row reads_negation behind_not_ refl)) refl refl refl) refl))
 
-pub reads_flat : Reads (mapped tested Predicate) predicate_shape read_flat
+pub reads_flat : Parses (mapped tested Predicate) predicate_shape read_flat
 unfolding read_flat
 reads_flat = value tested reads_predicate

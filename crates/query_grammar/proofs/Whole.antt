@@ -1,11 +1,11 @@
--- These lemmas say what the parser returns for a whole list of tokens that is nested no deeper than the limit.
+-- The answer of the parser for all tokens of a text, if parentheses are nested no deeper than the limit.
 use Rattle.std.proofs.Common.{◌≡◌, ℕ, ◌≤◌, true, false, List, [], ◌∷◌, Some, None, refl, sym, ◌∙◌, arith}
 use Rattle.ll_grammars.specs.declared.lexeme.Lexeme.{Lexeme}
 use Rattle.ll_grammars.specs.declared.terminal.Terminal.TheVariants as terminal
 use Rattle.ll_grammars.specs.Language.{Language}
 use Rattle.ll_grammars.specs.Reading.{Parser}
-use Rattle.ll_grammars.specs.Reads.{FirstAndFollow, Reads}
-use Rattle.ll_grammars.specs.Rules.{first_and_others, second, is_empty, place}
+use Rattle.ll_grammars.specs.Parses.{FirstAndFollow, Parses}
+use Rattle.ll_grammars.specs.Rules.{first_and_others, second, is_empty, next_token_start}
 use Rattle.ll_grammars.specs.Places.{IsSyntaxErrorAt}
 use Rattle.ll_grammars.proofs.Combined.{a_word, option}
 use Rattle.ll_grammars.proofs.Alike.{AreAlikeOn, StaysIn, itself_alike, stays, then_alike, made_alike, maybe_alike, many_alike}
@@ -23,16 +23,16 @@ use Rattle.query_grammar.proofs.Counting.{nesting-rest}
 use Rattle.query_grammar.proofs.EnoughDepth.{within_alike}
 use Rattle.query_grammar.proofs.AnyDepth.{reads_condition}
 
-pub reads_queries : Reads QuerySpecification query_shape (read_query read_condition)
+pub reads_queries : Parses QuerySpecification query_shape (read_query read_condition)
 unfolding QuerySpecification
 reads_queries = reads_query reads_condition
 
--- ---- a reader whose depth is at least the nesting of the tokens reads the same as the reader without a limit
+-- ---- a parser with enough depth for the tokens reads the same as the parser without a limit
 
 abbrev Shallow : ℕ → List Lexeme → Type 0
 Shallow n text = nesting text ≤ n
 
-stays_shallow : {A : Type 0} {L : Language A} {s : FirstAndFollow} {p : Parser A} (n : ℕ) → Reads L s p → StaysIn (Shallow n) p
+stays_shallow : {A : Type 0} {L : Language A} {s : FirstAndFollow} {p : Parser A} (n : ℕ) → Parses L s p → StaysIn (Shallow n) p
 unfolding nesting
 stays_shallow n reads = stays (Shallow n) reads (λ front rest value l h. let less = nesting-rest front rest in omega arith)
 
@@ -96,11 +96,11 @@ module _ (n : ℕ) where
 pub spelled : (n : ℕ) (tokens : List Lexeme) (q : QueryNode) (rest : List Lexeme) → nesting tokens ≤ n → read_query (read_within n) tokens ≡ (Some q, rest) → is_empty rest ≡ true → QuerySpecification tokens q
 spelled n tokens q rest shallow e h = ends.spelled reads_queries tokens q rest (sym (query_alike n tokens shallow) ∙ e) h
 
-pub wrong_after : (n : ℕ) (tokens : List Lexeme) (q : QueryNode) (rest : List Lexeme) (text_len at : ℕ) → nesting tokens ≤ n → read_query (read_within n) tokens ≡ (Some q, rest) → is_empty rest ≡ false → at ≡ place rest text_len
+pub wrong_after : (n : ℕ) (tokens : List Lexeme) (q : QueryNode) (rest : List Lexeme) (text_len at : ℕ) → nesting tokens ≤ n → read_query (read_within n) tokens ≡ (Some q, rest) → is_empty rest ≡ false → at ≡ next_token_start rest text_len
     → IsSyntaxErrorAt QuerySpecification tokens text_len at
 wrong_after n tokens q rest text_len at shallow e h here = ends.wrong_after reads_queries tokens q rest text_len at (sym (query_alike n tokens shallow) ∙ e) h here
 
-pub wrong_at : (n : ℕ) (tokens rest : List Lexeme) (text_len at : ℕ) → nesting tokens ≤ n → read_query (read_within n) tokens ≡ (None, rest) → at ≡ place rest text_len → IsSyntaxErrorAt QuerySpecification tokens text_len at
+pub wrong_at : (n : ℕ) (tokens rest : List Lexeme) (text_len at : ℕ) → nesting tokens ≤ n → read_query (read_within n) tokens ≡ (None, rest) → at ≡ next_token_start rest text_len → IsSyntaxErrorAt QuerySpecification tokens text_len at
 wrong_at n tokens rest text_len at shallow e here = ends.wrong_at reads_queries tokens rest text_len at (sym (query_alike n tokens shallow) ∙ e) here
 
 pub all_found : (n : ℕ) (tokens : List Lexeme) (q : QueryNode) → nesting tokens ≤ n → QuerySpecification tokens q → read_query (read_within n) tokens ≡ (Some q, [])

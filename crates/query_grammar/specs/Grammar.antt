@@ -18,7 +18,7 @@ use Rattle.query_grammar.specs.declared.tree.FromItemNode.{FromItemNode}
 use Rattle.query_grammar.specs.declared.tree.OutNode.{OutNode}
 use Rattle.query_grammar.specs.declared.tree.OutsNode.{OutsNode}
 use Rattle.query_grammar.specs.declared.tree.QueryNode.{QueryNode}
-use Rattle.query_grammar.specs.Values.{is_written, meaning, column, number, text, of_column, of_literal, comparison, between, among_values, tested, negate, all_of, any_of, source, join, part, all_columns, one_column, everything, these_outs, query}
+use Rattle.query_grammar.specs.Values.{is_written, constant, column, number, text, of_column, of_literal, comparison, between, among_values, tested, negate, all_of, any_of, source, join, part, all_columns, one_column, everything, these_outs, query}
 
 -- the terminals of a name. KEY, NO, ACTION and CASCADE are names in a query
 abbrev pub name_terminals : List Terminal
@@ -57,12 +57,12 @@ Operand = mapped of_column ColumnReference
 
 -- "=" | "<>" | "<" | "<=" | ">" | ">="
 abbrev pub ComparisonOperator : Language Op
-ComparisonOperator = mapped (meaning op.Eq) (word terminal.Equal)
-    ∪ mapped (meaning op.Ne) (word terminal.NotEqual)
-    ∪ mapped (meaning op.Lt) (word terminal.Less)
-    ∪ mapped (meaning op.Le) (word terminal.LessOrEqual)
-    ∪ mapped (meaning op.Gt) (word terminal.Greater)
-    ∪ mapped (meaning op.Ge) (word terminal.GreaterOrEqual)
+ComparisonOperator = mapped (constant op.Eq) (word terminal.Equal)
+    ∪ mapped (constant op.Ne) (word terminal.NotEqual)
+    ∪ mapped (constant op.Lt) (word terminal.Less)
+    ∪ mapped (constant op.Le) (word terminal.LessOrEqual)
+    ∪ mapped (constant op.Gt) (word terminal.Greater)
+    ∪ mapped (constant op.Ge) (word terminal.GreaterOrEqual)
 
 -- [ NOT ]
 abbrev pub Negation : Language Bool

@@ -19,7 +19,7 @@ abbrev pub greatest : List ℕ → ℕ
 greatest [] = 0
 greatest (n ∷ ns) = max n (greatest ns)
 
--- how deep parentheses are nested in the tokens, if `open_` parentheses are open before them; for `nesting`, no parenthesis is open before them
+-- how deep parentheses are nested in the tokens, if `open_` parentheses are open before them. In `nesting` no parenthesis is open before them
 abbrev pub nesting_from : ℕ → List Lexeme → ℕ
 nesting_from open_ tokens = greatest (open_counts open_ tokens)
 

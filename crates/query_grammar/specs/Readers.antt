@@ -1,5 +1,5 @@
--- The rules of the grammar as parsers from left to right, with one token of look-ahead. If the alternatives of a rule begin alike, this
--- beginning is read first. Each alternative then gives a function, which is applied to the beginning's value.
+-- A parser for each rule of the grammar, with one token of look-ahead. If the alternatives of a rule have a common beginning, it is read first. Each
+-- alternative then gives a function, which is applied to the beginning's value.
 use Rattle.std.specs.Prelude.{ℕ, zero, suc, Bool, Option, Some, None, List, [], ◌∷◌}
 use Rattle.ll_grammars.specs.declared.lexeme.Lexeme.{Lexeme}
 use Rattle.ll_grammars.specs.declared.terminal.Terminal.{Terminal}
@@ -21,14 +21,14 @@ use Rattle.query_grammar.specs.declared.tree.OutNode.{OutNode}
 use Rattle.query_grammar.specs.declared.tree.OutNode.TheVariants as out
 use Rattle.query_grammar.specs.declared.tree.OutsNode.{OutsNode}
 use Rattle.query_grammar.specs.declared.tree.QueryNode.{QueryNode}
-use Rattle.query_grammar.specs.Values.{is_written, meaning, column, number, text, of_column, of_literal, tested, negate, all_of, any_of, source, join, part, everything, these_outs, query}
+use Rattle.query_grammar.specs.Values.{is_written, constant, column, number, text, of_column, of_literal, tested, negate, all_of, any_of, source, join, part, everything, these_outs, query}
 use Rattle.query_grammar.specs.Nesting.{nesting}
 use Rattle.query_grammar.specs.Grammar.{name_terminals, sign_terminals, digit_terminals}
 
--- ---- what an alternative reads after the common beginning, as a function of the beginning
+-- ---- the value of an alternative, as a function of the beginning's value
 
-abbrev pub applied : {A B : Type 0} → A × (A → B) → B
-applied parts = parts.1 parts.0
+abbrev pub apply_to_beginning : {A B : Type 0} → A × (A → B) → B
+apply_to_beginning parts = parts.1 parts.0
 
 -- an operator and the right operand are read after the left operand
 abbrev pub compare : Op × OperandNode → OperandNode → TestNode
@@ -98,7 +98,7 @@ unfoldable pub read_operand : Parser OperandNode
 read_operand = read_either name_terminals (read_mapped of_column read_column) (read_mapped of_literal read_literal)
 
 abbrev pub read_meaning : Terminal → Op → Parser Op
-read_meaning t value = read_mapped (meaning value) (read_word t)
+read_meaning t value = read_mapped (constant value) (read_word t)
 
 unfoldable pub read_operator : Parser Op
 read_operator = read_either (terminal.Equal ∷ []) (read_meaning terminal.Equal op.Eq)
@@ -122,9 +122,9 @@ read_value_list = read_in_parentheses read_literals
 
 unfoldable pub read_predicate : Parser TestNode
 read_predicate =
-    read_mapped applied (read_then read_operand (read_either operator_terminals
+    read_mapped apply_to_beginning (read_then read_operand (read_either operator_terminals
     (read_mapped compare (read_then read_operator read_operand))
-    (read_mapped applied (read_then read_negation (read_either (terminal.Between ∷ [])
+    (read_mapped apply_to_beginning (read_then read_negation (read_either (terminal.Between ∷ [])
     (read_mapped ranged (read_then (read_word terminal.Between)
     (read_then read_operand (read_then (read_word terminal.And) read_operand))))
     (read_mapped listed_in (read_then (read_word terminal.In) read_value_list)))))))
@@ -166,7 +166,7 @@ read_test (suc n) = read_either (terminal.Open ∷ []) (read_inside (read_test n
 unfoldable pub read_within : ℕ → Parser CondNode
 read_within n = read_cond (read_test n)
 
--- a condition in which parentheses are nested at most as deep as in the tokens
+-- a condition, where parentheses may be nested as deep as they are in the tokens
 unfoldable pub read_condition : Parser CondNode
 read_condition text = read_within (nesting text) text
 
@@ -199,7 +199,7 @@ read_dotted_out =
     (read_mapped qualified (read_then read_name read_new_name))))
 
 unfoldable pub read_out : Parser OutNode
-read_out = read_mapped applied (read_then read_name (read_either (terminal.Dot ∷ []) read_dotted_out (read_mapped plain read_new_name)))
+read_out = read_mapped apply_to_beginning (read_then read_name (read_either (terminal.Dot ∷ []) read_dotted_out (read_mapped plain read_new_name)))
 
 unfoldable pub read_next_out : Parser OutNode
 read_next_out = read_mapped second (read_then (read_word terminal.Comma) read_out)

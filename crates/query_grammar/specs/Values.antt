@@ -25,9 +25,9 @@ abbrev pub is_written : Option Lexeme → Bool
 is_written None = false
 is_written (Some word) = true
 
--- a word's meaning, whichever token spells it
-abbrev pub meaning : {A : Type 0} → A → Lexeme → A
-meaning value word = value
+-- a fixed value, whichever token spells the word
+abbrev pub constant : {A : Type 0} → A → Lexeme → A
+constant value word = value
 
 -- ---- columns, literals and operands
 
@@ -70,7 +70,7 @@ abbrev pub negate : Bool × CondNode → CondNode
 negate (false, c) = c
 negate (true, c) = cond.Not c
 
--- conditions that are connected by AND, and in `any_of` by OR. A single condition stays as it is
+-- conditions connected by AND, and in `any_of` by OR. A single condition stays as it is
 abbrev pub all_of : List CondNode → CondNode
 all_of (c ∷ []) = c
 all_of [] = cond.And []

@@ -1,9 +1,9 @@
-//! The grammar of query texts, their syntax tree, and a parser. The parser gives the tree that a list of tokens spells, or the offset at which
-//! the tokens go wrong.
+//! The grammar of query texts, their syntax tree, and a parser. The parser gives the tree that a list of tokens spells, or the byte of the syntax
+//! error.
 //!
-//! This is the second stage of reading a query. It comes after the lexer and a test of `nesting` (how deep parentheses are nested).
-//! `read_query_text` makes the tree, in which names and literals are still tokens; the next stage binds them. Callers cite
-//! `QuerySpecification` (which tokens spell which tree), `nesting`, and `IsSyntaxError` of `ll_grammars`.
+//! This is the second stage of reading a query, after the lexer and a test of `nesting` (how deep parentheses are nested). `read_query_text` makes
+//! the tree. Names and literals in it are still tokens; the next stage binds them. Contracts use `QuerySpecification` (which tokens spell which
+//! tree), `nesting`, and `IsSyntaxError` of `ll_grammars`.
 #![tactic(auto)]
 
 mod clauses;

@@ -35,7 +35,7 @@ fn operator(reader: &mut Reader<'_>) -> Result<Op, Stop>
     }
 }
 
-/// Reads NOT, if it is the next token, and says whether it was.
+/// Reads NOT, if it is the next token, and returns whether it was.
 #[tactic(auto, unfolding(crate::specs::Readers::read_negation))]
 pub fn negation(reader: &mut Reader<'_>) -> Result<bool, Stop>
     ensures { IsReadAs result reader.new (read_negation reader.old) }

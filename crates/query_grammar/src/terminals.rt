@@ -1,8 +1,8 @@
-//! Sets of terminals (kinds of tokens) for the parser of queries: those with which a rule may begin, or one of which has to come next.
+//! The sets of terminals that the parser looks for.
 pub use ll_grammars::NAME;
 use ll_grammars::Terminal;
 
-// The first token of `[ AS ] name`: KEY, NO, ACTION and CASCADE are names in a query.
+// The terminals with which `[ AS ] name` begins. KEY, NO, ACTION and CASCADE are names in a query.
 pub const ALIAS_FIRST: &[Terminal] = &[
     Terminal::As,
     Terminal::Name,

@@ -90,7 +90,7 @@ pub struct FromItemNode {
     pub joins: Seq<JoinedNode>,
 }
 
-/// An output (SQL-92 7.9): all columns of the source of this alias, or a column and its new name, if one is written.
+/// An output (SQL-92 7.9): all columns of the source with this alias, or a column with its new name, if one is written.
 #[derive(Clone, Copy, Debug)]
 pub enum OutNode {
     All(Lexeme),
@@ -100,7 +100,7 @@ pub enum OutNode {
     },
 }
 
-/// The outputs: all columns of all sources, or those that are listed.
+/// The outputs: all columns of all sources, or the listed outputs.
 #[derive(Debug, Drop)]
 pub enum OutsNode {
     All,

@@ -19,7 +19,7 @@ use Rattle.query_types.specs.declared.types.Cond.{Cond}
 use Rattle.query_types.specs.declared.types.Cond.TheVariants as cond
 use Rattle.query_types.specs.Validity.{is_text}
 use Rattle.query_names.specs.declared.binder.Binder.{Binder}
-use Rattle.query_names.specs.declared.checks.HeldOffences.{HeldOffences}
+use Rattle.query_names.specs.declared.checks.LateOffences.{LateOffences}
 use Rattle.query_names.specs.declared.errors.QueryError.{QueryError}
 use Rattle.query_names.specs.declared.operands.BoundOperand.{BoundOperand}
 use Rattle.query_names.specs.declared.scope.EntryColumn.{EntryColumn}
@@ -34,7 +34,7 @@ use Rattle.query_names.specs.Checking.{bound_literal, IsBound, Checked, CheckedT
 use Rattle.query_names.proofs.Walk.{error_after, name_error_append, or_first-nil}
 use Rattle.query_names.proofs.CheckFacts.{error_at_left, error_at_others, no_error, kinds_of_test}
 use Rattle.query_names.proofs.Meanings.{found_small}
-use Rattle.query_names.proofs.CheckSteps.{looked_of_equal, then_checked, flat_map_step}
+use Rattle.query_names.proofs.CheckSteps.{checked_of_equal, then_checked, flat_map_step}
 
 -- ---- one operand
 
@@ -83,7 +83,7 @@ module _ (binder : Binder) (scope : Scope) (t : TestNode) where
       (error_after (name_offences_of binder scope low) (name_offences_of binder scope high ++ []) e before
       (name_error_append (name_offences_of binder scope high) [] e wrong)))
 
--- ---- a comparison that was added
+-- ---- the state after a comparison was added
 
 module _ {binder : Binder} {scope : Scope} where
   kind_is : {left right : OperandNode} {l r : BoundOperand} → IsBound binder scope left l → IsBound binder scope right r
@@ -102,33 +102,33 @@ module _ {binder : Binder} {scope : Scope} where
   bound_left : (t : TestNode) {o left : OperandNode} {l : BoundOperand} → o ≡ left_of t → left_of t ≡ left → IsBound binder scope o l → IsBound binder scope left l
   bound_left t {l = l} from is bound = subst (λ o. IsBound binder scope o l) (from ∙ is) bound
 
-  pub compare_looked : {t : TestNode} {o left right : OperandNode} (how : Op) {l r : BoundOperand} {held held' : HeldOffences} {found found' : List Cond}
+  pub compare_checked : {t : TestNode} {o left right : OperandNode} (how : Op) {l r : BoundOperand} {held held' : LateOffences} {found found' : List Cond}
       → t ≡ test.Compare left how right → o ≡ left_of t → IsBound binder scope o l → IsBound binder scope right r
       → Checked binder [] (place_if (differ l.is_text r.is_text) r.first) [] held held' found found' (cond.Compare how l.value r.value ∷ [])
       → CheckedTest binder scope t held held' found found' (comparisons_by binder scope t)
   unfolding comparisons_by
-  compare_looked {t} {o} {left} {right} how {l} {r} {held} {held'} {found} {found'} is from ob rb looked =
+  compare_checked {t} {o} {left} {right} how {l} {r} {held} {held'} {found} {found'} is from ob rb looked =
       let lb : IsBound binder scope left l = bound_left t from (ap left_of is) ob in
       subst (λ t. CheckedTest binder scope t held held' found found' (comparisons_by binder scope t)) (sym is)
-      (looked_of_equal
+      (checked_of_equal
       (sym (no_error binder scope (test.Compare left how right) lb.none (ap (λ n. n ++ []) rb.none)))
       (kind_is lb rb ∙ sym (append-nil (kind_offence_of binder scope (is_text_by binder scope left) right)) ∙ sym (kinds_of_test binder scope (test.Compare left how right)))
       refl
       (λ few. ap (λ c. c ∷ []) (value_is how lb rb few))
       looked)
 
-  pub between_looked : {t : TestNode} {o left low high : OperandNode} (negated : Bool) {l a b : BoundOperand} {held mid held' : HeldOffences} {found between found' : List Cond}
+  pub between_checked : {t : TestNode} {o left low high : OperandNode} (negated : Bool) {l a b : BoundOperand} {held mid held' : LateOffences} {found between found' : List Cond}
       → t ≡ test.Between left negated low high → o ≡ left_of t → IsBound binder scope o l → IsBound binder scope low a → IsBound binder scope high b
       → Checked binder [] (place_if (differ l.is_text a.is_text) a.first) [] held mid found between (cond.Compare op.Ge l.value a.value ∷ [])
       → Checked binder [] (place_if (differ l.is_text b.is_text) b.first) [] mid held' between found' (cond.Compare op.Le l.value b.value ∷ [])
       → CheckedTest binder scope t held held' found found' (comparisons_by binder scope t)
   unfolding comparisons_by
-  between_looked {t} {o} {left} {low} {high} negated {l} {a} {b} {held} {mid} {held'} {found} {between} {found'} is from ob ab bb first second =
+  between_checked {t} {o} {left} {low} {high} negated {l} {a} {b} {held} {mid} {held'} {found} {between} {found'} is from ob ab bb first second =
       let lb : IsBound binder scope left l = bound_left t from (ap left_of is) ob in
       let range : TestNode = test.Between left negated low high in
       let kind : OperandNode → List ℕ = kind_offence_of binder scope (is_text_by binder scope left) in
       subst (λ t. CheckedTest binder scope t held held' found found' (comparisons_by binder scope t)) (sym is)
-      (looked_of_equal
+      (checked_of_equal
       (sym (no_error binder scope range lb.none (ap (λ n. n ++ (name_offences_of binder scope high ++ [])) ab.none ∙ ap (λ n. n ++ []) bb.none)))
       (ap (λ k. k ++ place_if (differ l.is_text b.is_text) b.first) (kind_is lb ab)
       ∙ ap (λ k. kind low ++ k) (kind_is lb bb ∙ sym (append-nil (kind high)))
@@ -137,7 +137,7 @@ module _ {binder : Binder} {scope : Scope} where
       (λ few. ap (λ c. c ∷ cond.Compare op.Le l.value b.value ∷ []) (value_is op.Ge lb ab few) ∙ ap (λ c. compared_by binder scope op.Ge left low ∷ c ∷ []) (value_is op.Le lb bb few))
       (then_checked first second))
 
--- ---- the values of an IN list
+-- ---- the state after the values of an IN list were compared
 
 no_names : (binder : Binder) (scope : Scope) (values : List LiteralNode) → flat_map (name_offences_of binder scope) (map of_literal values) ≡ []
 unfolding name_offences_of
@@ -154,14 +154,14 @@ equal_values : (binder : Binder) (scope : Scope) (left : OperandNode) (values : 
 unfolding compared_by operand_by
 equal_values binder scope left values = refl
 
-pub in_looked : {binder : Binder} {scope : Scope} {t : TestNode} {o left : OperandNode} (negated : Bool) {values items : List LiteralNode} {l : BoundOperand}
-    {held mid held' : HeldOffences} {found found' : List Cond}
+pub in_checked : {binder : Binder} {scope : Scope} {t : TestNode} {o left : OperandNode} (negated : Bool) {values items : List LiteralNode} {l : BoundOperand}
+    {held mid held' : LateOffences} {found found' : List Cond}
     → t ≡ test.In left negated values → items ≡ values → o ≡ left_of t → IsBound binder scope o l
     → mid.list ≡ or_first held.list (too_long t) → mid.kind ≡ held.kind
     → Checked binder [] (flat_map (wrong_literal l.is_text) items) [] mid held' found found' (map (equal_to binder.text.now l.value) items)
     → CheckedTest binder scope t held held' found found' (comparisons_by binder scope t)
 unfolding comparisons_by
-in_looked {binder} {scope} {t} {o} {left} negated {values} {items} {l} {held} {mid} {held'} {found} {found'} is same from ob list kind looked =
+in_checked {binder} {scope} {t} {o} {left} negated {values} {items} {l} {held} {mid} {held'} {found} {found'} is same from ob list kind looked =
     subst (λ t. mid.list ≡ or_first held.list (too_long t) → CheckedTest binder scope t held held' found found' (comparisons_by binder scope t)) (sym is) whole list where
       lb : IsBound binder scope left l
       lb = bound_left t from (ap left_of is) ob
@@ -172,7 +172,7 @@ in_looked {binder} {scope} {t} {o} {left} negated {values} {items} {l} {held} {m
       whole : mid.list ≡ or_first held.list (too_long (test.In left negated values))
           → CheckedTest binder scope (test.In left negated values) held held' found found' (comparisons_by binder scope (test.In left negated values))
       whole list =
-          looked_of_equal
+          checked_of_equal
           (sym (no_error binder scope (test.In left negated values) lb.none (no_names binder scope values)))
           (ap (λ b. flat_map (wrong_literal b) items) lb.text ∙ ap (flat_map (wrong_literal (is_text_by binder scope left))) same
           ∙ wrong_values binder scope (is_text_by binder scope left) values ∙ sym (kinds_of_test binder scope (test.In left negated values)))
@@ -181,7 +181,7 @@ in_looked {binder} {scope} {t} {o} {left} negated {values} {items} {l} {held} {m
           ∙ equal_values binder scope left values)
           (then_checked (noted list) looked)
 
-pub equality_more : {binder : Binder} (l : BoundOperand) (values : List LiteralNode) {i : ℕ} (d : LiteralNode) {other : BoundOperand} {held mid held' : HeldOffences} {found between found' : List Cond}
+pub equality_more : {binder : Binder} (l : BoundOperand) (values : List LiteralNode) {i : ℕ} (d : LiteralNode) {other : BoundOperand} {held mid held' : LateOffences} {found between found' : List Cond}
     → i < length values
     → Checked binder [] (flat_map (wrong_literal l.is_text) (take i values)) [] held mid found between (map (equal_to binder.text.now l.value) (take i values))
     → other ≡ bound_literal binder.text.now (get_or values i d)
@@ -189,7 +189,7 @@ pub equality_more : {binder : Binder} (l : BoundOperand) (values : List LiteralN
     → Checked binder [] (flat_map (wrong_literal l.is_text) (take (i + 1) values)) [] held held' found found' (map (equal_to binder.text.now l.value) (take (i + 1) values))
 equality_more {binder} l values {i} d {other} below one is next =
     let equal : LiteralNode → Cond = equal_to binder.text.now l.value in
-    looked_of_equal refl
+    checked_of_equal refl
     (ap (λ o. flat_map (wrong_literal l.is_text) (take i values) ++ place_if (differ l.is_text o.is_text) o.first) is ∙ flat_map_step (wrong_literal l.is_text) values i d below)
     refl
     (λ _. ap (λ o. map equal (take i values) ++ cond.Compare op.Eq l.value o.value ∷ []) is ∙ sym (map-append equal (take i values) (get_or values i d ∷ [])) ∙ ap (map equal) (sym (take_more values i d below)))

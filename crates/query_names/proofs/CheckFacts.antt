@@ -1,4 +1,4 @@
--- If the parts of a test were checked, the test was checked.
+-- Offences of a test or an output list, from the offences of its parts.
 use Rattle.std.proofs.Common.{◌≡◌, List, [], ◌++◌, ap, ◌∙◌, refl}
 use Rattle.std.specs.List.{flat_map}
 use Rattle.query_grammar.specs.declared.tree.TestNode.{TestNode}

@@ -1,5 +1,5 @@
--- `Checked` is the state after some tests were checked. These lemmas go from the states of one part of a condition and the next part to the state of
--- both together.
+-- `Checked` is the state after some tests were checked. These lemmas combine the states of two parts of a condition, one after the other, into one
+-- state.
 use Rattle.std.proofs.Common.{◌≡◌, ℕ, ◌+◌, ◌<◌, ◌≤◌, List, [], ◌∷◌, ◌++◌, length, take, drop, get_or, None, ap, subst, sym, ◌∙◌, refl}
 use Rattle.std.proofs.lemmas.List.{append_assoc, append-nil, take_more, take_all, take-append-drop, flat_map_more}
 use Rattle.std.proofs.lemmas.Grind.{flat_map-append}
@@ -8,7 +8,7 @@ use Rattle.query_grammar.specs.declared.tree.CondNode.{CondNode}
 use Rattle.query_grammar.specs.declared.tree.TestNode.{TestNode}
 use Rattle.query_types.specs.declared.types.Cond.{Cond}
 use Rattle.query_names.specs.declared.binder.Binder.{Binder}
-use Rattle.query_names.specs.declared.checks.HeldOffences.{HeldOffences}
+use Rattle.query_names.specs.declared.checks.LateOffences.{LateOffences}
 use Rattle.query_names.specs.declared.errors.QueryError.{QueryError}
 use Rattle.query_names.specs.declared.scope.Scope.{Scope}
 use Rattle.query_names.specs.Scopes.{tests}
@@ -17,25 +17,25 @@ use Rattle.query_names.specs.Binding.{from_of, test_offences_of}
 use Rattle.query_names.specs.Checking.{Checked, CheckedTests}
 use Rattle.query_names.proofs.Walk.{rest_at, or_first_append, or_first-nil, none_before, error_after, name_error_append}
 
-pub looked_of_equal : {binder : Binder} {names names' kinds kinds' lists lists' : List ℕ} {held held' : HeldOffences} {found found' more more' : List Cond}
+pub checked_of_equal : {binder : Binder} {names names' kinds kinds' lists lists' : List ℕ} {held held' : LateOffences} {found found' more more' : List Cond}
     → names ≡ names' → kinds ≡ kinds' → lists ≡ lists' → (length (from_of binder) ≤ 12 → more ≡ more')
     → Checked binder names kinds lists held held' found found' more → Checked binder names' kinds' lists' held held' found found' more'
-looked_of_equal {held = held} {found = found} same_names same_kinds same_lists same_more l = record {
+checked_of_equal {held = held} {found = found} same_names same_kinds same_lists same_more l = record {
   none = sym same_names ∙ l.none;
   kind = l.kind ∙ ap (or_first held.kind) same_kinds;
   list = l.list ∙ ap (or_first held.list) same_lists;
   built = λ few none. l.built few none ∙ ap (λ m. found ++ m) (same_more few);
 }
 
-pub nothing_looked : {binder : Binder} (held : HeldOffences) (found : List Cond) → Checked binder [] [] [] held held found found []
-nothing_looked held found = record {
+pub nothing_checked : {binder : Binder} (held : LateOffences) (found : List Cond) → Checked binder [] [] [] held held found found []
+nothing_checked held found = record {
   none = refl;
   kind = sym (or_first-nil held.kind);
   list = sym (or_first-nil held.list);
   built = λ _ _. sym (append-nil found);
 }
 
-pub then_checked : {binder : Binder} {names kinds lists names' kinds' lists' : List ℕ} {held mid held' : HeldOffences} {found between found' more more' : List Cond}
+pub then_checked : {binder : Binder} {names kinds lists names' kinds' lists' : List ℕ} {held mid held' : LateOffences} {found between found' more more' : List Cond}
     → Checked binder names kinds lists held mid found between more → Checked binder names' kinds' lists' mid held' between found' more'
     → Checked binder (names ++ names') (kinds ++ kinds') (lists ++ lists') held held' found found' (more ++ more')
 then_checked {kinds = kinds} {lists = lists} {names' = names'} {kinds' = kinds'} {lists' = lists'} {held = held} {mid = mid} {found = found} {more = more} {more' = more'} one next = record {
@@ -48,10 +48,10 @@ then_checked {kinds = kinds} {lists = lists} {names' = names'} {kinds' = kinds'}
 }
 
 -- the parts were built in a list of their own, and then one condition made of these parts was added to `found`
-pub looked_wrapped : {binder : Binder} {names kinds lists : List ℕ} {held held' : HeldOffences} {found found' start parts more : List Cond} {whole : Cond} (wrap : List Cond → Cond)
+pub checked_wrapped : {binder : Binder} {names kinds lists : List ℕ} {held held' : LateOffences} {found found' start parts more : List Cond} {whole : Cond} (wrap : List Cond → Cond)
     → wrap more ≡ whole → start ≡ [] → Checked binder names kinds lists held held' start parts more → (length (from_of binder) ≤ 12 → held'.list ≡ None → found' ≡ found ++ wrap parts ∷ [])
     → Checked binder names kinds lists held held' found found' (whole ∷ [])
-looked_wrapped {found = found} {more = more} wrap is empty l added = record {
+checked_wrapped {found = found} {more = more} wrap is empty l added = record {
   none = l.none;
   kind = l.kind;
   list = l.list;
@@ -64,10 +64,10 @@ pub flat_map_step : {A B : Type 0} (f : A → List B) (xs : List A) (i : ℕ) (d
 flat_map_step f xs i d below = flat_map_more f [] (take i xs) (get_or xs i d) ∙ ap (flat_map f) (sym (take_more xs i d below))
 
 module _ (binder : Binder) (scope : Scope) where
-  pub looked_all : (cs : List CondNode) {i : ℕ} {held held' : HeldOffences} {found found' : List Cond} (more : List CondNode → List Cond)
+  pub checked_all : (cs : List CondNode) {i : ℕ} {held held' : LateOffences} {found found' : List Cond} (more : List CondNode → List Cond)
       → length cs ≤ i → CheckedTests binder scope (flat_map tests (take i cs)) held held' found found' (more (take i cs))
       → CheckedTests binder scope (flat_map tests cs) held held' found found' (more cs)
-  looked_all cs {i} {held} {held'} {found} {found'} more done l = subst (λ taken. CheckedTests binder scope (flat_map tests taken) held held' found found' (more taken)) (take_all i cs done) l
+  checked_all cs {i} {held} {held'} {found} {found'} more done l = subst (λ taken. CheckedTests binder scope (flat_map tests taken) held held' found found' (more taken)) (take_all i cs done) l
 
   pub wrong_in : (cs : List CondNode) {i : ℕ} (d : CondNode) (e : QueryError)
       → i < length cs → flat_map (test_offences_of binder scope) (flat_map tests (take i cs)) ≡ []

@@ -1,4 +1,4 @@
--- If the parts of a condition were checked, the condition was checked.
+-- `CheckedTests` of a condition, from `CheckedTests` of its parts.
 use Rattle.std.proofs.Common.{◌≡◌, ◌⊎◌, inl, inr, ℕ, ◌≤◌, List, [], ◌∷◌, ◌++◌, length, map, None, ap, subst, sym, ◌∙◌, refl}
 use Rattle.std.specs.List.{flat_map}
 use Rattle.std.proofs.lemmas.List.{append-nil}
@@ -8,7 +8,7 @@ use Rattle.query_grammar.specs.declared.tree.TestNode.{TestNode}
 use Rattle.query_types.specs.declared.types.Cond.{Cond}
 use Rattle.query_types.specs.declared.types.Cond.TheVariants as cond
 use Rattle.query_names.specs.declared.binder.Binder.{Binder}
-use Rattle.query_names.specs.declared.checks.HeldOffences.{HeldOffences}
+use Rattle.query_names.specs.declared.checks.LateOffences.{LateOffences}
 use Rattle.query_names.specs.declared.errors.QueryError.{QueryError}
 use Rattle.query_names.specs.declared.scope.Scope.{Scope}
 use Rattle.query_names.specs.Scopes.{tests}
@@ -18,7 +18,7 @@ use Rattle.query_names.specs.Binding.{from_of, test_offences_of, kind_offences_o
 use Rattle.query_names.specs.Checking.{CheckedTests, CheckedTest}
 use Rattle.query_names.proofs.TestFacts.{tests_chain, tests_not, tests_test}
 use Rattle.query_names.proofs.Meanings.{value_and, value_or, value_not, members_or, members_not}
-use Rattle.query_names.proofs.CheckSteps.{looked_of_equal, looked_wrapped}
+use Rattle.query_names.proofs.CheckSteps.{checked_of_equal, checked_wrapped}
 
 pub alone : (f : TestNode → List ℕ) (t : TestNode) {c : CondNode} → c ≡ text.Test t → f t ≡ flat_map f (tests c)
 alone f t is = sym (append-nil (f t)) ∙ ap (flat_map f) (sym (ap tests is ∙ tests_test t))
@@ -41,40 +41,40 @@ module _ (binder : Binder) (scope : Scope) where
   one_member (inl h) = sym (ap (members_by binder scope) h.1 ∙ members_or binder scope h.0 ∙ ap (λ c. value_by binder scope c ∷ []) (sym h.1))
   one_member (inr h) = sym (ap (members_by binder scope) h.1 ∙ members_not binder scope h.0 ∙ ap (λ c. value_by binder scope c ∷ []) (sym h.1))
 
-  pub looked_at : {list list' : List TestNode} {held held' : HeldOffences} {found found' more : List Cond} → list ≡ list'
+  pub checked_at : {list list' : List TestNode} {held held' : LateOffences} {found found' more : List Cond} → list ≡ list'
       → CheckedTests binder scope list held held' found found' more → CheckedTests binder scope list' held held' found found' more
-  looked_at {held = held} {held' = held'} {found = found} {found' = found'} {more = more} same l = subst (λ list. CheckedTests binder scope list held held' found found' more) same l
+  checked_at {held = held} {held' = held'} {found = found} {found' = found'} {more = more} same l = subst (λ list. CheckedTests binder scope list held held' found found' more) same l
 
   pub wrong_at : {list list' : List TestNode} (e : QueryError) → list ≡ list'
       → IsNameError (flat_map (test_offences_of binder scope) list) e → IsNameError (flat_map (test_offences_of binder scope) list') e
   wrong_at e same wrong = subst (λ list. IsNameError (flat_map (test_offences_of binder scope) list) e) same wrong
 
-  pub one_test : (t : TestNode) {c : CondNode} {held held' : HeldOffences} {found found' more more' : List Cond} → c ≡ text.Test t → more ≡ more'
+  pub one_test : (t : TestNode) {c : CondNode} {held held' : LateOffences} {found found' more more' : List Cond} → c ≡ text.Test t → more ≡ more'
       → CheckedTest binder scope t held held' found found' more → CheckedTests binder scope (tests c) held held' found found' more'
-  one_test t is same l = looked_of_equal (alone (test_offences_of binder scope) t is) (alone (kind_offences_of binder scope) t is) (alone too_long t is) (λ _. same) l
+  one_test t is same l = checked_of_equal (alone (test_offences_of binder scope) t is) (alone (kind_offences_of binder scope) t is) (alone too_long t is) (λ _. same) l
 
-  pub and_looked : {c : CondNode} (members : List CondNode) {items : List CondNode} {held held' : HeldOffences} {found found' parts : List Cond}
+  pub and_checked : {c : CondNode} (members : List CondNode) {items : List CondNode} {held held' : LateOffences} {found found' parts : List Cond}
       → c ≡ text.And members → items ≡ members → CheckedTests binder scope (flat_map tests items) held held' [] parts (map (value_by binder scope) items)
       → (length (from_of binder) ≤ 12 → held'.list ≡ None → found' ≡ found ++ cond.And parts ∷ [])
       → CheckedTests binder scope (tests c) held held' found found' (value_by binder scope c ∷ [])
-  and_looked members is same l added =
-      looked_at (of_and is same) (looked_wrapped (λ parts. cond.And parts)
+  and_checked members is same l added =
+      checked_at (of_and is same) (checked_wrapped (λ parts. cond.And parts)
       (ap (λ cs. cond.And (map (value_by binder scope) cs)) same ∙ sym (ap (value_by binder scope) is ∙ value_and binder scope members)) refl l added)
 
-  pub or_looked : {c : CondNode} (members : List CondNode) {items : List CondNode} {held held' : HeldOffences} {found found' parts : List Cond}
+  pub or_checked : {c : CondNode} (members : List CondNode) {items : List CondNode} {held held' : LateOffences} {found found' parts : List Cond}
       → c ≡ text.Or members → items ≡ members → CheckedTests binder scope (flat_map tests items) held held' [] parts (map (value_by binder scope) items)
       → (length (from_of binder) ≤ 12 → held'.list ≡ None → found' ≡ found ++ cond.Or parts ∷ [])
       → CheckedTests binder scope (tests c) held held' found found' (value_by binder scope c ∷ [])
-  or_looked members is same l added =
-      looked_at (of_or is same) (looked_wrapped (λ parts. cond.Or parts)
+  or_checked members is same l added =
+      checked_at (of_or is same) (checked_wrapped (λ parts. cond.Or parts)
       (ap (λ cs. cond.Or (map (value_by binder scope) cs)) same ∙ sym (ap (value_by binder scope) is ∙ value_or binder scope members)) refl l added)
 
-  pub not_looked : {c : CondNode} (member : CondNode) {inner : CondNode} {held held' : HeldOffences} {found found' start parts : List Cond}
+  pub not_checked : {c : CondNode} (member : CondNode) {inner : CondNode} {held held' : LateOffences} {found found' start parts : List Cond}
       → c ≡ text.Not member → inner ≡ member → start ≡ [] → CheckedTests binder scope (tests inner) held held' start parts (value_by binder scope inner ∷ [])
       → ((one : Cond) → parts ≡ one ∷ [] → found' ≡ found ++ cond.Not one ∷ [])
       → CheckedTests binder scope (tests c) held held' found found' (value_by binder scope c ∷ [])
-  not_looked {c} member {inner} {found = found} is same empty l added =
-      looked_at (of_not is same) (record {
+  not_checked {c} member {inner} {found = found} is same empty l added =
+      checked_at (of_not is same) (record {
         none = l.none;
         kind = l.kind;
         list = l.list;

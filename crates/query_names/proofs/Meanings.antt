@@ -1,4 +1,4 @@
--- The meaning of a condition of a text follows from the meanings of its parts.
+-- The meaning of a condition from the meanings of its parts.
 use Rattle.std.proofs.Common.{◌≡◌, ℕ, zero, suc, ◌<◌, ◌≤◌, List, [], ◌∷◌, ◌++◌, length, map, Some, ap, subst, sym, ◌∙◌, refl, arith}
 use Rattle.std.specs.Prelude.{slice_get, true, false}
 use Rattle.query_grammar.specs.declared.tree.ColumnNode.{ColumnNode}
@@ -11,7 +11,7 @@ use Rattle.query_types.specs.declared.types.Cond.TheVariants as cond
 use Rattle.std.specs.List.{flat_map}
 use Rattle.std.specs.Prelude.{Result, Ok, Err, IfOk, All}
 use Rattle.ll_grammars.specs.declared.lexeme.Lexeme.{Lexeme}
-use Rattle.query_grammar.specs.Lexemes.{IsCondOf, IsTestOf}
+use Rattle.query_grammar.specs.Lexemes.{IsCondWith, IsTestWith}
 use Rattle.query_grammar.proofs.CondTokens.{members_of_and, members_of_or, inner_of_not, test_in}
 use Rattle.query_grammar.specs.declared.tree.TestNode.{TestNode}
 use Rattle.query_grammar.specs.declared.tree.TestNode.TheVariants as test
@@ -50,7 +50,7 @@ several_of [] many = refl
 several_of (x ∷ []) many = absurd (many refl)
 several_of (x ∷ y ∷ parts) many = refl
 
--- ---- the comparisons of a test make the condition that the test means
+-- ---- `test_condition` of a test's comparisons is the condition that the test means
 
 module _ (binder : Binder) (scope : Scope) where
   pub whole_is : (t : TestNode) → test_condition t (comparisons_by binder scope t) ≡ test_value_by binder scope t
@@ -143,17 +143,17 @@ module _ (binder : Binder) (scope : Scope) where
 
 -- ---- if a condition's tokens have P, so have the tokens of its members
 
-pub tokens_of_and : (P : Lexeme → Type 0) (c : CondNode) (members items : List CondNode) → c ≡ text.And members → items ≡ members → IsCondOf P c → All (IsCondOf P) items
-tokens_of_and P c members items is same h = subst (All (IsCondOf P)) (sym same) (members_of_and P members (subst (IsCondOf P) is h))
+pub tokens_of_and : (P : Lexeme → Type 0) (c : CondNode) (members items : List CondNode) → c ≡ text.And members → items ≡ members → IsCondWith P c → All (IsCondWith P) items
+tokens_of_and P c members items is same h = subst (All (IsCondWith P)) (sym same) (members_of_and P members (subst (IsCondWith P) is h))
 
-pub tokens_of_or : (P : Lexeme → Type 0) (c : CondNode) (members items : List CondNode) → c ≡ text.Or members → items ≡ members → IsCondOf P c → All (IsCondOf P) items
-tokens_of_or P c members items is same h = subst (All (IsCondOf P)) (sym same) (members_of_or P members (subst (IsCondOf P) is h))
+pub tokens_of_or : (P : Lexeme → Type 0) (c : CondNode) (members items : List CondNode) → c ≡ text.Or members → items ≡ members → IsCondWith P c → All (IsCondWith P) items
+tokens_of_or P c members items is same h = subst (All (IsCondWith P)) (sym same) (members_of_or P members (subst (IsCondWith P) is h))
 
-pub tokens_of_not : (P : Lexeme → Type 0) (c member inner : CondNode) → c ≡ text.Not member → inner ≡ member → IsCondOf P c → IsCondOf P inner
-tokens_of_not P c member inner is same h = subst (IsCondOf P) (sym same) (inner_of_not P member (subst (IsCondOf P) is h))
+pub tokens_of_not : (P : Lexeme → Type 0) (c member inner : CondNode) → c ≡ text.Not member → inner ≡ member → IsCondWith P c → IsCondWith P inner
+tokens_of_not P c member inner is same h = subst (IsCondWith P) (sym same) (inner_of_not P member (subst (IsCondWith P) is h))
 
-pub tokens_of_test : (P : Lexeme → Type 0) (c : CondNode) (t : TestNode) → c ≡ text.Test t → IsCondOf P c → IsTestOf P t
-tokens_of_test P c t is h = test_in P t (subst (IsCondOf P) is h)
+pub tokens_of_test : (P : Lexeme → Type 0) (c : CondNode) (t : TestNode) → c ≡ text.Test t → IsCondWith P c → IsTestWith P t
+tokens_of_test P c t is h = test_in P t (subst (IsCondWith P) is h)
 
 pub if_ok_map : {A E : Type 0} (P Q : A → Type 0) (r : Result A E) → IfOk r P → ((v : A) → P v → Q v) → IfOk r Q
 if_ok_map P Q (Ok v) h f = f v h

@@ -1,4 +1,4 @@
--- The names of a list of items are added one by one.
+-- A step of a loop that adds the names of a list's items.
 use Rattle.std.proofs.Common.{◌≡◌, ℕ, ◌+◌, ◌<◌, List, [], ◌∷◌, ◌++◌, length, map, take, get_or, ap, sym, ◌∙◌, arith}
 use Rattle.std.proofs.lemmas.List.{get_or-map, length-map, take_more}
 

@@ -14,7 +14,7 @@ use Rattle.query_names.specs.declared.scope.Scope.{Scope}
 use Rattle.query_types.specs.declared.types.Source.{Source}
 use Rattle.schema_types.specs.Names.{index_of_name}
 use Rattle.query_names.specs.Names.{column_in, column_named, column_at, column_names, aliases}
-use Rattle.query_names.specs.Scopes.{only, in_scope, numbered, is_in, entry_at, entry_named, column_alone, resolved, resolve}
+use Rattle.query_names.specs.Scopes.{only, in_scope, numbered, is_in, entry_at, entry_named, column_without_alias, resolved, resolve}
 
 pub record IsEntry (from : List Source) (entry : Entry) : Type 0 where
   pub source : Source
@@ -122,7 +122,7 @@ named_is from scope alias entry same = at (index_of_name (aliases from) alias) s
   at (Some n) same = held n (is_in scope n) same
 
 pub resolved_exists : (schema : Schema) (text : List ℕ) (from : List Source) (scope : Scope) (reference : ColumnNode) (found : EntryColumn) → resolve schema text from scope reference ≡ Some found → ColumnExists schema from found
-unfolding resolve column_alone
+unfolding resolve column_without_alias
 resolved_exists schema text from scope reference found same = at reference.table same where
   of : (name : List ℕ) (entry : Option Entry) → ((e : Entry) → entry ≡ Some e → IsEntry from e) → option_and_then (column_in schema name) entry ≡ Some found → ColumnExists schema from found
   of name None are same = absurd cc

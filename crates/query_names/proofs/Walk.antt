@@ -1,4 +1,4 @@
--- These lemmas are for the loops over lists of a syntax tree. They are about the remaining items, and about the offences of these items.
+-- Lemmas for loops over lists of a syntax tree: the remaining items, and the offences of these items.
 use Rattle.std.proofs.Common.{◌≡◌, ℕ, add-one, ◌+◌, ◌<◌, List, [], ◌∷◌, ◌++◌, length, map, take, drop, get_or, Option, Some, None, ap, subst, sym, ◌∙◌, refl}
 use Rattle.std.proofs.Math.Seq.{drop-cons}
 use Rattle.std.proofs.lemmas.List.{take_more, map-append}

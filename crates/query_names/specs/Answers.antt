@@ -1,4 +1,4 @@
--- The results of the stages that read a query: a value, or an error at the first offence. An offence is the offset of what is wrong.
+-- The results of the stages that read a query: a value, or the first error. In names an `offence` is the offset of an error.
 use Rattle.std.specs.Prelude.{◌≡◌, ℕ, List, [], ◌∷◌, Option, Some, None, ⊤}
 use Rattle.query_names.specs.declared.errors.QueryError.{QueryError}
 use Rattle.query_names.specs.declared.errors.QueryError.TheVariants as error
@@ -16,7 +16,7 @@ IsNameError offsets (error.Syntax offset) = ⊥
 IsNameError offsets (error.Kind offset) = ⊥
 IsNameError offsets (error.Limit which n) = ⊥
 
--- the offence that was found before, or otherwise the first of `others`
+-- the number that was found before, or otherwise the first of `others`
 abbrev pub or_first : Option ℕ → List ℕ → Option ℕ
 or_first (Some n) others = Some n
 or_first None others = first others

@@ -1,4 +1,4 @@
--- What a `Binder` knows: the schema, the text and the FROM entries. The definitions of this crate are repeated here for a binder.
+-- The definitions of this crate, applied to the schema, the text and the FROM entries of a `Binder`.
 use Rattle.std.specs.Prelude.{◌≡◌, ℕ, Bool, List, take, Option}
 use Rattle.std.specs.List.{filter_map, flat_map}
 use Rattle.query_grammar.specs.declared.tree.CondNode.{CondNode}
@@ -33,7 +33,7 @@ from_of binder = binder.entries.now.sources
 abbrev pub columns_in : Schema → List ℕ → List Entry → List EntryColumn
 columns_in schema name entries = filter_map (column_in schema name) entries
 
--- for every name, the first two columns of this name in the entries `first_two` are the first two in all entries in scope
+-- the first two columns of any name are the same in the entries `first_two` as in all entries in scope
 pub record FirstTwoAreEnough (binder : Binder) (visible : Visible) : Type 0 where
   pub same : (name : List ℕ)
       → take 2 (columns_in (schema_of binder) name visible.first_two)
@@ -65,8 +65,8 @@ names_in binder c = flat_map (test_offences_of binder c.scope) (tests c.conditio
 unfoldable pub kinds_in : Binder → Scoped → List ℕ
 kinds_in binder c = flat_map (kind_offences_of binder c.scope) (tests c.condition)
 
-unfoldable pub lists_in : Scoped → List ℕ
-lists_in c = flat_map too_long (tests c.condition)
+unfoldable pub long_lists_in : Scoped → List ℕ
+long_lists_in c = flat_map too_long (tests c.condition)
 
 -- ---- values
 

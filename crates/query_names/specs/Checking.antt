@@ -1,6 +1,7 @@
 -- What the code finds and builds when it checks the tests of a condition.
 use Rattle.std.specs.Prelude.{◌≡◌, ◌≤◌, ℕ, Bool, false, not, if◌then◌else◌, List, [], ◌∷◌, ◌++◌, length, map, None}
 use Rattle.std.specs.List.{flat_map}
+use Rattle.limits.specs.Profile.{most_entries}
 use Rattle.query_grammar.specs.declared.tree.LiteralNode.{LiteralNode}
 use Rattle.query_grammar.specs.declared.tree.Op.TheVariants as op
 use Rattle.query_grammar.specs.declared.tree.OperandNode.{OperandNode}
@@ -10,7 +11,7 @@ use Rattle.query_types.specs.declared.types.Operand.{Operand}
 use Rattle.query_types.specs.declared.types.Cond.{Cond}
 use Rattle.query_types.specs.declared.types.Cond.TheVariants as cond
 use Rattle.query_names.specs.declared.binder.Binder.{Binder}
-use Rattle.query_names.specs.declared.checks.HeldOffences.{HeldOffences}
+use Rattle.query_names.specs.declared.checks.LateOffences.{LateOffences}
 use Rattle.query_names.specs.declared.operands.BoundOperand.{BoundOperand}
 use Rattle.query_names.specs.declared.scope.Scope.{Scope}
 use Rattle.query_names.specs.Names.{place_if}
@@ -25,16 +26,16 @@ use Rattle.query_names.specs.Binding.{from_of, name_offences_of, is_text_by, tes
 abbrev pub bound_literal : List ℕ → LiteralNode → BoundOperand
 bound_literal text l = record { value = literal_value text l; is_text = is_text_literal l; first = first_of_literal l }
 
--- the operand has no wrong name, and `bound` has its value, its kind and its first token. The value is only right if FROM has at most 12 entries
+-- the operand has no wrong name, and `bound` has its kind and its first token. If FROM has at most 12 entries, `bound` also has its value
 pub record IsBound (binder : Binder) (scope : Scope) (operand : OperandNode) (bound : BoundOperand) : Type 0 where
   pub none : name_offences_of binder scope operand ≡ []
   pub text : bound.is_text ≡ is_text_by binder scope operand
   pub first : bound.first ≡ first_of operand
-  pub value : length (from_of binder) ≤ 12 → bound.value ≡ operand_by binder scope operand
+  pub value : length (from_of binder) ≤ most_entries → bound.value ≡ operand_by binder scope operand
 
 -- ---- tests
 
--- the offset of a value of IN, if the value isn't of the left operand's kind; `equal_to` is the equality with a value
+-- the offset of an IN value whose kind isn't that of the left operand. `equal_to` is the equality with an IN value
 abbrev pub wrong_literal : Bool → LiteralNode → List ℕ
 wrong_literal left l = place_if (differ left (is_text_literal l)) (first_of_literal l)
 
@@ -54,7 +55,7 @@ test_condition (test.Compare left how right) parts = (any_of parts).whole
 test_condition (test.Between left negated low high) parts = if negated then cond.Not (cond.And parts) else cond.And parts
 test_condition (test.In left negated values) parts = if negated then cond.Not (any_of parts).whole else (any_of parts).whole
 
--- whether a test's comparisons are members of the condition that the test is a part of
+-- whether a test counts as two members of its condition, one for each comparison
 abbrev pub is_range : TestNode → Bool
 is_range (test.Compare left how right) = false
 is_range (test.Between left negated low high) = not negated
@@ -64,17 +65,17 @@ is_range (test.In left negated values) = false
 
 -- No name is wrong. If no offset of a wrong kind was kept before, the first of `kinds` is kept. If no length of a list was kept before, the
 -- first of `lists` is kept. The conditions `more` are added to `found`, if FROM has at most 12 entries and no length of a list is kept.
-pub record Checked (binder : Binder) (names kinds lists : List ℕ) (held held' : HeldOffences) (found found' more : List Cond) : Type 0 where
+pub record Checked (binder : Binder) (names kinds lists : List ℕ) (held held' : LateOffences) (found found' more : List Cond) : Type 0 where
   pub none : names ≡ []
   pub kind : held'.kind ≡ or_first held.kind kinds
   pub list : held'.list ≡ or_first held.list lists
-  pub built : length (from_of binder) ≤ 12 → held'.list ≡ None → found' ≡ found ++ more
+  pub built : length (from_of binder) ≤ most_entries → held'.list ≡ None → found' ≡ found ++ more
 
-abbrev pub CheckedTest : Binder → Scope → TestNode → HeldOffences → HeldOffences → List Cond → List Cond → List Cond → Type 0
+abbrev pub CheckedTest : Binder → Scope → TestNode → LateOffences → LateOffences → List Cond → List Cond → List Cond → Type 0
 CheckedTest binder scope t held held' found found' more =
     Checked binder (test_offences_of binder scope t) (kind_offences_of binder scope t) (too_long t) held held' found found' more
 
-abbrev pub CheckedTests : Binder → Scope → List TestNode → HeldOffences → HeldOffences → List Cond → List Cond → List Cond → Type 0
+abbrev pub CheckedTests : Binder → Scope → List TestNode → LateOffences → LateOffences → List Cond → List Cond → List Cond → Type 0
 CheckedTests binder scope ts held held' found found' more =
     Checked binder (flat_map (test_offences_of binder scope) ts) (flat_map (kind_offences_of binder scope) ts) (flat_map too_long ts)
     held held' found found' more

@@ -7,8 +7,8 @@ use Rattle.sql_tokens.specs.Words.{slice, number_of}
 use Rattle.query_names.specs.Names.{place_if}
 
 -- the number that a token of digits spells
-abbrev pub value_of : List ℕ → Lexeme → ℕ
-value_of text digits = number_of (slice text digits.start digits.end)
+abbrev pub number_of_token : List ℕ → Lexeme → ℕ
+number_of_token text digits = number_of (slice text digits.start digits.end)
 
 abbrev pub is_minus : Lexeme → Bool
 is_minus token = among (terminal.Minus ∷ []) token.terminal
@@ -27,7 +27,7 @@ signed false n = pos (min n (2 ^ 63 - 1))
 
 -- the value of a number literal
 unfoldable pub number_value : List ℕ → Option Lexeme → Lexeme → ℤ
-number_value text sign digits = signed (is_negative sign) (value_of text digits)
+number_value text sign digits = signed (is_negative sign) (number_of_token text digits)
 
 -- whether a number is outside the range, which goes from -2^63 to 2^63 - 1
 abbrev pub is_too_large : Bool → ℕ → Bool
@@ -43,7 +43,7 @@ abbrev pub is_number : Lexeme → Bool
 is_number token = among (terminal.Zero ∷ terminal.Number ∷ []) token.terminal
 
 abbrev pub number_offence : List ℕ → Option Lexeme → Lexeme → List ℕ
-number_offence text sign token = place_if (is_number token && is_too_large (is_negative sign) (value_of text token)) (unwrap_or sign token)
+number_offence text sign token = place_if (is_number token && is_too_large (is_negative sign) (number_of_token text token)) (unwrap_or sign token)
 
 abbrev pub offences_after : List ℕ → Option Lexeme → List Lexeme → List ℕ
 offences_after text before [] = []

@@ -1,4 +1,4 @@
--- Offences: the offsets of names that mean nothing or more than one thing, and of operands of the wrong kind.
+-- The offsets of errors (`offences`): names that are unknown or ambiguous, and operands of the wrong kind.
 use Rattle.std.specs.Prelude.{ℕ, Bool, true, false, not, nat_lt, if◌then◌else◌, List, [], ◌∷◌, ◌++◌, length, map, Option, Some, None, is_none, unwrap_or}
 use Rattle.std.specs.List.{flat_map}
 use Rattle.limits.specs.Profile.{most_values}

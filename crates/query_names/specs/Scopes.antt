@@ -1,4 +1,4 @@
--- Which column a reference names, and the entries that are in scope for each condition.
+-- The column that a reference names, and the entries that are in scope for each condition.
 use Rattle.std.specs.Prelude.{ℕ, ◌+◌, Bool, ◌&&◌, nat_le, nat_lt, if◌then◌else◌, List, [], ◌∷◌, ◌++◌, length, Option, Some, None, option_map, option_and_then, unwrap_or, slice_get, slice_range}
 use Rattle.std.specs.List.{filter_map, flat_map}
 use Rattle.ll_grammars.specs.declared.lexeme.Lexeme.{Lexeme}
@@ -18,7 +18,7 @@ use Rattle.query_types.specs.declared.types.Source.{Source}
 use Rattle.schema_types.specs.Names.{index_of_name}
 use Rattle.query_names.specs.Names.{column_in, aliases}
 
--- ---- which column a reference names (SQL-92 6.4)
+-- ---- the column that a reference names (SQL-92 6.4)
 
 abbrev pub numbered : ℕ → List Source → List Entry
 numbered number [] = []
@@ -48,15 +48,15 @@ entry_named from scope alias = option_and_then (entry_at from scope) (index_of_n
 
 module _ (schema : Schema) (text : List ℕ) (from : List Source) (scope : Scope) where
   -- a column that is named without an alias: exactly one entry in scope has a table with this column
-  unfoldable pub column_alone : List ℕ → Option EntryColumn
-  column_alone name = only (filter_map (column_in schema name) (in_scope from scope))
+  unfoldable pub column_without_alias : List ℕ → Option EntryColumn
+  column_without_alias name = only (filter_map (column_in schema name) (in_scope from scope))
 
   -- a column that is named with an alias: the column of the alias's entry, if the entry's table has it
   abbrev pub column_of : List ℕ → List ℕ → Option EntryColumn
   column_of alias name = option_and_then (column_in schema name) (entry_named from scope alias)
 
   abbrev pub resolved : Option Lexeme → Lexeme → Option EntryColumn
-  resolved None column = column_alone (name_of text column)
+  resolved None column = column_without_alias (name_of text column)
   resolved (Some table) column = column_of (name_of text table) (name_of text column)
 
   -- the column that a reference names, if there is exactly one
@@ -73,7 +73,7 @@ pub record Scoped : Type 0 where
   pub scope : Scope
   pub condition : CondNode
 
--- the conditions of the joins of a FROM part. In scope are the entries from the part's first one up to the one that is joined
+-- the ON conditions of a FROM part. The entries from the part's first one up to the joined one are in scope
 abbrev pub conditions_of_joins : ℕ → ℕ → List JoinedNode → List Scoped
 conditions_of_joins first end [] = []
 conditions_of_joins first end (join ∷ rest) =

@@ -1,7 +1,7 @@
 -- The query that a syntax tree means.
 use Rattle.std.specs.Prelude.{ℕ, ◌+◌, Bool, true, false, List, [], ◌∷◌, map, Option, Some, None, unwrap_or, slice_get}
 use Rattle.std.specs.List.{flat_map}
-use Rattle.sql_tokens.specs.Words.{name_of, literal_of}
+use Rattle.sql_tokens.specs.Words.{name_of, literal_text_of}
 use Rattle.query_grammar.specs.declared.tree.Op.{Op}
 use Rattle.query_grammar.specs.declared.tree.Op.TheVariants as op
 use Rattle.query_grammar.specs.declared.tree.LiteralNode.{LiteralNode}
@@ -36,7 +36,7 @@ use Rattle.query_names.specs.Scopes.{resolve, entry_named, in_scope, whole_scope
 use Rattle.query_names.specs.Numbers.{number_value}
 use Rattle.query_names.specs.Offences.{of_literal}
 
--- a condition, and its members. The members of an AND are those of all its operands; any other condition has itself as its one member
+-- a condition, and its members. An AND has the members of all its operands. Any other condition has itself as its only member
 pub record Meaning : Type 0 where
   pub whole : Cond
   pub members : List Cond
@@ -60,14 +60,14 @@ any_of [] = alone (cond.Or [])
 any_of (one ∷ []) = alone one
 any_of (one ∷ other ∷ rest) = alone (cond.Or (one ∷ other ∷ rest))
 
--- the reference to a column that was found. Nothing is found only for a wrong name; then the query is refused, and this column is never used
+-- the reference to a column that was found. If no column is found, the name is wrong and the query is refused, so this column is never used
 abbrev pub resolved_column : Option EntryColumn → ColumnRef
 resolved_column None = record { from = 0; column = 0 }
 resolved_column (Some column) = record { from = column.from; column = column.column }
 
 abbrev pub literal_value : List ℕ → LiteralNode → Operand
 literal_value text (literal.Number sign digits) = value.Int (number_value text sign digits)
-literal_value text (literal.Text token) = value.Text (literal_of text token)
+literal_value text (literal.Text token) = value.Text (literal_text_of text token)
 
 module _ (schema : Schema) (text : List ℕ) (from : List Source) (scope : Scope) where
   abbrev pub operand_value : OperandNode → Operand

@@ -2,7 +2,7 @@
 ghost use Rattle.std.specs.Prelude.{◌≡◌, ◌≤◌, ◌<◌, ◌+◌, IfOk, length, ◌==◌, count_by, option_map, slice_get};
 ghost use Rattle.sql_tokens.specs.Words.{IsLexemeOf};
 ghost use Rattle.query_names.specs.Scopes.{only, entry_named, whole_scope, column_of};
-ghost use Rattle.query_grammar.specs.Lexemes.{IsColumnOf};
+ghost use Rattle.query_grammar.specs.Lexemes.{IsColumnWith};
 ghost use Rattle.query_names.specs.Binding.{schema_of, from_of, columns_in, FirstTwoAreEnough, resolved_by};
 
 use crate::catalog::Catalog;
@@ -14,7 +14,7 @@ use schema_types::Table;
 use sql_tokens::name;
 use std::alloc::Global;
 
-/// What is needed to bind names: the schema, the text and the FROM entries.
+/// Resolves names, over a schema, a query text and its FROM entries.
 #[derive(Drop)]
 pub struct Binder<'a> {
     pub alloc: Global,
@@ -32,7 +32,7 @@ fn count_of(entries: &[Entry], table: u32) -> usize
 
 impl<'a> Binder<'a> {
     /// The column `name` in the tables of the entries `first_two`, if exactly one of them has it.
-    fn column_alone(&self, first_two: &[Entry], name: &str) -> Option<EntryColumn>
+    fn column_without_alias(&self, first_two: &[Entry], name: &str) -> Option<EntryColumn>
         ensures { result ≡ only (columns_in (schema_of self.now) name.now first_two.now) }
     {
         let mut found = None;
@@ -47,7 +47,7 @@ impl<'a> Binder<'a> {
         found
     }
 
-    /// The entry of this alias, if that entry is in scope.
+    /// The entry with this alias, if it is in scope.
     #[tactic(auto, unfolding(crate::specs::Scopes::entry_named))]
     pub fn entry_named(&self, scope: Scope, alias: &str) -> Option<Entry>
         ensures { result ≡ entry_named (from_of self.now) scope alias.now }
@@ -72,19 +72,19 @@ impl<'a> Binder<'a> {
     }
 
     /// The column that a reference names, if there is exactly one.
-    #[tactic(auto, unfolding(crate::specs::Scopes::resolve, crate::specs::Scopes::column_alone))]
+    #[tactic(auto, unfolding(crate::specs::Scopes::resolve, crate::specs::Scopes::column_without_alias))]
     pub fn resolve(
         &self,
         visible: &Visible,
         reference: &ColumnNode,
     ) -> Result<Option<EntryColumn>, NoMemory>
         requires shows { FirstTwoAreEnough self.now visible.now }
-        requires tokens { IsColumnOf (IsLexemeOf self.now.text.now) reference.now }
+        requires tokens { IsColumnWith (IsLexemeOf self.now.text.now) reference.now }
         ensures { IfOk result (λ found. found ≡ resolved_by self.now visible.now.scope reference.now) }
     {
         let column = name(self.alloc, self.text, &reference.column)?;
         match &reference.table {
-            None => Ok(self.column_alone(visible.first_two.as_slice(), column.as_str())),
+            None => Ok(self.column_without_alias(visible.first_two.as_slice(), column.as_str())),
             Some(table) => {
                 let alias = name(self.alloc, self.text, table)?;
                 Ok(self.column_of(visible.scope, alias.as_str(), column.as_str()))
@@ -106,7 +106,7 @@ impl<'a> Binder<'a> {
 
     /// Brings the next entry into scope.
     #[tactic(auto, using(crate::proofs::ScopeFacts::one_more_shown, crate::proofs::ScopeFacts::third_not_shown))]
-    pub fn admit(&self, visible: &mut Visible) -> Result<(), NoMemory>
+    pub fn bring_into_scope(&self, visible: &mut Visible) -> Result<(), NoMemory>
         requires shows { FirstTwoAreEnough self.now visible.old }
         requires begins { visible.old.scope.first ≤ visible.old.scope.end }
         requires ends { visible.old.scope.end < length (from_of self.now) }
@@ -140,7 +140,7 @@ impl<'a> Binder<'a> {
     {
         let mut visible = self.none_visible(0);
         'all: for _ in 0..self.entries.sources.len() {
-            self.admit(&mut visible)?;
+            self.bring_into_scope(&mut visible)?;
         }
         Ok(visible)
     }

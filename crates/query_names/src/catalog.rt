@@ -1,4 +1,4 @@
-//! A schema's tables and columns, to be found by name.
+//! Finds the tables and columns of a schema by name.
 ghost use Rattle.std.specs.Prelude.{◌≡◌, IfOk, ◌<◌, ◌≤◌, length, map};
 ghost use Rattle.schema_types.specs.Names.{index_of_name};
 ghost use Rattle.schema_types.specs.Validity.{IsValid, IsValidTable};
@@ -18,7 +18,7 @@ pub struct TableByName<'a> {
     ghost named: { columns ≡ column_names table.now },
 }
 
-/// A schema, whose tables, and the columns of each table, can be found by name.
+/// A schema. Its tables can be found by name, and so can the columns of each table.
 #[derive(Drop)]
 pub struct Catalog<'a> {
     pub schema: &'a Schema,
@@ -41,7 +41,7 @@ impl<'a> TableByName<'a> {
         Ok(TableByName { table, columns })
     }
 
-    /// The column of this name in the table, as a column of FROM entry `from`.
+    /// The table's column with this name, as a column of FROM entry number `from`.
     pub fn column(&self, from: usize, name: &str) -> Option<EntryColumn>
         ensures { result ≡ column_named from self.now.table.now name.now }
     {
@@ -96,14 +96,14 @@ impl<'a> Catalog<'a> {
         self.schema
     }
 
-    /// The number of the table of this name.
+    /// The number of the table with this name.
     pub fn table(&self, name: &str) -> Option<u32>
         ensures { result ≡ index_of_name (table_names self.now.schema.now) name.now }
     {
         self.names.get(name)
     }
 
-    /// The column of this name in an entry's table.
+    /// The column with this name in an entry's table.
     #[tactic(auto, unfolding(crate::specs::Names::column_in))]
     pub fn column(&self, name: &str, entry: Entry) -> Option<EntryColumn>
         ensures { result ≡ column_in self.now.schema.now name.now entry }

@@ -1,4 +1,4 @@
-//! Offences (what is wrong, and where) in conditions. They are refused only after all names were checked.
+//! Errors in conditions (`offences`) that are refused only after all names were checked.
 ghost use Rattle.std.specs.Prelude.{◌≡◌};
 ghost use Rattle.query_names.specs.Names.{place_if};
 ghost use Rattle.query_names.specs.Offences.{too_long};
@@ -8,15 +8,15 @@ use limits::MOST_VALUES;
 use ll_grammars::Lexeme;
 use query_grammar::TestNode;
 
-/// The first offences so far that are refused only after all names were checked. `kind` is the offset of the first operand of the wrong kind,
-/// and `list` is the length of the first IN list that is too long.
+/// The first errors so far that are refused only after all names were checked. `kind` is the offset of the first operand of the wrong kind. `list` is
+/// the length of the first IN list that is too long.
 #[derive(Clone, Copy, Debug)]
-pub struct HeldOffences {
+pub struct LateOffences {
     pub kind: Option<u32>,
     pub list: Option<usize>,
 }
 
-impl HeldOffences {
+impl LateOffences {
     /// If `wrong` is true and no offset was kept before, keeps the offset of `token`, which has the wrong kind.
     pub(crate) fn note_kind(&mut self, wrong: bool, token: Lexeme)
         ensures kind { self.new.kind ≡ or_first self.old.kind (place_if wrong token) }

@@ -1,8 +1,9 @@
 //! Builds the comparisons of a test (a comparison, BETWEEN or IN of a query text). Each name in a test is resolved once.
 ghost use Rattle.std.specs.Prelude.{◌≡◌, ◌≤◌, [], ◌∷◌, All, None, true, IfOk, IfErr, length, map};
 ghost use Rattle.std.specs.List.{flat_map};
+ghost use Rattle.limits.specs.Profile.{most_entries};
 ghost use Rattle.sql_tokens.specs.Words.{IsLexemeOf};
-ghost use Rattle.query_grammar.specs.Lexemes.{IsLiteralOf, IsTestOf};
+ghost use Rattle.query_grammar.specs.Lexemes.{IsLiteralWith, IsTestWith};
 ghost use Rattle.query_types.specs.declared.types.Cond.TheVariants as cond;
 ghost use Rattle.query_names.specs.Names.{place_if};
 ghost use Rattle.query_names.specs.Offences.{left_of, differ};
@@ -12,7 +13,7 @@ ghost use Rattle.query_names.specs.Checking.{Checked, CheckedTest, comparisons_b
 
 use crate::QueryError;
 use crate::binder::Binder;
-use crate::checks::HeldOffences;
+use crate::checks::LateOffences;
 use crate::operands::{BoundOperand, bind_literal, copied};
 use crate::scope::Visible;
 use crate::values::test_condition;
@@ -32,7 +33,7 @@ fn left_of(test: &TestNode) -> OperandNode
     }
 }
 
-/// Whether a test is BETWEEN without NOT. The two comparisons of this test are members of the condition that the test is a part of.
+/// Whether a test is BETWEEN without NOT. Such a test counts as two members of its condition, one for each comparison.
 fn is_range(test: &TestNode) -> bool
     ensures { result ≡ is_range test.now }
 {
@@ -44,9 +45,9 @@ fn is_range(test: &TestNode) -> bool
 
 impl<'a> Binder<'a> {
     /// Whether conditions are still built: FROM doesn't have too many entries, and no IN list so far is too long.
-    pub(crate) fn builds(&self, held: &HeldOffences) -> bool
-        ensures within { length (from_of self.now) ≤ 12 → held.now.list ≡ None → result ≡ true }
-        ensures few { result ≡ true → length (from_of self.now) ≤ 12 }
+    pub(crate) fn builds(&self, held: &LateOffences) -> bool
+        ensures within { length (from_of self.now) ≤ most_entries → held.now.list ≡ None → result ≡ true }
+        ensures few { result ≡ true → length (from_of self.now) ≤ most_entries }
         ensures none { result ≡ true → held.now.list ≡ None }
     {
         self.entries.sources.len() <= MOST_ENTRIES && held.list.is_none()
@@ -58,7 +59,7 @@ impl<'a> Binder<'a> {
         left: &BoundOperand,
         op: Op,
         other: BoundOperand,
-        held: &mut HeldOffences,
+        held: &mut LateOffences,
         found: &mut Seq<Cond>,
     ) -> Result<(), NoMemory>
         ensures { IfOk result (λ _. Checked self.now [] (place_if (differ left.now.is_text other.is_text) other.first) []
@@ -81,10 +82,10 @@ impl<'a> Binder<'a> {
         &self,
         left: &BoundOperand,
         values: &[LiteralNode],
-        held: &mut HeldOffences,
+        held: &mut LateOffences,
         found: &mut Seq<Cond>,
     ) -> Result<(), NoMemory>
-        requires { All (IsLiteralOf (IsLexemeOf self.now.text.now)) values.now }
+        requires { All (IsLiteralWith (IsLexemeOf self.now.text.now)) values.now }
         ensures { IfOk result (λ _. Checked self.now [] (flat_map (wrong_literal left.now.is_text) values.now) []
             held.old held.new found.old found.new (map (equal_to self.now.text.now left.now.value) values.now)) }
     {
@@ -100,11 +101,11 @@ impl<'a> Binder<'a> {
         &self,
         visible: &Visible,
         test: &TestNode,
-        held: &mut HeldOffences,
+        held: &mut LateOffences,
         found: &mut Seq<Cond>,
     ) -> Result<(), QueryError>
         requires shows { FirstTwoAreEnough self.now visible.now }
-        requires tokens { IsTestOf (IsLexemeOf self.now.text.now) test.now }
+        requires tokens { IsTestWith (IsLexemeOf self.now.text.now) test.now }
         ensures ok { IfOk result (λ _. CheckedTest self.now visible.now.scope test.now held.old held.new found.old found.new
             (comparisons_by self.now visible.now.scope test.now)) }
         ensures err { IfErr result (IsNameError (test_offences_of self.now visible.now.scope test.now)) }
@@ -128,16 +129,16 @@ impl<'a> Binder<'a> {
         }
     }
 
-    /// Checks a test, and adds the condition that the test means.
+    /// Checks a test, and adds the condition that it means.
     pub(crate) fn add_test(
         &self,
         visible: &Visible,
         test: &TestNode,
-        held: &mut HeldOffences,
+        held: &mut LateOffences,
         found: &mut Seq<Cond>,
     ) -> Result<(), QueryError>
         requires shows { FirstTwoAreEnough self.now visible.now }
-        requires tokens { IsTestOf (IsLexemeOf self.now.text.now) test.now }
+        requires tokens { IsTestWith (IsLexemeOf self.now.text.now) test.now }
         ensures ok { IfOk result (λ _. CheckedTest self.now visible.now.scope test.now held.old held.new found.old found.new
             (test_value_by self.now visible.now.scope test.now ∷ [])) }
         ensures err { IfErr result (IsNameError (test_offences_of self.now visible.now.scope test.now)) }
@@ -150,16 +151,16 @@ impl<'a> Binder<'a> {
         Ok(())
     }
 
-    /// Checks a test, and adds the members of the condition that the test means.
+    /// Checks a test, and adds the members of the condition that it means.
     pub(crate) fn add_test_members(
         &self,
         visible: &Visible,
         test: &TestNode,
-        held: &mut HeldOffences,
+        held: &mut LateOffences,
         found: &mut Seq<Cond>,
     ) -> Result<(), QueryError>
         requires shows { FirstTwoAreEnough self.now visible.now }
-        requires tokens { IsTestOf (IsLexemeOf self.now.text.now) test.now }
+        requires tokens { IsTestWith (IsLexemeOf self.now.text.now) test.now }
         ensures ok { IfOk result (λ _. CheckedTest self.now visible.now.scope test.now held.old held.new found.old found.new
             (test_members_by self.now visible.now.scope test.now)) }
         ensures err { IfErr result (IsNameError (test_offences_of self.now visible.now.scope test.now)) }

@@ -1,9 +1,9 @@
-//! Builds the conditions that a query text means, and their members. The members of an AND are those of all its operands; any other condition
-//! has itself as its one member.
+//! Builds the conditions that a query text means, and their members. An AND has the members of all its operands. Any other condition has itself as
+//! its only member.
 ghost use Rattle.std.specs.Prelude.{[], ◌∷◌, All, IfOk, IfErr, map};
 ghost use Rattle.std.specs.List.{flat_map};
 ghost use Rattle.sql_tokens.specs.Words.{IsLexemeOf};
-ghost use Rattle.query_grammar.specs.Lexemes.{IsCondOf};
+ghost use Rattle.query_grammar.specs.Lexemes.{IsCondWith};
 ghost use Rattle.query_names.specs.Scopes.{tests};
 ghost use Rattle.query_names.specs.Answers.{IsNameError};
 ghost use Rattle.query_names.specs.Binding.{FirstTwoAreEnough, test_offences_of, value_by, members_by};
@@ -11,23 +11,23 @@ ghost use Rattle.query_names.specs.Checking.{CheckedTests};
 
 use crate::QueryError;
 use crate::binder::Binder;
-use crate::checks::HeldOffences;
+use crate::checks::LateOffences;
 use crate::scope::Visible;
 use base_io::{Boxed, Seq};
 use query_grammar::CondNode;
 use query_types::Cond;
 
 impl<'a> Binder<'a> {
-    /// Checks the conditions of a text, and gives the condition that each means.
+    /// Checks conditions of the text, and returns the conditions that they mean.
     #[cycle(values)]
     fn values(
         &self,
         visible: &Visible,
         conditions: &[CondNode],
-        held: &mut HeldOffences,
+        held: &mut LateOffences,
     ) -> Result<Seq<Cond>, QueryError>
         requires shows { FirstTwoAreEnough self.now visible.now }
-        requires tokens { All (IsCondOf (IsLexemeOf self.now.text.now)) conditions.now }
+        requires tokens { All (IsCondWith (IsLexemeOf self.now.text.now)) conditions.now }
         ensures ok { IfOk result (λ found. CheckedTests self.now visible.now.scope (flat_map tests conditions.now) held.old held.new [] found
             (map (value_by self.now visible.now.scope) conditions.now)) }
         ensures err { IfErr result (IsNameError (flat_map (test_offences_of self.now visible.now.scope) (flat_map tests conditions.now))) }
@@ -39,17 +39,17 @@ impl<'a> Binder<'a> {
         Ok(found)
     }
 
-    /// Checks a condition of a text, and adds the condition that it means.
+    /// Checks a condition of the text, and adds the condition that it means.
     #[cycle(values)]
     fn add_value(
         &self,
         visible: &Visible,
         condition: &CondNode,
-        held: &mut HeldOffences,
+        held: &mut LateOffences,
         found: &mut Seq<Cond>,
     ) -> Result<(), QueryError>
         requires shows { FirstTwoAreEnough self.now visible.now }
-        requires tokens { IsCondOf (IsLexemeOf self.now.text.now) condition.now }
+        requires tokens { IsCondWith (IsLexemeOf self.now.text.now) condition.now }
         ensures ok { IfOk result (λ _. CheckedTests self.now visible.now.scope (tests condition.now) held.old held.new found.old found.new
             (value_by self.now visible.now.scope condition.now ∷ [])) }
         ensures err { IfErr result (IsNameError (flat_map (test_offences_of self.now visible.now.scope) (tests condition.now))) }
@@ -81,17 +81,17 @@ impl<'a> Binder<'a> {
         }
     }
 
-    /// Checks a condition of a text, and adds the members of the condition that it means. They aren't added if FROM has too many entries or
-    /// an IN list so far is too long.
+    /// Checks a condition of the text, and adds the members of the condition that it means. They aren't added if FROM has too many entries or an IN
+    /// list so far is too long.
     pub fn add_members(
         &self,
         visible: &Visible,
         condition: &CondNode,
-        held: &mut HeldOffences,
+        held: &mut LateOffences,
         found: &mut Seq<Cond>,
     ) -> Result<(), QueryError>
         requires shows { FirstTwoAreEnough self.now visible.now }
-        requires tokens { IsCondOf (IsLexemeOf self.now.text.now) condition.now }
+        requires tokens { IsCondWith (IsLexemeOf self.now.text.now) condition.now }
         ensures ok { IfOk result (λ _. CheckedTests self.now visible.now.scope (tests condition.now) held.old held.new found.old found.new
             (members_by self.now visible.now.scope condition.now)) }
         ensures err { IfErr result (IsNameError (flat_map (test_offences_of self.now visible.now.scope) (tests condition.now))) }

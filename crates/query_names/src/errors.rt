@@ -11,11 +11,11 @@ use std::alloc::{AllocError, AllocFailed};
 pub enum QueryError {
     /// The text breaks the grammar at this offset.
     Syntax { at: u32 },
-    /// The name at this offset means nothing, or more than one thing.
+    /// The name at this offset is unknown or ambiguous.
     Name { at: u32 },
     /// The operand at this offset is compared with an operand of the other kind (a number with a text).
     Kind { at: u32 },
-    /// The number of things, `found`, is above the limit. If the number is above 2^64 - 1, `found` is 2^64 - 1.
+    /// The limit `which` is exceeded. `found` is the number above the limit, or 2^64 - 1 if that number is larger.
     Limit { which: LimitKind, found: u64 },
     NoMemory,
 }

@@ -1,11 +1,11 @@
-//! The names of a query text: what each name refers to in a schema, whether compared operands are of one kind, and what a condition means.
+//! Resolves the names of a query text over a schema, and builds its conditions. It also checks that compared operands are of one kind.
 //!
-//! This stage comes after `query_grammar`, which gives the tree of a query text, and before `sql_parse`, which gives the query or the refusal
-//! of the text. In a `Catalog` a schema's tables and columns are found by name. `read_entries` gives the FROM entries with their aliases. A
-//! `Binder` over both says what references and conditions mean. `read_entries` and the binder refuse the first wrong name, with its offset.
+//! This stage comes after `query_grammar`, which gives the tree of a query text. After this stage, `sql_parse` gives the query or the refusal. A
+//! `Catalog` finds the tables and columns of a schema by name. `read_entries` gives the FROM entries with their aliases. A `Binder` over both
+//! resolves references and builds conditions. `read_entries` and the binder refuse the first wrong name, with its offset.
 //!
-//! Callers cite `resolve` (in `specs/Scopes.antt`) for the column that a reference names, and `query_of` (in `specs/Values.antt`) for the query
-//! that a tree means. `name_offences` and `all_kind_offences` (in `specs/Offences.antt`) list the offsets that are refused. A caller writes
+//! Contracts use `resolve` (in `specs/Scopes.antt`), the column that a reference names, and `query_of` (in `specs/Values.antt`), the query that a
+//! tree means. `name_offences` and `all_kind_offences` (in `specs/Offences.antt`) list the offsets that are refused. A caller writes
 //!
 //! ```text
 //! let catalog = Catalog::new(alloc, schema)?;
@@ -15,8 +15,8 @@
 //! binder.add_members(&visible, condition, &mut held, &mut conjuncts)?;
 //! ```
 //!
-//! and then knows that the condition has no wrong name. `held` has the offset of its first operand of the wrong kind, and `conjuncts` has the
-//! members of the condition that the text means.
+//! and then knows that the condition has no wrong name. `held` has the offset of its first operand of the wrong kind. `conjuncts` has the members of
+//! the condition that the text means.
 #![tactic(auto)]
 
 mod binder;
@@ -32,7 +32,7 @@ mod values;
 
 pub use binder::Binder;
 pub use catalog::Catalog;
-pub use checks::HeldOffences;
+pub use checks::LateOffences;
 pub use errors::QueryError;
 pub use operands::reference_to;
 pub use scope::{Entry, EntryColumn, Scope, Visible};

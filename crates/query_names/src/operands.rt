@@ -1,7 +1,7 @@
 //! The operands of tests, with their names resolved.
 ghost use Rattle.std.specs.Prelude.{◌≡◌, ◌<◌, Some, IfOk, IfErr};
 ghost use Rattle.sql_tokens.specs.Words.{IsLexemeOf};
-ghost use Rattle.query_grammar.specs.Lexemes.{IsLiteralOf, IsOperandOf};
+ghost use Rattle.query_grammar.specs.Lexemes.{IsLiteralWith, IsOperandWith};
 ghost use Rattle.query_types.specs.Validity.{is_text};
 ghost use Rattle.query_names.specs.Values.{resolved_column};
 ghost use Rattle.query_names.specs.Answers.{IsNameError};
@@ -20,7 +20,7 @@ use schema_types::Kind;
 use sql_tokens::literal;
 use std::alloc::Global;
 
-/// An operand that has no wrong name: its value, whether it is a text, and the token that it begins with.
+/// An operand without a wrong name: its value, whether it is a text, and its first token.
 #[derive(Drop)]
 pub struct BoundOperand {
     pub value: Operand,
@@ -76,7 +76,7 @@ pub fn bind_literal(
     text: &[u8],
     value: &LiteralNode,
 ) -> Result<BoundOperand, NoMemory>
-    requires { IsLiteralOf (IsLexemeOf text.now) value.now }
+    requires { IsLiteralWith (IsLexemeOf text.now) value.now }
     ensures { IfOk result (λ found. found ≡ bound_literal text.now value.now) }
 {
     match value {
@@ -102,7 +102,7 @@ impl<'a> Binder<'a> {
         operand: &OperandNode,
     ) -> Result<BoundOperand, QueryError>
         requires shows { FirstTwoAreEnough self.now visible.now }
-        requires tokens { IsOperandOf (IsLexemeOf self.now.text.now) operand.now }
+        requires tokens { IsOperandWith (IsLexemeOf self.now.text.now) operand.now }
         ensures ok { IfOk result (λ found. IsBound self.now visible.now.scope operand.now found) }
         ensures err { IfErr result (IsNameError (name_offences_of self.now visible.now.scope operand.now)) }
     {

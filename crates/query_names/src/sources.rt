@@ -3,7 +3,7 @@ ghost use Rattle.std.specs.Prelude.{◌≡◌, [], ◌∷◌, ◌++◌, All, IfO
 ghost use Rattle.std.specs.List.{flat_map};
 ghost use Rattle.sql_tokens.specs.Words.{IsLexemeOf};
 ghost use Rattle.query_names.specs.Names.{sources_of, alias_token, entry_of, source_offences, offences_of_later_sources};
-ghost use Rattle.query_grammar.specs.Lexemes.{IsSourceOf};
+ghost use Rattle.query_grammar.specs.Lexemes.{IsSourceWith};
 ghost use Rattle.query_names.specs.Answers.{IsNameError};
 
 use crate::QueryError;
@@ -52,7 +52,7 @@ fn alias_token(source: &SourceNode) -> Lexeme
     source.alias.unwrap_or(source.table)
 }
 
-/// The entry of a source, if `aliases` are the aliases of the entries before. The alias of the new entry is added to `aliases`.
+/// The entry of a source. `aliases` has the aliases of the entries before it, and the new alias is added.
 fn entry(
     alloc: Global,
     catalog: &Catalog<'_>,
@@ -60,7 +60,7 @@ fn entry(
     aliases: &mut NameList,
     source: &SourceNode,
 ) -> Result<Source, QueryError>
-    requires { IsSourceOf (IsLexemeOf text.now) source.now }
+    requires { IsSourceWith (IsLexemeOf text.now) source.now }
     ensures ok { IfOk result (λ found. (found ≡ entry_of catalog.now.schema.now text.now source.now)
         × (aliases.new ≡ aliases.old ++ found.alias ∷ []) × (source_offences catalog.now.schema.now text.now aliases.old source.now ≡ [])) }
     ensures err { IfErr result (IsNameError (source_offences catalog.now.schema.now text.now aliases.old source.now)) }
@@ -87,7 +87,7 @@ pub fn read_entries(
     text: &[u8],
     sources: &[SourceNode],
 ) -> Result<Entries, QueryError>
-    requires { All (IsSourceOf (IsLexemeOf text.now)) sources.now }
+    requires { All (IsSourceWith (IsLexemeOf text.now)) sources.now }
     ensures ok { IfOk result (λ found. (found.sources ≡ map (entry_of catalog.now.schema.now text.now) sources.now)
         × (offences_of_later_sources catalog.now.schema.now text.now [] sources.now ≡ [])) }
     ensures err { IfErr result (IsNameError (offences_of_later_sources catalog.now.schema.now text.now [] sources.now)) }

@@ -15,7 +15,7 @@ use std::alloc::Global;
 
 const MINUS: &[Terminal] = &[Terminal::Minus];
 
-/// The number with its sign. If it is outside the range of `i64`, the nearer end of the range is returned; a query with such a number is refused.
+/// The number with its sign. A number outside the range of `i64` becomes the nearer end of the range; its query is refused.
 fn signed(negative: bool, value: u64) -> i64
     ensures { result ≡ signed negative value }
 {

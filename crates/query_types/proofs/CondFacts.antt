@@ -1,5 +1,5 @@
--- These lemmas give facts about a condition from its parts: the entries that it names, and properties of every layer. A layer is an operator of the
--- condition with its operands.
+-- Facts about a condition from its parts: the entries that it names, and properties of every layer. A layer is an operator of the condition with its
+-- operands.
 use Rattle.std.proofs.Common.{◌≡◌, ℕ, Bool, List, [], ◌∷◌, ◌++◌, map, ap, sym, ◌∙◌, subst}
 use Rattle.std.specs.List.{flat_map, All, AllByRecursion}
 use Rattle.std.proofs.lemmas.List.Elements.{All-from_recursion}
@@ -69,7 +69,7 @@ module _ (Q : Cond-F Cond → Type 0) where
   pub every_not : (inner : Cond) → every-Cond Q (Not inner) → every-Cond Q inner
   every_not inner h = let held = every_held-Cond Q (Not inner) h in inner_not held.0 inner (held.1 ∙ out_not inner)
 
--- ---- a comparison of a condition
+-- ---- facts about a comparison
 
 pub entries_compare : (op : Op) (left right : Operand) → entries_named (Compare op left right) ≡ entries_of_operand left ++ entries_of_operand right
 entries_compare op left right = ap entries_named (sym (rolls-Compare op left right)) ∙ fold-roll-Cond (List ℕ) entries_step (layer.Compare op left right)

@@ -1,6 +1,6 @@
 -- The facts about every query that was read over a schema.
 use Rattle.std.specs.Prelude.{◌≡◌, ◌<◌, ◌≤◌, Bool, true, false, List, length, All, Some, slice_get}
-use Rattle.limits.specs.Profile.{most_conjuncts}
+use Rattle.limits.specs.Profile.{most_conjuncts, most_entries}
 use Rattle.schema_types.specs.declared.types.Kind.{Kind}
 use Rattle.schema_types.specs.declared.types.Kind.TheVariants as kind
 use Rattle.schema_types.specs.declared.types.Column.{Column}
@@ -13,7 +13,7 @@ use Rattle.query_types.specs.declared.types.Out.{Out}
 use Rattle.query_types.specs.declared.types.Query.{Query}
 use Rattle.query_types.specs.Typing.{IsTyped}
 
--- there are two kinds here: numbers, and texts of any length
+-- whether a kind is that of texts, of any length
 abbrev pub is_text : Kind → Bool
 is_text kind.Int = false
 is_text (kind.Text n) = true
@@ -49,7 +49,7 @@ pub record IsOutOf (schema : Schema) (from : List Source) (out : Out) : Type 0 w
 -- has two operands of one kind
 pub record IsOf (schema : Schema) (query : Query) : Type 0 where
   pub some : 0 < length query.from
-  pub few : length query.from ≤ 12
+  pub few : length query.from ≤ most_entries
   pub conjuncts_few : length query.conjuncts ≤ most_conjuncts
   pub sources : All (IsSourceOf schema) query.from
   pub conjuncts : All (IsCondOf schema query.from) query.conjuncts

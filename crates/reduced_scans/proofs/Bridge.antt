@@ -1,4 +1,4 @@
--- The rows of the greatest consistent set of items are the reduced family.
+-- The rows of the greatest consistent set of items are the family of reduced scans.
 use Rattle.std.proofs.Common.{◌≡◌, ℕ, zero, suc, ◌+◌, ◌-◌, ◌<◌, ◌≤◌, Bool, true, false, List, [], ◌∷◌, Some, length, get_or, drop, refl, ap, sym, ◌∙◌, subst, arith, inl, inr}
 use Rattle.std.specs.Prelude.{◌==◌, nat_lt, if◌then◌else◌, slice_get}
 use Rattle.std.specs.List.{Contains}
@@ -13,11 +13,11 @@ use Rattle.counted_sets.specs.Sets as sets
 use Rattle.level_bounds.specs.Keys.{Keys}
 use Rattle.join_steps.specs.Lists.{list_at}
 use Rattle.reduced_scans.specs.Families.{AreAscending, HasPartner, HavePartners, IsConsistent, IsReduced}
-use Rattle.reduced_scans.specs.Wiring.{ValuesAreDifferent, AreUsesOfRows, NumberedValues, IsNumbered, IsUseFor, IsUseForRow, HoldsByKey, first_item, key_on, marked_family, side_of, opposite, row_at, slot_of}
+use Rattle.reduced_scans.specs.Wiring.{ValuesAreDifferent, AreUsesOfRows, NumberedValues, IsEqualityAt, IsUseFor, IsUseForRow, HoldsByKey, first_item, key_on, marked_family, side_of, opposite, row_at, slot_of}
 use Rattle.reduced_scans.proofs.Members.{behind, in_cases, in_front, not_in_none}
 use Rattle.reduced_scans.proofs.MarkedRows.{MarkedAt, at_place, from_family, is_family, place_in, to_family}
 
--- ---- the items of a family
+-- ---- the set of items of a family
 
 abbrev pub has : ℕ → List ℕ → Bool
 has x [] = false
@@ -73,7 +73,7 @@ in_family_within (scan ∷ scans) family item is = elim (cases_lt item (length s
   | inr high ↦ omega (arith, in_family_within scans (drop 1 family) (item - length scan) (sym (later_list scan scans family item high) ∙ is))
 ]
 
--- ---- slots and numbered values
+-- ---- slots and the values that they belong to
 
 one_slot : (a b : ℕ) (on other : Bool) → slot_of a on ≡ slot_of b other → (a ≡ b) × (on ≡ other)
 one_slot a b true true e = (omega arith, refl)
@@ -99,10 +99,10 @@ only_value known_values a b v different p q = elim (cases_lt a b) [
   ]
 ]
 
-one_numbered : (equalities : List Edge) (m n : ℕ) (e f : Edge) → m ≡ n → IsNumbered equalities m e → IsNumbered equalities n f → e ≡ f
+one_numbered : (equalities : List Edge) (m n : ℕ) (e f : Edge) → m ≡ n → IsEqualityAt equalities m e → IsEqualityAt equalities n f → e ≡ f
 one_numbered equalities m n e f same p q = sym p.1 ∙ ap (λ i. get_or equalities i e) same ∙ get_or_default equalities n e f q.0 ∙ q.1
 
--- ---- consistent sets of items and consistent families
+-- ---- consistent sets of items are consistent families
 
 abbrev pub equal_from : (Edge → ℕ → ℕ → Bool) → Edge → Bool → ℕ → ℕ → Bool
 equal_from equal e true = equal e
@@ -125,7 +125,7 @@ module _ (scans : List (List ℕ)) (equalities : List Edge) (key : Keys) (equal 
   partners family e false consistent has = consistent.from_right e has
 
   module _ (known_values : NumberedValues) (uses : List Use) (different : ValuesAreDifferent known_values) (wired : AreUsesOfRows scans equalities key known_values (length equalities) uses) where
-    from_marks : (kept : ℕ → Bool) → sets.IsConsistent (first_item scans (length scans)) uses kept → (number : ℕ) (e : Edge) (on : Bool) → IsNumbered equalities number e
+    from_marks : (kept : ℕ → Bool) → sets.IsConsistent (first_item scans (length scans)) uses kept → (number : ℕ) (e : Edge) (on : Bool) → IsEqualityAt equalities number e
         → HavePartners (equal_from equal e on) (list_at (marked_family kept 0 scans) (side_of e on).entry) (list_at (marked_family kept 0 scans) (side_of e (opposite on)).entry)
     from_marks kept consistent number e on numbered row in_marked =
         let m : MarkedAt kept scans (side_of e on).entry row = from_family kept scans (side_of e on).entry row in_marked in

@@ -1,4 +1,4 @@
--- Rounds end in the reduced scans: every round keeps the rows of all consistent families, and after enough rounds nothing changes any more.
+-- Rounds end in the reduced scans. Every round keeps the rows of all consistent families, and after enough rounds nothing changes any more.
 use Rattle.std.proofs.Common.{◌≡◌, ℕ, zero, suc, ◌+◌, ◌<◌, ◌≤◌, Bool, true, not, ◌||◌, List, [], ◌∷◌, length, refl, ap, sym, ◌∙◌, subst, arith, inl, inr}
 use Rattle.std.specs.Prelude.{◌==◌}
 use Rattle.std.specs.List.{Contains, filter, list_any}
@@ -12,13 +12,13 @@ use Rattle.level_bounds.proofs.Lists.{all_true, from_filter, in_filter, true_for
 use Rattle.sql_meaning.specs.Tables.{Tables}
 use Rattle.join_steps.specs.Lists.{IsAscending, IsFamily, list_at, scans_of}
 use Rattle.reduced_scans.specs.Families.{AreAscending, HasPartner, IsConsistent, IsReduced}
-use Rattle.reduced_scans.specs.Rounds.{after_rounds, finds_all, finds_partners, reduced_of, round_from, rows_in_all}
+use Rattle.reduced_scans.specs.Rounds.{after_rounds, has_all_partners, finds_partners, reduced_of, round_from, rows_in_all}
 use Rattle.reduced_scans.specs.Scans.{AreReducedScans}
 use Rattle.reduced_scans.proofs.Members.{behind, in_cases, in_front, not_in_none}
 use Rattle.join_steps.proofs.WholeScans.{ascending, filter_ascends}
 use Rattle.level_bounds.proofs.Scanning.{implied, implies}
 
--- ---- `list_any` and a member that passes the test
+-- ---- `list_any` is true exactly if some member passes the test
 
 some_of : (p : ℕ → Bool) (xs : List ℕ) → list_any p xs ≡ true → (x : ℕ) × Contains xs x × (p x ≡ true)
 some_of p [] h = absurd (false≢true h)
@@ -35,7 +35,7 @@ any_of p (y ∷ xs) x has is = elim (in_cases x y xs has) [
   | inr there ↦ rw (any_of p xs x there is) (or-true (p y))
 ]
 
--- ---- the partners that a row finds
+-- ---- the partners of a row in a family
 
 module _ (equal : Edge → ℕ → ℕ → Bool) (family : List (List ℕ)) (entry row : ℕ) where
   abbrev pub FromLeft : Edge → Type 0
@@ -69,7 +69,7 @@ module _ (equal : Edge → ℕ → ℕ → Bool) (family : List (List ℕ)) (ent
       let partner : HasPartner (λ right left. equal e left right) (list_at family e.left.entry) row = right (eqb-true e.right.entry entry at) in
       any_of (λ left. equal e left row) (list_at family e.left.entry) partner.0 partner.1 partner.2))
 
--- ---- a filter makes a list shorter, or leaves it as it is
+-- ---- a filter shortens a list or leaves it unchanged
 
 pub filter_shrinks : (p : ℕ → Bool) (xs : List ℕ) → length (filter p xs) ≤ length xs
 filter_shrinks p [] = omega arith
@@ -92,14 +92,14 @@ module _ (scans : List (List ℕ)) (es : List Edge) (equal : Edge → ℕ → �
 
   round_shrinks : (family lists : List (List ℕ)) (first : ℕ) → rows_in_all (round_from es equal family first lists) ≤ rows_in_all lists
   round_shrinks family [] first = omega arith
-  round_shrinks family (list ∷ lists) first = omega (arith, filter_shrinks (finds_all es equal family first) list, round_shrinks family lists (suc first))
+  round_shrinks family (list ∷ lists) first = omega (arith, filter_shrinks (has_all_partners es equal family first) list, round_shrinks family lists (suc first))
 
   round_stays : (family lists : List (List ℕ)) (first : ℕ) → rows_in_all (round_from es equal family first lists) ≡ rows_in_all lists → round_from es equal family first lists ≡ lists
   round_stays family [] first same = refl
   round_stays family (list ∷ lists) first same =
-      let some : length (filter (finds_all es equal family first) list) ≤ length list = filter_shrinks (finds_all es equal family first) list in
+      let some : length (filter (has_all_partners es equal family first) list) ≤ length list = filter_shrinks (has_all_partners es equal family first) list in
       let rest : rows_in_all (round_from es equal family (suc first) lists) ≤ rows_in_all lists = round_shrinks family lists (suc first) in
-      ap (λ (s : List ℕ). s ∷ round_from es equal family (suc first) lists) (filter_stays (finds_all es equal family first) list (omega (arith, same, some, rest)))
+      ap (λ (s : List ℕ). s ∷ round_from es equal family (suc first) lists) (filter_stays (has_all_partners es equal family first) list (omega (arith, same, some, rest)))
       ∙ ap (λ (s : List (List ℕ)). list ∷ s) (round_stays family lists (suc first) (omega (arith, same, some, rest)))
 
   settled : (count : ℕ) (family : List (List ℕ)) → round family ≡ family → after_rounds es equal count family ≡ family
@@ -108,24 +108,24 @@ module _ (scans : List (List ℕ)) (es : List Edge) (equal : Edge → ℕ → �
 
   -- ---- the list of an entry after a round
 
-  round_at : (family lists : List (List ℕ)) (first entry : ℕ) → list_at (round_from es equal family first lists) entry ≡ filter (finds_all es equal family (first + entry)) (list_at lists entry)
+  round_at : (family lists : List (List ℕ)) (first entry : ℕ) → list_at (round_from es equal family first lists) entry ≡ filter (has_all_partners es equal family (first + entry)) (list_at lists entry)
   round_at family [] first entry = refl
   round_at family (list ∷ lists) first zero =
-      let n : first ≡ first + 0 = omega arith in ap (λ (k : ℕ). filter (finds_all es equal family k) list) n
+      let n : first ≡ first + 0 = omega arith in ap (λ (k : ℕ). filter (has_all_partners es equal family k) list) n
   round_at family (list ∷ lists) first (suc entry) =
       let n : suc first + entry ≡ first + suc entry = omega arith in
-      round_at family lists (suc first) entry ∙ ap (λ (k : ℕ). filter (finds_all es equal family k) (list_at lists entry)) n
+      round_at family lists (suc first) entry ∙ ap (λ (k : ℕ). filter (has_all_partners es equal family k) (list_at lists entry)) n
 
   length-round : (family lists : List (List ℕ)) (first : ℕ) → length (round_from es equal family first lists) ≡ length lists
   length-round family [] first = refl
   length-round family (list ∷ lists) first = ap suc (length-round family lists (suc first))
 
-  after_at : (family : List (List ℕ)) (entry : ℕ) → list_at (round family) entry ≡ filter (finds_all es equal family entry) (list_at family entry)
+  after_at : (family : List (List ℕ)) (entry : ℕ) → list_at (round family) entry ≡ filter (has_all_partners es equal family entry) (list_at family entry)
   after_at family entry =
       let n : 0 + entry ≡ entry = omega arith in
-      round_at family family 0 entry ∙ ap (λ (k : ℕ). filter (finds_all es equal family k) (list_at family entry)) n
+      round_at family family 0 entry ∙ ap (λ (k : ℕ). filter (has_all_partners es equal family k) (list_at family entry)) n
 
-  -- ---- rounds keep that the lists are a family, and that they contain every consistent family
+  -- ---- after a round the lists are still a family that contains every consistent family
 
   abbrev Contained : List (List ℕ) → Type 0
   Contained family = (other : List (List ℕ)) → IsConsistent scans es equal other → (entry row : ℕ) → Contains (list_at other entry) row → Contains (list_at family entry) row
@@ -134,14 +134,14 @@ module _ (scans : List (List ℕ)) (es : List Edge) (equal : Edge → ℕ → �
   round_family family is = record {
     count = length-round family family 0 ∙ is.count;
     scanned = λ entry row has. is.scanned entry row
-        (from_filter (finds_all es equal family entry) (list_at family entry) row (subst (λ (l : List ℕ). Contains l row) (after_at family entry) has)).0;
-    ascending = λ entry. subst IsAscending (sym (after_at family entry)) (filter_ascends (finds_all es equal family entry) (list_at family entry) (is.ascending entry));
+        (from_filter (has_all_partners es equal family entry) (list_at family entry) row (subst (λ (l : List ℕ). Contains l row) (after_at family entry) has)).0;
+    ascending = λ entry. subst IsAscending (sym (after_at family entry)) (filter_ascends (has_all_partners es equal family entry) (list_at family entry) (is.ascending entry));
   }
 
   round_contained : (family : List (List ℕ)) → Contained family → Contained (round family)
   round_contained family all other consistent entry row has =
       subst (λ (l : List ℕ). Contains l row) (sym (after_at family entry))
-      (in_filter (finds_all es equal family entry) (list_at family entry) row (all other consistent entry row has)
+      (in_filter (has_all_partners es equal family entry) (list_at family entry) row (all other consistent entry row has)
       (true_for_all (finds_partners equal family entry row) es (λ e there. passes equal family entry row e
       (λ at. let partner : HasPartner (equal e) (list_at other e.right.entry) row =
       consistent.from_left e there row (subst (λ (k : ℕ). Contains (list_at other k) row) (sym at) has) in
@@ -150,7 +150,7 @@ module _ (scans : List (List ℕ)) (es : List Edge) (equal : Edge → ℕ → �
       consistent.from_right e there row (subst (λ (k : ℕ). Contains (list_at other k) row) (sym at) has) in
       (partner.0, all other consistent e.left.entry partner.0 partner.1, partner.2)))))
 
-  -- ---- if a round changes nothing, the family is reduced
+  -- ---- a family that a round doesn't change is reduced
 
   fixed : (family : List (List ℕ)) → IsFamily scans family → Contained family → round family ≡ family → IsReduced scans es equal family
   fixed family is all same = record {
@@ -166,7 +166,7 @@ module _ (scans : List (List ℕ)) (es : List Edge) (equal : Edge → ℕ → �
       stays entry row has e there =
           finds equal family entry row e
           (all_true (finds_partners equal family entry row) es
-          (from_filter (finds_all es equal family entry) (list_at family entry) row
+          (from_filter (has_all_partners es equal family entry) (list_at family entry) row
           (subst (λ (l : List ℕ). Contains l row) (after_at family entry) (subst (λ (f : List (List ℕ)). Contains (list_at f entry) row) (sym same) has))).1
           e there)
 

@@ -1,5 +1,5 @@
--- A family has for each entry a list of some scanned rows. Each list is a filter of the rows of its table, and a level over the family has the
--- choices of listed rows.
+-- A family has for each entry a list of some scanned rows. Each list is a filtered list of all rows of its table. The choices of a level over the
+-- family have only listed rows.
 use Rattle.std.proofs.Common.{◌≡◌, ℕ, ◌<◌, Bool, List, ap, ◌∙◌, subst, arith, inl, inr, length}
 use Rattle.std.specs.List.{Contains, filter, range_with_len}
 use Rattle.std.proofs.lemmas.Bool.{cases_lt}

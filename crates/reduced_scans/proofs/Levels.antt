@@ -1,4 +1,4 @@
--- The choices of a level over all entries are matches of scanned rows, so their rows are in the reduced scans.
+-- A choice of a level over all entries has scanned rows that match each other. So its rows are in the reduced scans.
 use Rattle.std.proofs.Common.{◌≡◌, ℕ, ◌<◌, true, false, not, ◌||◌, eqb, List, [], ◌∷◌, length, get_or, map, ap, sym, ◌∙◌, subst, arith, inl, inr}
 use Rattle.std.specs.Prelude.{All, Some}
 use Rattle.std.specs.List.{AllByRecursion, Contains, list_all, range_with_len}

@@ -2,10 +2,10 @@
 --
 -- - `IsUseFor` names a value by its index in the list of values. So it stays true when values are appended (`use_later`), and no function
 --   from values to slots is needed.
--- - Recursion passes the first item's number on, and not a shifted function, so no equality of functions has to be proved.
--- - `level` is `over_restricted` of sql_meaning, since a reduced list is a filter of the table's rows (`same_members`).
+-- - Recursion passes on the first item's number and not a shifted function, so no equality of functions has to be proved.
+-- - Facts about `level` follow from `over_restricted` of sql_meaning, since a reduced list is a filtered list of the table's rows (`same_members`).
 -- - `marked_rows` fills a buffer that has exactly enough room: the rows are counted first, and the loop keeps "spare and items together are
---   the count". That there is room for one more row is then a fact about the next row (`one_to_come`). So a must-fail edit that pushes
+--   the count". Room for one more row then follows from a fact about the next row (`one_to_come`). So a must-fail edit that pushes
 --   another row fails at the push and not at the clause; make the change earlier, where rows are marked.
 -- - Rounds (`ByRounds`): a round either changes nothing or leaves fewer rows. So if there are more rounds than rows, some round changes
 --   nothing. This is one induction on the number of rounds, which is above the number of rows. Every round keeps that the lists are a family

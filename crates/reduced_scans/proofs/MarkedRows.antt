@@ -1,4 +1,4 @@
--- The code lists the rows whose items are marked, entry by entry and row by row. The lists are a family.
+-- The code lists the rows whose items are marked, entry by entry and row by row. The resulting lists are a family.
 use Rattle.std.proofs.Common.{◌≡◌, ℕ, zero, suc, ◌+◌, ◌<◌, ◌≤◌, Bool, true, false, List, [], ◌∷◌, ◌++◌, length, length-append, get_or, take, refl, ap, sym, ◌∙◌, subst, arith, inl, inr}
 use Rattle.std.specs.Prelude.{if◌then◌else◌}
 use Rattle.std.specs.List.{Contains}
@@ -148,7 +148,7 @@ rows-take kept first (row ∷ rows) (suc k) h =
       | inr no_here ↦ rw no_here later
     ]
 
--- ---- how many rows are marked
+-- ---- the number of marked rows
 
 abbrev count_to : (ℕ → Bool) → ℕ → List ℕ → ℕ → ℕ
 count_to kept first rows k = length (marked_rows kept first (take k rows))

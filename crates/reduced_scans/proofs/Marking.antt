@@ -1,4 +1,4 @@
--- A value of a value set has a mark: the one whose index is the value minus the least value.
+-- The mark of a value in a value set has as its index the value minus the least value.
 use Rattle.std.proofs.Common.{◌≡◌, ℕ, ◌-◌, ◌<◌, ◌≤◌, Bool, true, false, List, length, get_or, set, ap, ◌∙◌, inl, inr}
 use Rattle.std.specs.Prelude.{nat_le}
 use Rattle.std.proofs.lemmas.Bool.{and_from, and_parts, cases_eq, le-leb}

@@ -1,4 +1,4 @@
--- The rows of a match, each alone in its entry's list, are a consistent family.
+-- If scanned rows match each other, the family that has only these rows is consistent. Each list has one row.
 use Rattle.std.proofs.Common.{◌≡◌, ℕ, zero, suc, Bool, true, ◌<◌, List, [], ◌∷◌, length, get_or, refl, ap, sym, ◌∙◌, subst, arith, inl, inr}
 use Rattle.std.specs.List.{Contains}
 use Rattle.std.proofs.lemmas.Bool.{cases_lt}

@@ -1,4 +1,4 @@
--- The lists that the code reads from its buffers are the scans of the query. Two rows satisfy an equality if and only if their cells are equal.
+-- The lists in the code's buffers are the scans of the query. Two rows satisfy an equality exactly if their cells are equal.
 use Rattle.std.proofs.Common.{◌≡◌, ℕ, zero, suc, ◌+◌, ◌<◌, ◌≤◌, Bool, not, ◌||◌, List, [], ◌∷◌, ◌++◌, Option, None, Some, length, get_or, take, ap, sym, ◌∙◌, subst, arith, inl, inr}
 use Rattle.std.specs.Prelude.{◌==◌, All, IsUtf8}
 use Rattle.std.specs.List.{Contains, cons_option, filter_map, list_all, range_with_len}
@@ -40,7 +40,7 @@ use Rattle.join_steps.proofs.WholeScans.{count_of, length-lists_of, scan_at, sca
 use Rattle.reduced_scans.proofs.ByRounds.{filter_shrinks}
 use Rattle.reduced_scans.proofs.QueryScans.{scanned_low}
 
--- ---- lists in buffers
+-- ---- reading a list from a buffer
 
 pub read_list : (lists : List (Rows ℕ)) (entry : ℕ) (list : Rows ℕ) → entry < length lists → list ≡ get_or lists entry list → list.items ≡ list_at (lists_of lists) entry
 read_list [] entry list low is = absurd (omega arith)
@@ -105,7 +105,7 @@ module _ (query : Query) (db : Database) (scans : List (Rows ℕ)) (of : IsDatab
     ];
   }
 
--- ---- the columns of equalities
+-- ---- the columns of equalities are in the database
 
 pub record JoinsKinds (db : Database) (e : Edge) : Type 0 where
   pub text : Bool

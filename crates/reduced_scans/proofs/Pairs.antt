@@ -1,4 +1,4 @@
--- Two pairs are equal if and only if both of their numbers are equal.
+-- Two pairs are equal exactly if both of their numbers are equal.
 use Rattle.std.proofs.Common.{◌≡◌, ℕ, Bool, true, ◌&&◌, List, refl, ap, ◌∙◌}
 use Rattle.std.specs.Prelude.{nat_eq}
 use Rattle.std.specs.Bool.{Decides}

@@ -1,4 +1,4 @@
--- The scans of a query have rows of the tables, and the query's equalities join FROM entries.
+-- The scans of a query have only rows of the tables, and the query's equalities join FROM entries.
 use Rattle.std.proofs.Common.{◌≡◌, ℕ, ◌<◌, not, ◌||◌, [], ◌∷◌, Some, length, subst, arith}
 use Rattle.std.specs.Prelude.{All}
 use Rattle.std.specs.List.{Contains, list_all, range_with_len}

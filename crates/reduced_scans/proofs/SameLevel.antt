@@ -1,4 +1,4 @@
--- A level over the reduced scans is the level over whole tables.
+-- A level over the reduced scans is equal to the level over whole tables.
 use Rattle.std.proofs.Common.{◌≡◌, ℕ, ◌<◌, Bool, true, List, [], ◌∷◌, length, map, refl, ◌∙◌, subst, arith}
 use Rattle.std.specs.List.{Contains, filter}
 use Rattle.query_types.specs.declared.types.Query.{Query}

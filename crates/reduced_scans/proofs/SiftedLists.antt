@@ -1,4 +1,4 @@
--- These lemmas are about semi-joins of lists that are kept in buffers.
+-- Semi-joins of lists that are kept in buffers.
 use Rattle.std.proofs.Common.{◌≡◌, ℕ, ◌<◌, ◌≤◌, true, List, [], ◌∷◌, Some, length, set, refl, ap, sym, ◌∙◌, subst, arith, inl, inr}
 use Rattle.std.specs.Prelude.{All, slice_get}
 use Rattle.std.proofs.lemmas.Bool.{cases_eq}
@@ -24,7 +24,7 @@ pub got_list : (lists : List (Rows ℕ)) (entry : ℕ) (list : Rows ℕ) → sli
 got_list lists entry list got = read_list lists entry list (slice_get_within lists entry list got) (sym (get_or_from_slice_get lists entry list list got))
 
 module _ (key : Keys) (side other : Place) where
-  -- unchanged lists are a semi-join too: every row passes
+  -- unchanged lists are a semi-join too, in which every row passes
   pub joined_not : (lists : List (List ℕ)) → IsJoinedAt key side other lists lists
   joined_not lists = record {
     count = refl;
@@ -49,7 +49,7 @@ module _ (key : Keys) (side other : Place) where
         elsewhere = λ entry apart. ap (λ (l : List (List ℕ)). list_at l entry) same ∙ get_or-set_other (lists_of lists) side.entry entry kept.items [] apart;
       }
 
-  -- after a semi-join the lists are still lists of rows of the database, since no list became longer or got other rows
+  -- after a semi-join the lists are still lists of rows of the database, since no list became longer or got new rows
   pub joined_lists : (db : Database) (old new : List (Rows ℕ)) → AreRowLists db old → IsJoinedAt key side other (lists_of old) (lists_of new) → AreRowLists db new
   joined_lists db old new are joined =
       let count : length new ≡ length old = sym (length-lists_of new) ∙ joined.count ∙ length-lists_of old in
@@ -77,7 +77,7 @@ module _ (key : Keys) (side other : Place) where
         ];
       }
 
--- ---- copies of lists
+-- ---- copies of lists are lists of rows of the database
 
 pub lists_alike : (db : Database) (scans lists : List (Rows ℕ)) → AreRowLists db scans → lists_of lists ≡ lists_of scans → AreRowLists db lists
 lists_alike db scans lists are same =

@@ -1,4 +1,4 @@
--- Semi-joins remove no row that is in a consistent family, so the remaining rows have the same reduced scans as all rows.
+-- Semi-joins remove no row of a consistent family. So the remaining rows have the same reduced scans as all rows.
 use Rattle.std.proofs.Common.{◌≡◌, ℕ, Bool, true, List, refl, sym, ◌∙◌, subst, inl, inr}
 use Rattle.std.specs.List.{Contains, filter}
 use Rattle.std.proofs.lemmas.Bool.{cases_eq}
@@ -50,7 +50,7 @@ module _ (scans : List (List ℕ)) (equalities : List Edge) (equal : Edge → �
     greatest = λ other consistent. are.greatest other (over_lists lists other sifted consistent);
   }
 
--- ---- one step: the semi-join of one side of an equality with the other side
+-- ---- one step: the semi-join of the list on one side of an equality with the list on the other side
 
 module _ (scans : List (List ℕ)) (equalities : List Edge) (key : Keys) (equal : Edge → ℕ → ℕ → Bool) (tells : HoldsByKey scans equalities key equal)
     (old new : List (List ℕ)) (e : Edge) (on : Bool) (there : Contains equalities e) (joined : IsJoinedAt key (side_of e on) (side_of e (opposite on)) old new) (sifted : IsSifted scans equalities equal old) where
@@ -69,7 +69,7 @@ module _ (scans : List (List ℕ)) (equalities : List Edge) (key : Keys) (equal 
     | inr other ↦ subst IsAscending (sym (joined.elsewhere entry other)) (sifted.is_family.ascending entry)
   ]
 
-  -- A row of a consistent family stays. It has a partner in the family, and this partner is in the list of the other side and has the row's key.
+  -- a row of a consistent family is kept. It has a partner in the family, and this partner is in the list of the other side and has the row's key
   stays : (family : List (List ℕ)) → IsConsistent scans equalities equal family → (row : ℕ) → Contains (list_at family (side_of e on).entry) row → Contains (list_at new (side_of e on).entry) row
   stays family consistent row has =
       let partner : HasPartner (equal_from equal e on) (list_at family (side_of e (opposite on)).entry) row = partners scans equalities key equal tells family e on consistent there row has in
@@ -95,7 +95,7 @@ module _ (scans : List (List ℕ)) (equalities : List Edge) (key : Keys) (equal 
     keeps = keeps_row;
   }
 
--- ---- several steps, one after another
+-- ---- two steps, one after the other
 
 pub stay_both : (key : Keys) (equalities : List Edge) (a b c : List (List ℕ)) → StaySifted key equalities a b → StaySifted key equalities b c → StaySifted key equalities a c
 stay_both key equalities a b c first second = record { stay = λ scans equal tells sifted. second.stay scans equal tells (first.stay scans equal tells sifted) }

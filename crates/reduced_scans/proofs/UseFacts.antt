@@ -1,4 +1,4 @@
--- Uses are added row by row, side by side and equality by equality. These lemmas say which uses and values there are after each step.
+-- Uses are added row by row, side by side and equality by equality. These lemmas give the uses and values after each step.
 use Rattle.std.proofs.Common.{◌≡◌, ℕ, zero, suc, ◌+◌, ◌*◌, ◌<◌, ◌≤◌, Bool, true, false, List, [], ◌∷◌, ◌++◌, Some, length, get_or, refl, ap, sym, ◌∙◌, subst, arith, inl, inr, append-nil, append_assoc, length-append}
 use Rattle.std.specs.Prelude.{◌⊎◌, All, slice_get, slice_index}
 use Rattle.std.specs.List.{Contains}
@@ -14,11 +14,11 @@ use Rattle.row_buf.specs.Rows.{Rows}
 use Rattle.level_bounds.specs.Keys.{Keys}
 use Rattle.join_steps.specs.Lists.{list_at, lists_of}
 use Rattle.limits.specs.Profile.{most_rows}
-use Rattle.reduced_scans.specs.Wiring.{AddsUses, AreUsesOfRows, ValuesBeginWith, NumberedValues, IsNumbered, IsUseFor, IsUseForRow, first_item, key_on, side_of, opposite, row_at, slot_of}
+use Rattle.reduced_scans.specs.Wiring.{AddsUses, AreUsesOfRows, ValuesBeginWith, NumberedValues, IsEqualityAt, IsUseFor, IsUseForRow, first_item, key_on, side_of, opposite, row_at, slot_of}
 use Rattle.reduced_scans.proofs.MarkedRows.{items_within}
 use Rattle.reduced_scans.proofs.Members.{in_front}
 
--- ---- the list of values keeps its beginning
+-- ---- values that are numbered later don't change the earlier numbers
 
 pub begins_same : (known_values : NumberedValues) → ValuesBeginWith known_values known_values
 begins_same known_values = record { more = []; grew = sym (append-nil known_values) }
@@ -44,7 +44,7 @@ use_later old new equality on cell item u begins is = record {
   needs = is.needs;
 }
 
--- ---- the uses of one more row
+-- ---- the uses after one more row
 
 pub adds_none : (equality : ℕ) (on : Bool) (first : ℕ) (cells list : List ℕ) (known_values : NumberedValues) (uses : List Use) → AddsUses equality on first cells list 0 known_values known_values uses uses
 adds_none equality on first cells list known_values uses = record {
@@ -89,9 +89,9 @@ adds_one equality on first cells list count old mid new old_uses mid_uses new_us
       ];
     }
 
--- ---- the uses of one more equality
+-- ---- the uses after one more equality
 
-module _ (scans : List (List ℕ)) (equalities : List Edge) (key : Keys) (number : ℕ) (e : Edge) (numbered : IsNumbered equalities number e) where
+module _ (scans : List (List ℕ)) (equalities : List Edge) (key : Keys) (number : ℕ) (e : Edge) (numbered : IsEqualityAt equalities number e) where
   abbrev AddsSide : Bool → List ℕ → NumberedValues → NumberedValues → List Use → List Use → Type 0
   AddsSide on cells old new old_uses new_uses =
       AddsUses number on (first_item scans (side_of e on).entry) cells (list_at scans (side_of e on).entry) (length (list_at scans (side_of e on).entry)) old new old_uses new_uses
@@ -170,7 +170,7 @@ module _ (scans : List (List ℕ)) (equalities : List Edge) (key : Keys) (number
           (found.0, right.kept found.0 found.1, found.2)
       this false place low = side_complete false cells_right mid new new mid_uses new_uses right_keys right (begins_same new) place low
 
-      here : (n : ℕ) (edge : Edge) (on : Bool) (place : ℕ) → n ≡ number → IsNumbered equalities n edge → place < length (list_at scans (side_of edge on).entry)
+      here : (n : ℕ) (edge : Edge) (on : Bool) (place : ℕ) → n ≡ number → IsEqualityAt equalities n edge → place < length (list_at scans (side_of edge on).entry)
           → (u : Use) × Contains new_uses u × IsUseFor new n on (key_on key (side_of edge on) (row_at scans (side_of edge on).entry place)) (first_item scans (side_of edge on).entry + place) u
       here n edge on place same is low =
           let edges : e ≡ edge = sym numbered.1 ∙ ap (λ i. get_or equalities i e) (sym same) ∙ get_or_default equalities n e edge is.0 ∙ is.1 in

@@ -4,15 +4,15 @@ use Rattle.std.specs.List.{Contains}
 use Rattle.berge_tree.specs.declared.edges.Edge.{Edge}
 use Rattle.join_steps.specs.Lists.{list_at, IsAscending, IsFamily}
 
--- the row has a partner among `partners`; `HavePartners` says that each row of a list has one
+-- the row has a partner among `partners`. The definition after it, `HavePartners`, says this of each row of a list
 abbrev pub HasPartner : (ℕ → ℕ → Bool) → List ℕ → ℕ → Type 0
 HasPartner equal partners row = (partner : ℕ) × Contains partners partner × (equal row partner ≡ true)
 
 abbrev pub HavePartners : (ℕ → ℕ → Bool) → List ℕ → List ℕ → Type 0
 HavePartners equal rows partners = (row : ℕ) → Contains rows row → HasPartner equal partners row
 
--- a family in which each row has, for each equality at its entry, a partner in the list of the other entry. `equal e left right` says that
--- the two rows have the same value in the columns of equality `e`
+-- a family in which each row has a partner in the list of the other entry, for each equality at its entry. `equal e left right` says that the two
+-- rows have the same value in the columns of equality `e`
 pub record IsConsistent (scans : List (List ℕ)) (equalities : List Edge) (equal : Edge → ℕ → ℕ → Bool) (family : List (List ℕ))
     : Type 0 where
   pub is_family : IsFamily scans family
@@ -20,7 +20,7 @@ pub record IsConsistent (scans : List (List ℕ)) (equalities : List Edge) (equa
   pub from_right : (e : Edge) → Contains equalities e
       → HavePartners (λ right left. equal e left right) (list_at family e.right.entry) (list_at family e.left.entry)
 
--- the family `reduced` is consistent, and it contains the rows of every consistent family
+-- the family `reduced` is consistent, and has the rows of every consistent family
 pub record IsReduced (scans : List (List ℕ)) (equalities : List Edge) (equal : Edge → ℕ → ℕ → Bool) (reduced : List (List ℕ)) : Type 0 where
   pub consistent : IsConsistent scans equalities equal reduced
   pub greatest : (other : List (List ℕ)) → IsConsistent scans equalities equal other
@@ -36,6 +36,6 @@ pub record SatisfiesAll (scans : List (List ℕ)) (equalities : List Edge) (equa
 abbrev pub AreAscending : List (List ℕ) → Type 0
 AreAscending scans = (entry : ℕ) → IsAscending (list_at scans entry)
 
--- both entries of each equality are below `entries`
+-- the entries of each equality have numbers below `entries`
 abbrev pub NameEntries : ℕ → List Edge → Type 0
 NameEntries entries equalities = (e : Edge) → Contains equalities e → (e.left.entry < entries) × (e.right.entry < entries)

@@ -14,7 +14,7 @@ use Rattle.join_steps.specs.Lists.{list_at, lists_of}
 abbrev pub HaveNoSpare : List (Rows ℕ) → Type 0
 HaveNoSpare lists = All (λ list. list.spare ≡ 0) lists
 
--- there is a list for each entry. Its rows are rows of the entry's table, and it has at most as many rows as a table may have
+-- there is a list for each entry. Its rows are row numbers of the entry's table, and it has at most as many rows as a table may have
 pub record AreRowLists (db : Database) (lists : List (Rows ℕ)) : Type 0 where
   pub tables : AreTables db
   pub count : length lists ≡ length db.slots
@@ -22,7 +22,7 @@ pub record AreRowLists (db : Database) (lists : List (Rows ℕ)) : Type 0 where
   pub rows : (entry : ℕ) → entry < length lists → All (λ row. row < (cells_of db entry).rows) (list_at (lists_of lists) entry)
   pub sizes : (entry : ℕ) → length (list_at (lists_of lists) entry) ≤ most_rows
 
--- a column of an equality as a reference to a column of a query
+-- a column of an equality, in the form of a query's column reference
 abbrev pub column_of : Place → ColumnRef
 column_of place = record { from = place.entry; column = place.column }
 

@@ -1,4 +1,4 @@
--- The reduced scans as a function, in rounds. Each round removes every row that lacks a partner.
+-- The reduced scans as a function. It works in rounds, and each round removes every row that lacks a partner.
 use Rattle.std.specs.Prelude.{ℕ, zero, suc, ◌+◌, Bool, not, ◌&&◌, ◌||◌, ◌==◌, List, [], ◌∷◌, length}
 use Rattle.std.specs.List.{filter, list_all, list_any}
 use Rattle.berge_tree.specs.declared.edges.Edge.{Edge}
@@ -8,23 +8,23 @@ use Rattle.sql_meaning.specs.Tables.{Tables}
 use Rattle.level_bounds.specs.Keys.{are_equal_at}
 use Rattle.join_steps.specs.Lists.{list_at, scans_of}
 
--- if the equality has a column of this entry on a side, the row has a partner in the list of the other side
+-- whether the row has its partners across the equality: for each side that is a column of this entry, a partner in the list of the other side
 abbrev pub finds_partners : (Edge → ℕ → ℕ → Bool) → List (List ℕ) → ℕ → ℕ → Edge → Bool
 finds_partners equal family entry row e =
     (not (e.left.entry == entry) || list_any (equal e row) (list_at family e.right.entry))
     && (not (e.right.entry == entry) || list_any (λ left. equal e left row) (list_at family e.left.entry))
 
--- the row has a partner for each equality at its entry
-abbrev pub finds_all : List Edge → (Edge → ℕ → ℕ → Bool) → List (List ℕ) → ℕ → ℕ → Bool
-finds_all es equal family entry row = list_all (finds_partners equal family entry row) es
+-- whether the row has a partner for each equality at its entry
+abbrev pub has_all_partners : List Edge → (Edge → ℕ → ℕ → Bool) → List (List ℕ) → ℕ → ℕ → Bool
+has_all_partners es equal family entry row = list_all (finds_partners equal family entry row) es
 
--- a round: the rows that have all their partners in `family` are kept in each list. The first list is that of `entry`
+-- one round, for lists of which the first is the list of `entry`. Each list keeps the rows that have all their partners in `family`
 abbrev pub round_from : List Edge → (Edge → ℕ → ℕ → Bool) → List (List ℕ) → ℕ → List (List ℕ) → List (List ℕ)
 round_from es equal family entry [] = []
 round_from es equal family entry (list ∷ lists) =
-    filter (finds_all es equal family entry) list ∷ round_from es equal family (suc entry) lists
+    filter (has_all_partners es equal family entry) list ∷ round_from es equal family (suc entry) lists
 
--- the rows of a family that remain after a number of rounds
+-- the lists of a family after a number of rounds
 abbrev pub after_rounds : List Edge → (Edge → ℕ → ℕ → Bool) → ℕ → List (List ℕ) → List (List ℕ)
 after_rounds es equal zero family = family
 after_rounds es equal (suc count) family = after_rounds es equal count (round_from es equal family 0 family)
@@ -34,7 +34,7 @@ abbrev pub rows_in_all : List (List ℕ) → ℕ
 rows_in_all [] = 0
 rows_in_all (list ∷ lists) = length list + rows_in_all lists
 
--- the rows of the scans that remain after as many rounds as there are rows, and one more. A further round would change nothing
+-- the scans after as many rounds as there are scanned rows, and one more. A further round would change nothing
 unfoldable pub reduced_of : Query → Tables → List (List ℕ)
 reduced_of query tables =
     after_rounds (equalities_of query) (are_equal_at tables) (rows_in_all (scans_of query tables) + 1) (scans_of query tables)

@@ -1,4 +1,4 @@
--- Which rows semi-joins may remove. Uses are made only for the rows that remain. No public contract uses this file.
+-- Conditions on the rows that semi-joins remove. Uses are made only for the rows that remain. No public contract uses this file.
 use Rattle.std.specs.Prelude.{◌≡◌, ◌≢◌, ℕ, ◌-◌, Bool, true, false, ◌&&◌, nat_le, List, length, slice_index_or}
 use Rattle.std.specs.List.{Contains, filter}
 use Rattle.berge_tree.specs.declared.edges.Edge.{Edge}
@@ -14,7 +14,7 @@ pub record IsSifted (scans : List (List ℕ)) (equalities : List Edge) (equal : 
   pub keeps : (family : List (List ℕ)) → IsConsistent scans equalities equal family
       → (entry row : ℕ) → Contains (list_at family entry) row → Contains (list_at lists entry) row
 
--- `kept` are the rows of a list that pass some test. A row passes the test if it has the key of a partner
+-- `kept` has the rows of a list that pass some test. Each row that has the key of a partner passes the test
 pub record IsSemiJoin (key partner_key : ℕ → ℕ) (list partners kept : List ℕ) : Type 0 where
   pub test : ℕ → Bool
   pub filtered : kept ≡ filter test list
@@ -26,12 +26,12 @@ pub record IsJoinedAt (key : Keys) (side other : Place) (old new : List (List �
   pub joined : IsSemiJoin (key_on key side) (key_on key other) (list_at old side.entry) (list_at old other.entry) (list_at new side.entry)
   pub elsewhere : (entry : ℕ) → entry ≢ side.entry → list_at new entry ≡ list_at old entry
 
--- if the old lists are sifted (they still have the rows of every consistent family), so are the new lists. The condition is that two rows
--- satisfy an equality if and only if they have the same key
+-- if the old lists are sifted (they still have the rows of every consistent family), the new lists are sifted too. The premise is that two rows
+-- satisfy an equality exactly if they have the same key
 pub record StaySifted (key : Keys) (equalities : List Edge) (old new : List (List ℕ)) : Type 0 where
   pub stay : (scans : List (List ℕ)) (equal : Edge → ℕ → ℕ → Bool) → HoldsByKey scans equalities key equal
       → IsSifted scans equalities equal old → IsSifted scans equalities equal new
 
--- the value is in the range that begins at `least`, and it is marked there
+-- whether the value is in the range that begins at `least`, and is marked
 abbrev pub is_marked : ℕ → List Bool → ℕ → Bool
 is_marked least marks value = nat_le least value && slice_index_or marks (value - least) false

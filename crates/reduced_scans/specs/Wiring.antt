@@ -1,5 +1,5 @@
--- The items, slots and uses of counted_sets for scanned rows. An item is a row of a list. A slot is a value on one side of an equality. A use
--- says which slot a row gives and which slot it needs. No public contract uses this file.
+-- The items, slots and uses of counted_sets for scanned rows. An item is a row of a list. A slot is a value on one side of an equality. A use has the
+-- slot that a row gives and the slot that it needs. No public contract uses this file.
 use Rattle.std.specs.Prelude.{◌≡◌, ◌≢◌, ◌⊎◌, ℕ, zero, suc, ◌+◌, ◌*◌, ◌<◌, ◌≤◌, ◌==◌, Bool, true, false, if◌then◌else◌, List, [], ◌∷◌, ◌++◌, AllPairs, Some, length, slice_get, slice_index, slice_index_or}
 use Rattle.std.specs.List.{Contains}
 use Rattle.berge_tree.specs.declared.edges.Edge.{Edge}
@@ -8,7 +8,7 @@ use Rattle.counted_sets.specs.declared.uses.Use.{Use}
 use Rattle.level_bounds.specs.Keys.{Keys}
 use Rattle.join_steps.specs.Lists.{list_at}
 
--- ---- items: the rows of the lists, list by list in their order
+-- ---- items: the rows of all lists, in the order of the lists
 
 -- the item of an entry's first row
 abbrev pub first_item : List (List ℕ) → ℕ → ℕ
@@ -30,9 +30,9 @@ abbrev pub marked_family : (ℕ → Bool) → ℕ → List (List ℕ) → List (
 marked_family kept first [] = []
 marked_family kept first (scan ∷ scans) = marked_rows kept first scan ∷ marked_family kept (first + length scan) scans
 
--- ---- slots: two for each value of an equality, one for each side
+-- ---- slots: two for each value of an equality, one slot for each side
 
--- the values in the order in which they were numbered. Each value is a pair of the number of its equality and its cell
+-- the values in the order of their numbers. A value is a pair: the number of its equality, and its cell
 abbrev pub NumberedValues : Type 0
 NumberedValues = List (ℕ × ℕ)
 
@@ -44,7 +44,7 @@ pub record ValuesBeginWith (old new : NumberedValues) : Type 0 where
   pub more : NumberedValues
   pub grew : new ≡ old ++ more
 
--- the column on a side of an equality: the left side if `true`. `opposite` is the other side
+-- the column on one side of an equality: on the left side if the flag is `true`. The definition after it is for the opposite side
 abbrev pub side_of : Edge → Bool → Place
 side_of e true = e.left
 side_of e false = e.right
@@ -57,8 +57,8 @@ abbrev pub slot_of : ℕ → Bool → ℕ
 slot_of value_number true = 2 * value_number
 slot_of value_number false = 2 * value_number + 1
 
--- `u` is the use of an item whose row has the cell `cell` on the side `on` of an equality. The item gives the slot of its value on this side,
--- and needs the slot of this value on the opposite side
+-- `u` is the use of an item whose row has the cell `cell` on the side `on` of an equality. The item gives the slot of this value on this side, and
+-- needs the slot of this value on the opposite side
 pub record IsUseFor (known_values : NumberedValues) (equality : ℕ) (on : Bool) (cell item : ℕ) (u : Use) : Type 0 where
   pub value_number : ℕ
   pub is_value : slice_get known_values value_number ≡ Some (equality, cell)
@@ -79,15 +79,15 @@ pub record AddsUses (equality : ℕ) (on : Bool) (first : ℕ) (cells list : Lis
   pub complete : (place : ℕ) → place < count
       → (u : Use) × Contains new u × IsUseFor new_values equality on (slice_index cells (slice_index list place)) (first + place) u
 
--- equality `e` has the number m
-abbrev pub IsNumbered : List Edge → ℕ → Edge → Type 0
-IsNumbered equalities m e = (m < length equalities) × (slice_index_or equalities m e ≡ e)
+-- equality `e` has the index m
+abbrev pub IsEqualityAt : List Edge → ℕ → Edge → Type 0
+IsEqualityAt equalities m e = (m < length equalities) × (slice_index_or equalities m e ≡ e)
 
--- the key of a row on a side of an equality
+-- the key of a row in the column on a side of an equality
 abbrev pub key_on : Keys → Place → ℕ → ℕ
 key_on key side row = key side.entry side.column row
 
--- two rows of the lists satisfy an equality if and only if they have the same key
+-- two rows of the lists satisfy an equality exactly if they have the same key
 abbrev pub HoldsByKey : List (List ℕ) → List Edge → Keys → (Edge → ℕ → ℕ → Bool) → Type 0
 HoldsByKey scans equalities key equal = (e : Edge) → Contains equalities e → (left right : ℕ) → Contains (list_at scans e.left.entry) left
     → Contains (list_at scans e.right.entry) right → equal e left right ≡ (key_on key e.left left == key_on key e.right right)
@@ -99,7 +99,7 @@ pub record IsUseForRow (scans : List (List ℕ)) (equalities : List Edge) (key :
   pub on : Bool
   pub place : ℕ
   pub below : number < count
-  pub numbered : IsNumbered equalities number edge
+  pub numbered : IsEqualityAt equalities number edge
   pub within : place < length (list_at scans (side_of edge on).entry)
   pub is_use : IsUseFor known_values number on (key_on key (side_of edge on) (row_at scans (side_of edge on).entry place))
       (first_item scans (side_of edge on).entry + place) u
@@ -108,7 +108,7 @@ pub record IsUseForRow (scans : List (List ℕ)) (equalities : List Edge) (key :
 pub record AreUsesOfRows (scans : List (List ℕ)) (equalities : List Edge) (key : Keys) (known_values : NumberedValues) (count : ℕ)
     (uses : List Use) : Type 0 where
   pub sound : (u : Use) → Contains uses u → IsUseForRow scans equalities key known_values count u
-  pub complete : (number : ℕ) (edge : Edge) (on : Bool) (place : ℕ) → number < count → IsNumbered equalities number edge
+  pub complete : (number : ℕ) (edge : Edge) (on : Bool) (place : ℕ) → number < count → IsEqualityAt equalities number edge
       → place < length (list_at scans (side_of edge on).entry)
       → (u : Use) × Contains uses u
       × IsUseFor known_values number on (key_on key (side_of edge on) (row_at scans (side_of edge on).entry place))

@@ -1,5 +1,5 @@
-//! Gives a number to each value in the columns of each equality. `wiring` makes two slots of each number: one for the value on the left side
-//! of the equality, and one for the value on the right side.
+//! Numbers the values in the columns of each equality. `wiring` makes two slots for each number: one for the value on the left side of the equality,
+//! and one for the value on the right side.
 ghost use Rattle.std.specs.Prelude.{◌≡◌, ◌+◌, ◌^◌, ◌<◌, ◌≤◌, [], IfOk, OnOk, Some, length, slice_get};
 ghost use Rattle.reduced_scans.specs.Wiring.{ValuesAreDifferent, ValuesBeginWith};
 
@@ -8,8 +8,8 @@ use indexmap::IndexSet;
 use std::alloc::Global;
 use std::marker::Model;
 
-/// The values that were numbered so far. Each value is a pair of the number of its equality and its cell. Texts are equal if their numbers in
-/// the pool are equal. In contracts this is the list of these pairs, and a pair's number is its index in the list.
+/// The values that were numbered so far. A value is a pair: the number of its equality, and its cell. Texts are equal if their numbers in the pool
+/// are equal. In contracts this is the list of these pairs, and a value's number is its index in the list.
 #[derive(Drop)]
 pub(crate) struct EqualityValues {
     pairs: IndexSet<(u32, u64)>,
@@ -24,7 +24,7 @@ impl Model for EqualityValues {
 }
 
 impl EqualityValues {
-    /// The empty list. `new` allocates nothing.
+    /// No values yet. `new` allocates nothing.
     pub(crate) fn new(alloc: Global) -> EqualityValues
         ensures { result ≡ [] }
     {
@@ -33,7 +33,7 @@ impl EqualityValues {
         }
     }
 
-    /// How many values were numbered. The pairs of equality and cell are different.
+    /// The number of values so far. All of them are different.
     pub(crate) fn len(&self) -> usize
         ensures len { result ≡ length self.now }
         ensures different { ValuesAreDifferent self.now }

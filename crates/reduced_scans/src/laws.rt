@@ -1,4 +1,4 @@
-//! Laws on reduced scans. Each call does nothing.
+//! Laws of reduced scans. Each call does nothing.
 ghost use Rattle.std.specs.Prelude.{◌≡◌, ◌<◌, ℕ, IsPermutation, List, length, map, slice_index};
 ghost use Rattle.std.specs.List.{Contains};
 ghost use Rattle.query_types.specs.declared.types.Query.{Query};
@@ -19,18 +19,18 @@ pub fn one_reduction()
         → AreReducedScans query tables a → AreReducedScans query tables b → a ≡ b }
 {}
 
-/// Repeated rounds reach the reduced scans. A round removes all rows that lack a partner. If the number of rounds is the number of scanned
-/// rows plus one, no row lacks a partner at the end. A removed row is in no family in which each row has its partners. So all reduced scans
-/// are this one family.
+/// Repeated rounds reach the reduced scans. A round removes all rows that lack a partner. After as many rounds as there are scanned rows, and one
+/// more, no row lacks a partner. A removed row is in no family in which each row has its partners. So the reduced scans are exactly the result of
+/// these rounds.
 pub fn reduced_scans_are_by_rounds()
     ensures are { (query : Query) (tables : Tables) → AreReducedScans query tables (reduced_of query tables) }
     ensures no_others { (query : Query) (tables : Tables) (reduced : List (List ℕ)) → AreReducedScans query tables reduced
         → reduced ≡ reduced_of query tables }
 {}
 
-/// No row of the answer is lost. If scanned rows, one for each entry, satisfy all equalities together, each of them is a reduced row. So
-/// in any order of the entries, each choice of the last level has only reduced rows. Over the reduced scans this level is the same list. The
-/// outputs of this level's choices are the rows of the answer, each as often as in the answer.
+/// No row of the answer is lost. If scanned rows, one for each entry, satisfy all equalities together, each of them is a reduced row. So, in any
+/// order of the entries, each choice of the last level has only reduced rows. The last level over the reduced scans is the same list of choices. The
+/// outputs of these choices are the rows of the answer, with the same multiplicities.
 pub fn no_row_of_the_answer_is_lost()
     ensures choices { (query : Query) (tables : Tables) (reduced : List (List ℕ)) (choice : List ℕ) → NamesItsEntries query
         → AreReducedScans query tables reduced → SatisfiesEqualities query tables choice

@@ -1,13 +1,14 @@
-//! Scans that are reduced by semi-joins: rows without a match across some equality are removed, until nothing changes.
+//! Reduces scans by semi-joins: removes rows that lack a match across some equality, until nothing changes.
 //!
-//! In: a query, its database, and the list of each entry's scan. Out: for each entry the list of its reduced rows, in file order, by
-//! `reduce_scans`.
+//! In: a query, its database, and the list of each entry's scan. Out: for each entry the list of its reduced rows, in file order. `reduce_scans`
+//! makes these lists.
 //!
-//! First, semi-joins remove rows that have no match at all, if the values on the other side of the equality lie in a short range. Then each
-//! remaining row is linked to the values that it gives and needs, and a worklist removes the rows whose last match was removed.
+//! First, semi-joins remove rows that have no match in the scans. A semi-join does so only if the values on the other side of the equality lie in a
+//! short range. Then each remaining row is linked to the values that it gives and needs, and a worklist removes the rows whose last match was
+//! removed.
 //!
-//! Callers cite `AreReducedScans`, and `reduced_of` for the reduced scans as a function. The laws say that exactly one family of lists is
-//! reduced, that repeated rounds reach it, and that no row of the answer is lost.
+//! The contract is `AreReducedScans`; `reduced_of` gives the reduced scans as a function. The laws say: there is exactly one family of reduced scans,
+//! repeated rounds reach it, and no row of the answer is lost.
 #![tactic(auto)]
 
 mod equality_values;

@@ -25,7 +25,8 @@ use query_types::Query;
 use row_buf::RowBuf;
 use std::alloc::Global;
 
-// Marks the rows that are kept. The marks of a list come after the marks of the list before it. The numbered values and their uses are freed.
+// Marks the rows that are kept. The marks are in the order of the lists, and in a list in the order of its rows. The numbered values and their uses
+// are freed.
 fn marks_of(
     alloc: Global,
     db: &Database,
@@ -113,8 +114,8 @@ fn marked_lists(
     Ok(lists)
 }
 
-/// Reduces the scans of a query. The result is the largest lists of scanned rows in which each row has, across each equality of its entry, a
-/// match: a row with the same value in the list of the other entry. There is one list for each FROM entry, in file order.
+/// Reduces the scans of a query. The result has one list for each FROM entry, in file order. These are the largest lists of scanned rows in which
+/// each row has a match across each equality of its entry. A match is a row with the same value in the list of the other entry.
 ///
 /// `scans` has the scan of each FROM entry, and `equalities` has the equalities that `split` of join_graph finds. The call has two steps:
 ///
@@ -122,8 +123,8 @@ fn marked_lists(
 ///    looks values up in marks, one for each number in the range of the other side's values. Where that range is too long, it removes nothing.
 /// 2. The remaining values get numbers, by one hash of each cell. Then a worklist removes rows without a match, until nothing changes.
 ///
-/// Time and memory are on average linear in the number of rows times the number of their equalities. All memory but that of the result is
-/// freed before the call returns. The result and its lists have no spare capacity.
+/// Time and memory are on average linear in the number of rows times the number of their equalities. All memory except the result's is freed before
+/// the call returns. The result and its lists have no spare capacity.
 pub fn reduce_scans(
     alloc: Global,
     query: &Query,

@@ -1,4 +1,4 @@
-//! Semi-joins: they keep the rows of a list whose value also occurs on the other side of an equality.
+//! Semi-joins. They keep the rows of a list whose value also occurs on the other side of an equality.
 ghost use Rattle.std.specs.Prelude.{◌≡◌, ◌+◌, ◌*◌, ◌<◌, ◌≤◌, ℕ, All, Bool, IfOk, IfSome, List, OnOk, length, slice_index};
 ghost use Rattle.std.specs.List.{filter, Contains};
 ghost use Rattle.limits.specs.Profile.{most_rows};
@@ -44,7 +44,7 @@ fn rows_within(
     Ok(kept)
 }
 
-// The rows of a list that may have a partner, or `None` if the partners' cells don't lie in a short range.
+// The rows of a list that may have a partner. `None` if the partners' cells don't lie in a short range.
 fn semi_join(
     alloc: Global,
     cells: &[u64],
@@ -80,7 +80,7 @@ fn cells_at<'a>(db: &'a Database, column: Place) -> &'a [u64]
     cells_of_column(db, reference)
 }
 
-// Replaces the list of a side by its semi-join with the other side's list, if the other side's values lie in a short range.
+// Replaces the list on one side of an equality by its semi-join with the other side's list, if the other side's values lie in a short range.
 fn semi_join_side(
     alloc: Global,
     db: &Database,
@@ -187,8 +187,8 @@ fn copy(alloc: Global, list: &[u32]) -> Result<RowBuf<u32>, NoMemory>
     Ok(rows)
 }
 
-/// The rows of each scan that remain after semi-joins along all equalities, from the first to the last and back. A semi-join removes rows
-/// that have no partner. If the values of the other side lie too far apart, it removes no row.
+/// The rows of each scan that remain after semi-joins along all equalities, from the first to the last and back. A semi-join removes rows that have
+/// no partner. If the range of the other side's values is too long, it removes no row.
 pub(crate) fn semi_join_all(
     alloc: Global,
     db: &Database,

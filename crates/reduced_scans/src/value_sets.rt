@@ -1,4 +1,4 @@
-//! The set of a column's values in the rows of a list, if the values lie in a short range. Each number in the range has a mark.
+//! Makes the set of a column's values in the rows of a list, if the values lie in a short range. Each number in the range has a mark.
 ghost use Rattle.std.specs.Prelude.{◌≡◌, ◌+◌, ◌-◌, ◌*◌, ◌<◌, ◌≤◌, true, All, IfOk, IfSome, length, slice_index};
 ghost use Rattle.limits.specs.Profile.{most_rows};
 ghost use Rattle.reduced_scans.specs.SemiJoins.{is_marked};
@@ -6,7 +6,7 @@ ghost use Rattle.reduced_scans.specs.SemiJoins.{is_marked};
 use base_io::NoMemory;
 use std::alloc::Global;
 
-// A range of at most this many numbers is always short.
+// A range with at most this many numbers is always short.
 const FEW: u64 = 64;
 
 /// A set of values: the least value of their range, and for each number in the range whether it is in the set.

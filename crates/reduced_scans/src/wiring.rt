@@ -1,6 +1,6 @@
-//! Builds the uses of scanned rows for counted_sets, which removes rows without a match. In the words of counted_sets, each row is an item,
-//! and a slot is a value on one side of an equality. A use says that a row gives the slot of its value on its own side, and needs the slot of
-//! this value on the other side.
+//! Builds the uses of scanned rows for counted_sets, which removes rows without a match. In the words of counted_sets, each row is an item, and a
+//! slot is a value on one side of an equality. A use belongs to a row on one side of an equality. It gives the slot of the row's value on this side,
+//! and needs the slot of this value on the other side.
 ghost use Rattle.std.specs.Prelude.{◌≡◌, ◌+◌, ◌*◌, ◌^◌, ◌<◌, ◌≤◌, ◌∷◌, ◌++◌, [], ℕ, All, List, OnOk, length};
 ghost use Rattle.limits.specs.Profile.{most_conjuncts, most_entries, most_rows};
 ghost use Rattle.berge_tree.specs.declared.edges.Edge.{Edge};
@@ -10,7 +10,7 @@ ghost use Rattle.join_steps.specs.Columns.{column_cells};
 ghost use Rattle.level_bounds.specs.Keys.{cell_at};
 ghost use Rattle.join_steps.specs.Lists.{list_at, lists_of};
 ghost use Rattle.reduced_scans.specs.Lists.{column_of, AreRowLists, JoinsColumns};
-ghost use Rattle.reduced_scans.specs.Wiring.{first_item, slot_of, AddsUses, AreUsesOfRows, ValuesBeginWith, IsNumbered, IsUseFor};
+ghost use Rattle.reduced_scans.specs.Wiring.{first_item, slot_of, AddsUses, AreUsesOfRows, ValuesBeginWith, IsEqualityAt, IsUseFor};
 
 use crate::equality_values::EqualityValues;
 use base_io::NoMemory;
@@ -21,7 +21,7 @@ use join_steps::cells_of_column;
 use query_types::ColumnRef;
 use row_buf::RowBuf;
 
-// The slot of the value with number `value_number` on the left or on the right side.
+// The slot of the value with number `value_number`, on the left or the right side.
 fn slot_of(value_number: u32, on_left: bool) -> u32
     requires { value_number < 2 ^ 31 }
     ensures { result ≡ slot_of value_number on_left }
@@ -105,7 +105,7 @@ pub(crate) fn first_item(scans: &[RowBuf<u32>], entry: usize) -> u32
     first
 }
 
-// Adds the uses of the rows of an entry for one side of an equality, whose column is `column`.
+// Adds the uses of an entry's rows for one side of an equality. `column` is the column on this side.
 fn add_column(
     db: &Database,
     scans: &[RowBuf<u32>],
@@ -145,7 +145,7 @@ fn add_equality(
     requires lists { AreRowLists db.now scans.now }
     requires columns { JoinsColumns db.now edge }
     requires few { length known_values.old + 2 * most_rows < 2 ^ 31 }
-    ensures wired { OnOk result ((equalities : List Edge) → IsNumbered equalities equality edge
+    ensures wired { OnOk result ((equalities : List Edge) → IsEqualityAt equalities equality edge
         → AreUsesOfRows (lists_of scans.now) equalities (cell_at db.now) known_values.old equality uses.old.items
         → AreUsesOfRows (lists_of scans.now) equalities (cell_at db.now) known_values.new (equality + 1) uses.new.items) }
     ensures known_values { OnOk result (length known_values.new ≤ length known_values.old + 2 * most_rows) }
@@ -187,7 +187,7 @@ pub(crate) fn add_all_uses(
     Ok(())
 }
 
-/// How many uses `add_all_uses` adds for these lists and equalities.
+/// The number of uses that `add_all_uses` adds for these lists and equalities.
 pub(crate) fn count_uses(scans: &[RowBuf<u32>], equalities: &[Edge]) -> u64
     requires entries { All (λ e. (e.left.entry < length scans.now) × (e.right.entry < length scans.now)) equalities.now }
     requires sizes { (k : ℕ) → length (list_at (lists_of scans.now) k) ≤ most_rows }

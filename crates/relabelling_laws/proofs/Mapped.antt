@@ -1,5 +1,5 @@
--- A function f replaces the numbers of a list. If a test or a function gives the same for a number and its new number, then filters, counts,
--- different numbers and degrees of the lists correspond. P is a property of all numbers of the list.
+-- A function f replaces the numbers of a list. Suppose that a test or a function gives the same for a number and its new number. Then filters,
+-- counts, different numbers and degrees of the two lists correspond. P is a property of all numbers of the list.
 use Rattle.std.proofs.Common.{◌≡◌, ℕ, Bool, cond, not, eqb, List, [], ◌∷◌, map, refl, ap, sym, ◌∙◌, arith, inl, inr}
 use Rattle.std.specs.List.{AllByRecursion, count_by, filter, list_any, prefix_len, position_or_len}
 use Rattle.std.proofs.lemmas.Bool.{cases_Bool, eqb-true, eqb-false, eq-eqb, ne_eqb}

@@ -17,8 +17,8 @@ PassAlike passes other f column = (a : ℕ) → Contains column a → other (f a
 abbrev pub AreEqualAlike : (ℕ → ℕ) → (ℕ → ℕ) → List ℕ → Type 0
 AreEqualAlike key other rows = (i j : ℕ) → Contains rows i → Contains rows j → (key i ≡ key j) ↔ (other i ≡ other j)
 
--- a number of a column is `value` if and only if its new number is `other`. If `value` or `other` is `None`, no number of the column matches
--- the other one either
+-- A number of a column is `value` if and only if its new number is `other`. If `value` is `None`, no new number of the column is `other`. If
+-- `other` is `None`, no number of the column is `value`
 abbrev pub MatchAlike : (ℕ → ℕ) → List ℕ → Option ℕ → Option ℕ → Type 0
 MatchAlike f column other value = (a : ℕ) → Contains column a → (Some (f a) ≡ other) ↔ (Some a ≡ value)
 

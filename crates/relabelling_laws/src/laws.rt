@@ -20,8 +20,8 @@ pub fn columns_are_relabelled()
     ensures remaining { (f : ℕ → ℕ) (column : List ℕ) → IsOneToOne f column → remaining (map f column) ≡ map f (remaining column) }
 {}
 
-/// Cuts are the numbers at which leaves begin. If the new numbers compare as the old numbers do, the cuts of the new column are the new
-/// numbers of the old cuts. If a test of the new numbers passes exactly where a test of the old numbers does, both tests give the same leaf.
+/// Cuts are the numbers at which leaves begin. Suppose that the new numbers compare as the old numbers do. Then the cuts of the new column are the
+/// new numbers of the old cuts. If a test of the new numbers passes where a test of the old numbers does, both tests give the same leaf.
 pub fn leaves_are_relabelled()
     ensures cuts { (at_most other : ℕ → ℕ → Bool) (f : ℕ → ℕ) (column : List ℕ) → KeepsOrder at_most other f column
         → cuts other (map f column) ≡ map f (cuts at_most column) }
@@ -39,7 +39,7 @@ pub fn lists_do_not_change()
         → IsOneToOne f column → IsOneToOne g joined → Contains column value
         → list_of_value accuracy (zip (map f column) (map g joined)) (Some (f value))
         ≡ list_of_value accuracy (zip column joined) (Some value) }
-    // the list of a value that no row has, whatever number it has among the old and the new numbers
+    // the list of a value that no row has, whatever its old number and its new number are
     ensures absent { (accuracy : ℕ) (f g : ℕ → ℕ) (column joined : List ℕ) (other value : Option ℕ)
         → IsOneToOne f column → IsOneToOne g joined → IsMissing (map f column) other → IsMissing column value
         → list_of_value accuracy (zip (map f column) (map g joined)) other ≡ list_of_value accuracy (zip column joined) value }
@@ -79,7 +79,7 @@ pub fn keys_are_relabelled()
         → degree_list (map key rows) ≡ degree_list (map other rows) }
 {}
 
-/// If a test of the new filter numbers passes in the same rows as a test of the old numbers, both tests select the same rows. The joined keys
+/// Suppose that a test of a new filter number passes exactly if a test of the old number does. Then both tests select the same rows. The joined keys
 /// of these rows are the new numbers of the old joined keys.
 pub fn passing_rows_are_relabelled()
     ensures passing { (f g : ℕ → ℕ) (column joined : List ℕ) (passes other : ℕ → Bool) → PassAlike passes other f column

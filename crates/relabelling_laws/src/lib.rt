@@ -2,13 +2,13 @@
 //! column and a joined column depend only on which numbers are equal, and on how the filter column's numbers compare.
 //!
 //! In: two columns, and one-to-one functions that replace their numbers. Out: laws; no code runs. So a value may be represented by its cell,
-//! by the first row that has it, or by any key that differs for different values: its list is the same.
+//! by the first row that has it, or by any key that differs for different values. The lists are the same.
 //!
 //! - Degrees and leaves don't change. Frequent values and cuts are the new numbers of the old frequent values and cuts.
-//! - No list changes: neither the list of all rows, nor that of a value, a value that no row has, a node or a range.
+//! - No list changes. There are lists of all rows, of a value that a row has, of a value that no row has, of a node and of a range.
 //! - A list that dominates keys dominates all keys that are equal in the same rows.
 //!
-//! Callers cite `IsOneToOne`, `KeepsOrder`, `PassAlike`, `MatchAlike` and `AreEqualAlike` (in `specs/Relabelling.antt`), and `laws`.
+//! The laws use `IsOneToOne`, `KeepsOrder`, `PassAlike`, `MatchAlike` and `AreEqualAlike` (in `specs/Relabelling.antt`).
 //!
 //! ```text
 //! laws::lists_do_not_change();

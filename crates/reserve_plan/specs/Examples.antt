@@ -1,17 +1,11 @@
--- The rooms and the bytes of small plans.
+-- The bytes of small lists of buffers.
 use Rattle.std.specs.Prelude.{ℕ, [], ◌∷◌}
-use Rattle.reserve_plan.specs.Memory.{plan_bytes}
-use Rattle.reserve_plan.specs.Rooms.{Rooms, rooms}
+use Rattle.reserve_plan.specs.Memory.{chain_list_bytes, lists_bytes}
 
--- a plan of entry 1 and then entry 0. The list of entry 0 has at most 6 rows, and the list of entry 1 has no rows. The first level has no
--- rows, and the second level has at most 12 rows
-abbrev pub two_entries : Rooms
-two_entries = rooms (1 ∷ 0 ∷ []) (6 ∷ 0 ∷ []) (0 ∷ 12 ∷ [])
+-- the bytes of two lists of row numbers, with room for 6 and 5 rows
+abbrev pub six_and_five_rows : ℕ
+six_and_five_rows = lists_bytes (6 ∷ 5 ∷ [])
 
--- the bytes of a plan of entry 1 with 5 rows and then entry 0 with 6 rows. Its levels have 5 and 12 rows
-abbrev pub six_and_five_bytes : ℕ
-six_and_five_bytes = plan_bytes (1 ∷ 0 ∷ []) (6 ∷ 5 ∷ []) (5 ∷ 12 ∷ [])
-
--- the bytes of a plan of one entry without rows
-abbrev pub least_bytes : ℕ
-least_bytes = plan_bytes (0 ∷ []) (0 ∷ []) (0 ∷ [])
+-- the bytes of two hash chains, with room for 6 rows and for no rows
+abbrev pub six_and_no_keys : ℕ
+six_and_no_keys = chain_list_bytes (6 ∷ 0 ∷ [])

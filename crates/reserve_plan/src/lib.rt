@@ -1,48 +1,26 @@
-//! All memory of a plan, taken before its first row is read.
+//! Takes the memory of buffers, and says how many bytes it is before it is taken.
 //!
-//! This is the stage after the order is chosen. In: an order of the FROM entries, and how many rows each entry's list and each level have at
-//! most. Out: buffers with room for that many rows. `reserve` is the last step of a query that can run out of memory: filling the buffers
-//! allocates nothing. `row_buffers` makes empty buffers of row numbers, one for each entry's list.
+//! In: the most rows of each list, which are the bounds of a plan. Out: empty buffers with room for that many rows. `row_buffers` makes a list of
+//! buffers of row numbers, one for each entry, and `empty_chains` makes a hash table by which a join finds rows. Filling them allocates nothing.
 //!
-//! Callers cite `rooms`, which says how many items each buffer of a plan has to take, and `HasRooms`. Buffers are reserved for a plan's
-//! bounds, which may be higher than the numbers of rows. By `less_needs_less_room` these buffers have room for the rows, too.
-//!
-//! `plan_memory` says how many bytes a plan takes, before any memory is taken. `plan_bytes` defines this number: each buffer's capacity times
-//! the size of an item, and the bytes of each list of buffers.
-//!
-//! In the greatest plan the levels take 1.92 GB, the chains (hash tables by which joins find rows) 0.70 GB, and lists and keys 0.22 GB.
+//! Contracts use `IsRoomFor` and `IsRoomForKeys` for empty buffers that have room for some rows. The bytes of a list of buffers are `lists_bytes`
+//! by its numbers of rows, and `buffers_bytes` by its capacities.
 #![tactic(auto)]
 
-ghost use Rattle.std.specs.Prelude.{◌≡◌, ◌≤◌, List, ℕ, [], ◌∷◌};
-ghost use Rattle.std.specs.List.{AllZip};
-ghost use Rattle.reserve_plan.specs.declared.reserved.Reserved.{Reserved};
-ghost use Rattle.reserve_plan.specs.Examples.{least_bytes, six_and_five_bytes, two_entries};
-ghost use Rattle.reserve_plan.specs.Rooms.{rooms, HasRooms};
+ghost use Rattle.std.specs.Prelude.{◌≡◌};
+ghost use Rattle.reserve_plan.specs.Examples.{six_and_five_rows, six_and_no_keys};
 
 mod memory;
-mod reserved;
 mod reserving;
 
-pub use memory::{lists_memory, plan_memory, plans_take_few_bytes, row_chain_bytes, total};
-pub use reserved::{CHAINS_BYTES, Reserved};
-pub use reserving::{empty_chains, greatest, reserve, row_buffers};
+pub use memory::{CHAINS_BYTES, lists_memory, row_chain_bytes, total};
+pub use reserving::{empty_chains, row_buffers};
 
-/// Buffers with room for some numbers of rows have room for lower numbers, too. The call does nothing.
-pub fn less_needs_less_room()
-    ensures { (order lists levels more_in_lists more_in_levels : List ℕ) (reserved : Reserved)
-        → AllZip ◌≤◌ lists more_in_lists → AllZip ◌≤◌ levels more_in_levels
-        → HasRooms (rooms order more_in_lists more_in_levels) reserved → HasRooms (rooms order lists levels) reserved }
-{}
-
-/// The rooms of a plan of two entries, and the bytes of two plans. The call does nothing.
+/// The bytes of small lists of buffers. The call does nothing.
 ///
-/// The plan of six and five rows takes 44 bytes for lists, 96 for the chain, 136 for levels, 8 for row numbers and 48 for keys. Its lists of
-/// buffers take 64 bytes for row numbers, 96 for chains and 64 for levels.
+/// Lists of 6 and 5 rows take 44 bytes for the rows and 64 for the list of buffers. Chains of 6 rows take 96 bytes, chains of no rows take 4, and
+/// the list of both chains takes 192.
 pub fn examples()
-    ensures chains { two_entries.chains ≡ 6 ∷ [] }
-    ensures levels { two_entries.levels ≡ 0 ∷ 12 ∷ [] }
-    ensures row { two_entries.row ≡ 2 }
-    ensures keys { two_entries.keys ≡ 6 }
-    ensures bytes { six_and_five_bytes ≡ 556 }
-    ensures least { least_bytes ≡ 68 }
+    ensures rows { six_and_five_rows ≡ 108 }
+    ensures keys { six_and_no_keys ≡ 292 }
 {}

@@ -55,9 +55,8 @@ fn put_quoted<N: Sink>(field: &[u8], buffer: &mut Buffer, sink: &mut N) -> Resul
     buffer.put(sink, QUOTE)
 }
 
-/// Writes a field of a record that has several fields. A field that holds a comma, CR, LF or a double quote is put in double quotes, and each
-/// double quote in the field is doubled. On `Failed`, the sink has taken a prefix of this text: what waited in the buffer, and then the
-/// field's text.
+/// Writes a field of a record that has several fields. A field that holds a comma, CR, LF or a double quote is put in double quotes. Each double
+/// quote in the field is then doubled. On `Failed`, the sink has taken a prefix of this text: what waited in the buffer, and then the field's text.
 pub fn put_field<N: Sink>(field: &[u8], buffer: &mut Buffer, sink: &mut N) -> Result<(), Failed>
     ensures { WroteBuffered (growth N.taken N.faults sink.old sink.new) buffer.old buffer.new (field_text field.now) result }
 {

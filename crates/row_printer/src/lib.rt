@@ -3,7 +3,7 @@
 //! A caller writes a record field by field. It calls `put_field` for each field, `put_comma` between two fields, and `put_record_end`
 //! at the end. A record with only one field is written by `put_only_field` and `put_record_end`.
 //!
-//! Callers cite `field_text` and `record_text` (in `specs/Fields.antt`). They say how a field is quoted and how a record ends.
+//! Contracts use `field_text` and `record_text` (in `specs/Fields.antt`), which say how a field is quoted and how a record ends.
 #![tactic(auto)]
 
 mod cases;

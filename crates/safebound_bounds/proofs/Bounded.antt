@@ -1,4 +1,5 @@
--- If the values of a call are right, each set has the lists that its bound needs, the bounds are those of the definition, and no bound is too low.
+-- Suppose that the values of a call are valid. Then each set has the lists that its bound needs. The bounds are those of the definition, and no bound
+-- is too low.
 use Rattle.std.proofs.Common.{◌≡◌, ◌⊎◌, inl, inr, ℕ, zero, suc, ◌+◌, ◌-◌, ◌<◌, ◌≤◌, ◌^◌, Bool, true, false, cond, eqb, List, [], ◌∷◌, ◌++◌, map, length, drop, get_or, Option, Some, None, option_map, find, refl, ap, sym, ◌∙◌, subst, sum, arith}
 use Rattle.std.specs.Prelude.{IsSome, IfOk, OnOk, Result, Ok, Err, unwrap_or}
 use Rattle.std.specs.List.{AllByRecursion, list_any, range_with_len}
@@ -15,23 +16,23 @@ use Rattle.tree_bounds.specs.SetBounds.{SetHasLists, bound_of_set}
 use Rattle.tree_bounds.specs.Tables.{ChoicesAreDifferent}
 use Rattle.tree_bounds.specs.TreeBounds.{EntryBounds, HasList}
 use Rattle.bound_fold.specs.declared.lists.EntryLists.{EntryLists}
-use Rattle.bound_fold.specs.Lists.{list_of as list_held, rows_of}
+use Rattle.bound_fold.specs.Lists.{list_of as list_held, row_bound_of}
 use Rattle.bound_fold.specs.Sets.{SetHasBounds}
 use Rattle.bound_fold.proofs.TestedSets.{each_in_set, each_named}
 use Rattle.set_bounds.specs.AllSets.{bound_in_128_bits, bounds_in_sets, bounds_of_sets}
 use Rattle.safebound_lists.specs.declared.runs.Run.{Run}
-use Rattle.safebound_lists.specs.Runs.{AreRight, list_of}
+use Rattle.safebound_lists.specs.Runs.{AreValid, list_of}
 use Rattle.safebound_lists.specs.Written.{RoomBeginsWith}
 use Rattle.entry_sets.proofs.Listing.{entry_below}
 use Rattle.safebound_bounds.specs.declared.arguments.ColumnList.{ColumnList}
 use Rattle.safebound_bounds.specs.declared.arguments.Equality.{Equality}
 use Rattle.safebound_bounds.specs.Arguments.{equality_at, is_of, list_at, runs_of}
-use Rattle.safebound_bounds.specs.Causes.{IsRight}
+use Rattle.safebound_bounds.specs.Causes.{AreArgumentsValid}
 use Rattle.safebound_bounds.specs.Listed.{HoldsListed}
 use Rattle.safebound_bounds.specs.InSets.{CoversRows}
-use Rattle.safebound_bounds.specs.Meaning.{all_bounds, bound_in, edge_of, edges_of, fitted, fitted_if, given_list, known, known_in, list_if, in_64_bits, no_bound, rows_in_set, joinable_rows, rows_with_value}
+use Rattle.safebound_bounds.specs.Meaning.{all_bounds, bound_in, edge_of, edges_of, fitted, fitted_if, given_list, known, known_in, decoded_list, in_64_bits, no_bound, rows_in_set, joinable_rows, rows_with_value}
 use Rattle.safebound_bounds.specs.Values.{SatisfiesValues, ValuedTables, ValuesFit}
-use Rattle.safebound_bounds.proofs.Fitting.{fitted_falls, fitted_sum, right_falls}
+use Rattle.safebound_bounds.proofs.Fitting.{fitted_falls, fitted_sum, valid_runs_descend}
 use Rattle.safebound_bounds.proofs.Holding.{found, rows_there}
 use Rattle.safebound_bounds.proofs.Joined.{joined_within}
 use Rattle.safebound_bounds.proofs.JoinableRows.{HasAtLeast, all_rows, met_at_least, joinable_at_most, right_in_set}
@@ -56,13 +57,13 @@ found_at entry column (x ∷ lists) P each l e = by (is_of entry column x) refl 
         (subst P same (each 0 (omega arith)), subst (λ (y : ColumnList). is_of entry column y ≡ true) same is)
     by false is h rest = rest h
 
-module _ (rows : List ℕ) (equalities : List Equality) (lists : List ColumnList) (runs : List Run) (right : IsRight rows equalities lists runs) where
-  given_right : (entry column : ℕ) → list_any (is_of entry column) lists ≡ true → (l : ColumnList) × (find (is_of entry column) lists ≡ Some l) × AreRight (runs_of runs l)
+module _ (rows : List ℕ) (equalities : List Equality) (lists : List ColumnList) (runs : List Run) (right : AreArgumentsValid rows equalities lists runs) where
+  given_right : (entry column : ℕ) → list_any (is_of entry column) lists ≡ true → (l : ColumnList) × (find (is_of entry column) lists ≡ Some l) × AreValid (runs_of runs l)
   given_right entry column any = by (find (is_of entry column) lists) refl (found entry column lists any)
     where
-      by : (o : Option ColumnList) → find (is_of entry column) lists ≡ o → IsSome o → (l : ColumnList) × (find (is_of entry column) lists ≡ Some l) × AreRight (runs_of runs l)
+      by : (o : Option ColumnList) → find (is_of entry column) lists ≡ o → IsSome o → (l : ColumnList) × (find (is_of entry column) lists ≡ Some l) × AreValid (runs_of runs l)
       by None is some = absurd (cc some)
-      by (Some l) is some = (l, is, (found_at entry column lists (λ x. AreRight (runs_of runs x)) right.runs_right l is).0)
+      by (Some l) is some = (l, is, (found_at entry column lists (λ x. AreValid (runs_of runs x)) right.runs_right l is).0)
 
   -- ---- both columns of each equality have a list
 
@@ -88,8 +89,8 @@ module _ (rows : List ℕ) (equalities : List Equality) (lists : List ColumnList
 
   pub all_listed : (held : EntryLists) → HoldsListed rows (length rows) lists runs held → SetHasBounds held (edges_of equalities) (2 ^ length rows - 1)
   all_listed held h = record {
-    rows = each_in_set (λ k. IsSome (rows_of held k)) (2 ^ length rows - 1) (λ k low has.
-        some_of (rows_of held k) (get_or rows k 0) (rows_there rows (length rows) lists runs held h k
+    rows = each_in_set (λ k. IsSome (row_bound_of held k)) (2 ^ length rows - 1) (λ k low has.
+        some_of (row_bound_of held k) (get_or rows k 0) (rows_there rows (length rows) lists runs held h k
         (entry_below (length rows) (2 ^ length rows - 1) k (omega (arith, pow_pos (length rows))) has)));
     columns = each_named (λ entry column. IsSome (list_held held entry column)) (2 ^ length rows - 1) (edges_of equalities)
         (λ k d low joins. both_listed (λ entry column. IsSome (list_held held entry column)) (held_there held h) k d low);
@@ -99,16 +100,16 @@ module _ (rows : List ℕ) (equalities : List Equality) (lists : List ColumnList
       held_there held h entry column low any =
           let l = given_right entry column any in
           some_of (list_held held entry column) (fitted (get_or rows entry 0) (list_of (runs_of runs l.0)))
-          (h.columns entry column ∙ ap (λ (o : Option ColumnList). option_map (fitted (get_or rows entry 0)) (list_if runs o)) l.1)
+          (h.columns entry column ∙ ap (λ (o : Option ColumnList). option_map (fitted (get_or rows entry 0)) (decoded_list runs o)) l.1)
 
   known_list : (entry column : ℕ) (l : ColumnList) → find (is_of entry column) lists ≡ Some l → (known rows lists runs).list entry column ≡ fitted (get_or rows entry 0) (list_of (runs_of runs l))
-  known_list entry column l is = ap (λ (o : Option ColumnList). fitted_if (get_or rows entry 0) (list_if runs o)) is
+  known_list entry column l is = ap (λ (o : Option ColumnList). fitted_if (get_or rows entry 0) (decoded_list runs o)) is
 
   has_list : (entry column : ℕ) → entry < length rows → list_any (is_of entry column) lists ≡ true → HasList (known rows lists runs) entry column
   has_list entry column low any =
       let l = given_right entry column any in
       record {
-        falls = rw (known_list entry column l.0 l.1) (fitted_falls (get_or rows entry 0) (list_of (runs_of runs l.0)) (right_falls (runs_of runs l.0) l.2));
+        falls = rw (known_list entry column l.0 l.1) (fitted_falls (get_or rows entry 0) (list_of (runs_of runs l.0)) (valid_runs_descend (runs_of runs l.0) l.2));
         total = rw (known_list entry column l.0 l.1) (fitted_sum (get_or rows entry 0) (list_of (runs_of runs l.0)));
       }
 
@@ -118,7 +119,7 @@ module _ (rows : List ℕ) (equalities : List Equality) (lists : List ColumnList
 
 -- ---- no bound is too low
 
-module _ (rows : List ℕ) (equalities : List Equality) (lists : List ColumnList) (runs : List Run) (right : IsRight rows equalities lists runs) where
+module _ (rows : List ℕ) (equalities : List Equality) (lists : List ColumnList) (runs : List Run) (right : AreArgumentsValid rows equalities lists runs) where
   pub set_within : (subset : ℕ) (tables : ValuedTables) → ValuesFit rows (given_list lists runs) tables (edges_of equalities) subset → (choices : List (ℕ → ℕ))
       → AllByRecursion (SatisfiesValues tables (entries_of_set subset) (equalities_within subset (edges_of equalities))) choices
       → ChoicesAreDifferent (entries_of_set subset) choices → length choices ≤ bound_of_set (known_in rows lists runs (edges_of equalities) subset) (edges_of equalities) subset
@@ -174,7 +175,7 @@ told_in_room b es n old new count filled subset fits =
     front (x ∷ xs) ys zero low = refl
     front (x ∷ xs) ys (suc k) low = front xs ys k (omega arith)
 
-module _ (rows : List ℕ) (equalities : List Equality) (lists : List ColumnList) (runs : List Run) (right : IsRight rows equalities lists runs) where
+module _ (rows : List ℕ) (equalities : List Equality) (lists : List ColumnList) (runs : List Run) (right : AreArgumentsValid rows equalities lists runs) where
   pub room_never_under : (old new : List ℕ) (count : ℕ)
       → RoomBeginsWith (all_bounds (known_in rows lists runs (edges_of equalities)) (edges_of equalities) (length rows)) old new count
       → (subset : ℕ) → subset < 2 ^ length rows → (tables : ValuedTables) → ValuesFit rows (given_list lists runs) tables (edges_of equalities) subset → (choices : List (ℕ → ℕ))
@@ -203,14 +204,14 @@ module _ (rows : List ℕ) (equalities : List Equality) (lists : List ColumnList
 
 -- ---- if the sum of every list is at least its entry's row bound, row bounds and lists are the same in every set
 
-module _ (rows : List ℕ) (equalities : List Equality) (lists : List ColumnList) (runs : List Run) (right : IsRight rows equalities lists runs)
+module _ (rows : List ℕ) (equalities : List Equality) (lists : List ColumnList) (runs : List Run) (right : AreArgumentsValid rows equalities lists runs)
     (full : (i : ℕ) → i < length lists → CoversRows rows runs (list_at lists i)) where
   column_full : (entry column : ℕ) → list_any (is_of entry column) lists ≡ true → get_or rows entry 0 ≤ rows_with_value lists runs (record { entry = entry; column = column })
   column_full entry column any =
       let l = given_right rows equalities lists runs right entry column any in
       let found : CoversRows rows runs l.0 × (is_of entry column l.0 ≡ true) = found_at entry column lists (CoversRows rows runs) full l.0 l.1 in
       let same : l.0.entry ≡ entry = eqb-true l.0.entry entry (and_parts (eqb l.0.entry entry) (eqb l.0.column column) found.1).0 in
-      let whole : sum (unwrap_or (given_list lists runs entry column) []) ≡ sum (list_of (runs_of runs l.0)) = ap (λ (o : Option ColumnList). sum (unwrap_or (list_if runs o) [])) l.1 in
+      let whole : sum (unwrap_or (given_list lists runs entry column) []) ≡ sum (list_of (runs_of runs l.0)) = ap (λ (o : Option ColumnList). sum (unwrap_or (decoded_list runs o) [])) l.1 in
       omega (arith, whole, found.0, ap (λ (k : ℕ). get_or rows k 0) same)
 
   pub all_keep_rows : (subset : ℕ) → known_in rows lists runs (edges_of equalities) subset ≡ known rows lists runs

@@ -1,4 +1,4 @@
--- Lemmas for the invariants of loops: on the first item that passes a test, on numbers below a limit, and on mapping the first i items.
+-- Lemmas for the invariants of loops. They are about the first item that passes a test, numbers below a limit, and the first i items mapped.
 use Rattle.std.proofs.Common.{◌≡◌, ℕ, zero, suc, ◌+◌, ◌<◌, ◌≤◌, Bool, true, false, cond, List, [], ◌∷◌, ◌++◌, length, take, drop, get_or, map, Some, None, find, refl, ap, sym, ◌∙◌, add-one, arith}
 use Rattle.std.proofs.lemmas.List.{take_more}
 

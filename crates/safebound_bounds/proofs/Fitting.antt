@@ -1,4 +1,4 @@
--- A list that is fitted to a number of rows is in descending order, its elements are positive, and its sum is the number of rows.
+-- A list that is fitted to a number of rows is in descending order. Its elements are positive, and its sum is the number of rows.
 use Rattle.std.proofs.Common.{◌≡◌, ℕ, zero, suc, ◌+◌, ◌-◌, ◌<◌, ◌≤◌, min, List, [], ◌∷◌, ◌++◌, length, take, get_or, replicate, ap, sym, ◌∙◌, subst, sum, arith}
 use Rattle.std.specs.List.{AllByRecursion}
 use Rattle.std.proofs.lemmas.List.{append-nil, take_all, take_more}
@@ -9,12 +9,12 @@ use Rattle.degree_sequences.specs.RunningSums.{cut_at}
 use Rattle.degree_sequences.proofs.Minima.{IsDescending-cut_at, running_sum-cut_at}
 use Rattle.degree_sequences.proofs.RunningSums.{running_sum-past}
 use Rattle.safebound_lists.specs.declared.runs.Run.{Run}
-use Rattle.safebound_lists.specs.Runs.{AreRight, list_of, no_run, run_at}
+use Rattle.safebound_lists.specs.Runs.{AreValid, list_of, no_run, run_at}
 use Rattle.safebound_lists.proofs.Following.{elements_at_least, list_of_more, no_more_than_sum}
 use Rattle.piece_math.proofs.Cutting.{positive-cut_at}
 use Rattle.safebound_bounds.specs.Meaning.{fitted}
 
--- ---- a descending list with a run of no larger elements at its end
+-- ---- a descending list, followed by a run whose element is at most every element before it
 
 run_falls : (n v : ℕ) → IsDescending (replicate n v)
 run_falls zero v r = omega arith
@@ -26,27 +26,27 @@ first_of_run : (n v : ℕ) → get_or (replicate n v) 0 0 ≤ v
 first_of_run zero v = omega arith
 first_of_run (suc n) v = omega arith
 
-pub falls_on : (s : List ℕ) (v n : ℕ) → IsDescending s → AllByRecursion (λ x. v ≤ x) s → IsDescending (s ++ replicate n v)
-falls_on [] v n fall all r = run_falls n v r
-falls_on (x ∷ []) v n fall all zero = omega (arith, first_of_run n v, all.0)
-falls_on (x ∷ (y ∷ s)) v n fall all zero = fall 0
-falls_on (x ∷ s) v n fall all (suc r) = falls_on s v n (λ k. fall (suc k)) all.1 r
+pub still_descending : (s : List ℕ) (v n : ℕ) → IsDescending s → AllByRecursion (λ x. v ≤ x) s → IsDescending (s ++ replicate n v)
+still_descending [] v n fall all r = run_falls n v r
+still_descending (x ∷ []) v n fall all zero = omega (arith, first_of_run n v, all.0)
+still_descending (x ∷ (y ∷ s)) v n fall all zero = fall 0
+still_descending (x ∷ s) v n fall all (suc r) = still_descending s v n (λ k. fall (suc k)) all.1 r
 
--- ---- the list that right runs stand for is in descending order
+-- ---- valid runs stand for a descending list
 
-front_falls : (runs : List Run) → AreRight runs → (n : ℕ) → n ≤ length runs → IsDescending (list_of (take n runs))
+front_falls : (runs : List Run) → AreValid runs → (n : ℕ) → n ≤ length runs → IsDescending (list_of (take n runs))
 front_falls runs right zero low r = omega arith
 front_falls runs right (suc n) low r =
     let here : n < length runs = omega arith in
     let next : suc n ≡ n + 1 = omega arith in
     let falls : IsDescending (list_of (take (suc n) runs)) =
     subst IsDescending (sym (ap (λ k. list_of (take k runs)) next ∙ ap list_of (take_more runs n no_run here) ∙ list_of_more (take n runs) (run_at runs n)))
-    (falls_on (list_of (take n runs)) (run_at runs n).degree (run_at runs n).keys (front_falls runs right n (omega arith))
+    (still_descending (list_of (take n runs)) (run_at runs n).degree (run_at runs n).keys (front_falls runs right n (omega arith))
     (elements_at_least (run_at runs n).degree (take n runs) (right n here).falls)) in
     falls r
 
-pub right_falls : (runs : List Run) → AreRight runs → IsDescending (list_of runs)
-right_falls runs right = subst (λ (s : List Run). IsDescending (list_of s)) (take_all (length runs) runs (omega arith)) (front_falls runs right (length runs) (omega arith))
+pub valid_runs_descend : (runs : List Run) → AreValid runs → IsDescending (list_of runs)
+valid_runs_descend runs right = subst (λ (s : List Run). IsDescending (list_of s)) (take_all (length runs) runs (omega arith)) (front_falls runs right (length runs) (omega arith))
 
 -- ---- the sum and the elements of a fitted list
 
@@ -70,13 +70,14 @@ one_or_more [] all = tt
 one_or_more (x ∷ s) all = (omega (arith, all.0), one_or_more s all.1)
 
 pub fitted_falls : (rows : ℕ) (s : List ℕ) → IsDescending s → IsDescending (fitted rows s)
-fitted_falls rows s fall = falls_on (cut_at s rows) 1 (rows - sum (cut_at s rows)) (IsDescending-cut_at s rows fall) (one_or_more (cut_at s rows) (positive-cut_at s rows fall))
+fitted_falls rows s fall = still_descending (cut_at s rows) 1 (rows - sum (cut_at s rows)) (IsDescending-cut_at s rows fall) (one_or_more (cut_at s rows) (positive-cut_at s rows fall))
 
 -- ---- the fitted list as the code makes it
 
--- The length of a list of positive elements is at most its sum. So the code can append a 1 for each row that isn't counted yet.
-pub no_longer : (s : List ℕ) → AllByRecursion (λ x. 0 < x) s → length s ≤ sum s
-no_longer s all = no_more_than_sum s (one_or_more s all)
+-- The length of a list of positive elements is at most its sum. So the cut list, with a 1 for each row that it doesn't count, has at most as many
+-- elements as there are rows.
+pub length_at_most_sum : (s : List ℕ) → AllByRecursion (λ x. 0 < x) s → length s ≤ sum s
+length_at_most_sum s all = no_more_than_sum s (one_or_more s all)
 
 pub made_full : (rows : ℕ) (s cut : List ℕ) → cut ≡ cut_at s rows → rows ≤ sum cut → cut ≡ fitted rows s
 made_full rows s cut is full =

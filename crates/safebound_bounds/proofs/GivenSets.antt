@@ -15,7 +15,7 @@ use Rattle.safebound_lists.specs.declared.runs.Run.{Run}
 use Rattle.safebound_bounds.specs.declared.arguments.ColumnList.{ColumnList}
 use Rattle.safebound_bounds.specs.declared.arguments.Equality.{Equality}
 use Rattle.safebound_bounds.specs.Arguments.{list_at}
-use Rattle.safebound_bounds.specs.Causes.{IsBoundsCause, IsRight, IsSetCause, IsWithinCause}
+use Rattle.safebound_bounds.specs.Causes.{IsBoundsCause, AreArgumentsValid, IsSetCause, IsWithinCause}
 use Rattle.safebound_bounds.specs.InSets.{CoversRows}
 use Rattle.safebound_bounds.specs.Listed.{HoldsListed}
 use Rattle.safebound_bounds.specs.Meaning.{edges_of, known, known_in, rows_in_set}
@@ -24,7 +24,7 @@ use Rattle.safebound_bounds.proofs.Holding.{bounds_known}
 use Rattle.safebound_bounds.proofs.InParts.{looks_at_parts}
 use Rattle.safebound_bounds.proofs.JoinableRows.{in_set_counted, right_in_set}
 
-module _ (rows : List ℕ) (equalities : List Equality) (lists : List ColumnList) (runs : List Run) (right : IsRight rows equalities lists runs) where
+module _ (rows : List ℕ) (equalities : List Equality) (lists : List ColumnList) (runs : List Run) (right : AreArgumentsValid rows equalities lists runs) where
   pub whole_listed : (held : EntryLists) (es : List Edge) → es ≡ edges_of equalities → HoldsListed rows (length rows) lists runs held → SetHasBounds held es (2 ^ length rows - 1)
   whole_listed held es same holds =
       subst (λ (fs : List Edge). SetHasBounds held fs (2 ^ length rows - 1)) (sym same) (all_listed rows equalities lists runs right held holds)
@@ -47,8 +47,8 @@ module _ (rows : List ℕ) (equalities : List Equality) (lists : List ColumnList
     made_are : made ≡ rows_in_set rows lists runs (edges_of equalities) subset
     made_are = are ∙ ap (λ (fs : List Edge). rows_in_set rows lists runs fs subset) (edges_are ∙ same)
 
-    pub right_here : IsRight made equalities lists runs
-    right_here = subst (λ (s : List ℕ). IsRight s equalities lists runs) (sym made_are) (right_in_set rows lists runs (edges_of equalities) subset equalities right)
+    pub right_here : AreArgumentsValid made equalities lists runs
+    right_here = subst (λ (s : List ℕ). AreArgumentsValid s equalities lists runs) (sym made_are) (right_in_set rows lists runs (edges_of equalities) subset equalities right)
 
     made_counted : length made ≡ length rows
     made_counted = ap length made_are ∙ in_set_counted rows lists runs (edges_of equalities) subset

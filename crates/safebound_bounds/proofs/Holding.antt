@@ -7,27 +7,27 @@ use Rattle.std.proofs.lemmas.Bool.{and_from, cases_lt, eq-eqb, eqb-false, eqb-tr
 use Rattle.std.proofs.lemmas.List.{get_or_past}
 use Rattle.tree_bounds.specs.TreeBounds.{EntryBounds}
 use Rattle.bound_fold.specs.declared.lists.EntryLists.{EntryLists}
-use Rattle.bound_fold.specs.Lists.{bounds_of, list_of as list_held, rows_of}
+use Rattle.bound_fold.specs.Lists.{bounds_of, list_of as list_held, row_bound_of}
 use Rattle.safebound_lists.specs.declared.runs.Run.{Run}
 use Rattle.safebound_lists.specs.Runs.{list_of}
 use Rattle.safebound_bounds.specs.declared.arguments.ColumnList.{ColumnList}
 use Rattle.safebound_bounds.specs.Arguments.{is_of, runs_of}
 use Rattle.safebound_bounds.specs.Listed.{HoldsListed}
-use Rattle.safebound_bounds.specs.Meaning.{fitted, fitted_if, given_list, known, list_if}
+use Rattle.safebound_bounds.specs.Meaning.{fitted, fitted_if, given_list, known, decoded_list}
 
 -- ---- adding the row bounds
 
 choose : {X : Type 0} (a b : Bool) (x : X) → a ≡ b → (if a then Some x else None) ≡ (if b then Some x else None)
 choose a b x e = ap (λ (t : Bool). if t then Some x else None) e
 
-pub none_held : (rows : List ℕ) (held : EntryLists) → ((entry : ℕ) → rows_of held entry ≡ None) → ((entry column : ℕ) → list_held held entry column ≡ None) → HoldsListed rows 0 [] [] held
+pub none_held : (rows : List ℕ) (held : EntryLists) → ((entry : ℕ) → row_bound_of held entry ≡ None) → ((entry column : ℕ) → list_held held entry column ≡ None) → HoldsListed rows 0 [] [] held
 none_held rows held no_rows no_lists = record {
   entries = λ entry. no_rows entry ∙ choose false (ltb entry 0) (get_or rows entry 0) (sym (le-ltb entry 0 (omega arith)));
   columns = λ entry column. no_lists entry column;
 }
 
-pub rows_more : (rows : List ℕ) (i bound : ℕ) (old new : EntryLists) → HoldsListed rows i [] [] old → bound ≡ get_or rows i 0 → rows_of new i ≡ Some bound
-    → ((other : ℕ) → other ≢ i → rows_of new other ≡ rows_of old other) → ((entry column : ℕ) → list_held new entry column ≡ list_held old entry column) → HoldsListed rows (i + 1) [] [] new
+pub rows_more : (rows : List ℕ) (i bound : ℕ) (old new : EntryLists) → HoldsListed rows i [] [] old → bound ≡ get_or rows i 0 → row_bound_of new i ≡ Some bound
+    → ((other : ℕ) → other ≢ i → row_bound_of new other ≡ row_bound_of old other) → ((entry column : ℕ) → list_held new entry column ≡ list_held old entry column) → HoldsListed rows (i + 1) [] [] new
 rows_more rows i bound old new held is set others lists = record {
   entries = λ entry. elim (cases_lt entry i) [
     | inl below ↦ others entry (omega arith) ∙ held.entries entry
@@ -41,12 +41,12 @@ rows_more rows i bound old new held is set others lists = record {
   columns = λ entry column. lists entry column ∙ held.columns entry column;
 }
   where
-    here : (entry : ℕ) → entry ≡ i → rows_of new entry ≡ (if ltb entry (i + 1) then Some (get_or rows entry 0) else None)
+    here : (entry : ℕ) → entry ≡ i → row_bound_of new entry ≡ (if ltb entry (i + 1) then Some (get_or rows entry 0) else None)
     here entry same =
-        ap (rows_of new) same ∙ set ∙ ap Some (is ∙ ap (λ k. get_or rows k 0) (sym same))
+        ap (row_bound_of new) same ∙ set ∙ ap Some (is ∙ ap (λ k. get_or rows k 0) (sym same))
         ∙ choose true (ltb entry (i + 1)) (get_or rows entry 0) (sym (lt-ltb entry (i + 1) (omega arith)))
 
-pub rows_there : (rows : List ℕ) (n : ℕ) (lists : List ColumnList) (runs : List Run) (held : EntryLists) → HoldsListed rows n lists runs held → (entry : ℕ) → entry < n → rows_of held entry ≡ Some (get_or rows entry 0)
+pub rows_there : (rows : List ℕ) (n : ℕ) (lists : List ColumnList) (runs : List Run) (held : EntryLists) → HoldsListed rows n lists runs held → (entry : ℕ) → entry < n → row_bound_of held entry ≡ Some (get_or rows entry 0)
 rows_there rows n lists runs held h entry low = h.entries entry ∙ choose (ltb entry n) true (get_or rows entry 0) (lt-ltb entry n low)
 
 pub without_lists : (rows : List ℕ) (n : ℕ) (runs : List Run) (held : EntryLists) → HoldsListed rows n [] [] held → HoldsListed rows n [] runs held
@@ -91,14 +91,14 @@ found entry column (l ∷ lists) any = by (is_of entry column l) any (λ h. foun
 pub not_held : (rows : List ℕ) (n : ℕ) (lists : List ColumnList) (runs : List Run) (held : EntryLists) (entry column : ℕ) → HoldsListed rows n lists runs held
     → list_any (is_of entry column) lists ≡ false → list_held held entry column ≡ None
 not_held rows n lists runs held entry column h none =
-    h.columns entry column ∙ ap (λ (o : Option ColumnList). option_map (fitted (get_or rows entry 0)) (list_if runs o)) (find_none entry column lists none)
+    h.columns entry column ∙ ap (λ (o : Option ColumnList). option_map (fitted (get_or rows entry 0)) (decoded_list runs o)) (find_none entry column lists none)
 
 module _ (rows : List ℕ) (n : ℕ) (lists : List ColumnList) (runs : List Run) (x : ColumnList) (old new : EntryLists) (fitting : List ℕ) where
   pub list_more : HoldsListed rows n lists runs old → list_any (is_of x.entry x.column) lists ≡ false
       → fitting ≡ fitted (get_or rows x.entry 0) (list_of (runs_of runs x))
       → list_held new x.entry x.column ≡ Some fitting
       → ((entry column : ℕ) → ((entry ≢ x.entry) ⊎ (column ≢ x.column)) → list_held new entry column ≡ list_held old entry column)
-      → ((entry : ℕ) → rows_of new entry ≡ rows_of old entry) → HoldsListed rows n (lists ++ x ∷ []) runs new
+      → ((entry : ℕ) → row_bound_of new entry ≡ row_bound_of old entry) → HoldsListed rows n (lists ++ x ∷ []) runs new
   list_more h once is set others same_rows = record {
     entries = λ entry. same_rows entry ∙ h.entries entry;
     columns = λ entry column. at entry column (eqb x.entry entry) (eqb x.column column) refl refl;
@@ -110,7 +110,7 @@ module _ (rows : List ℕ) (n : ℕ) (lists : List ColumnList) (runs : List Run)
       here : Held x.entry x.column
       here =
           set ∙ ap Some is
-          ∙ ap (λ (o : Option ColumnList). option_map (fitted (get_or rows x.entry 0)) (list_if runs o))
+          ∙ ap (λ (o : Option ColumnList). option_map (fitted (get_or rows x.entry 0)) (decoded_list runs o))
           (sym (find_last x.entry x.column lists x once (and_from (eqb x.entry x.entry) (eqb x.column x.column) (eq-eqb x.entry x.entry refl) (eq-eqb x.column x.column refl))))
 
       there : (entry column : ℕ) → x.entry ≡ entry → x.column ≡ column → Held entry column
@@ -119,7 +119,7 @@ module _ (rows : List ℕ) (n : ℕ) (lists : List ColumnList) (runs : List Run)
       apart : (entry column : ℕ) → is_of entry column x ≡ false → ((entry ≢ x.entry) ⊎ (column ≢ x.column)) → Held entry column
       apart entry column e ne =
           others entry column ne ∙ h.columns entry column
-          ∙ ap (λ (o : Option ColumnList). option_map (fitted (get_or rows entry 0)) (list_if runs o)) (sym (find_other entry column lists x e))
+          ∙ ap (λ (o : Option ColumnList). option_map (fitted (get_or rows entry 0)) (decoded_list runs o)) (sym (find_other entry column lists x e))
 
       at : (entry column : ℕ) (s t : Bool) → eqb x.entry entry ≡ s → eqb x.column column ≡ t → Held entry column
       at entry column true true e f = there entry column (eqb-true x.entry entry e) (eqb-true x.column column f)
@@ -136,7 +136,7 @@ bounds_known rows lists runs held h =
     made : (ℕ → ℕ) → (ℕ → ℕ → List ℕ) → EntryBounds
     made r list = record { rows = r; list = list }
 
-    same_rows : (entry : ℕ) → unwrap_or (rows_of held entry) 0 ≡ get_or rows entry 0
+    same_rows : (entry : ℕ) → unwrap_or (row_bound_of held entry) 0 ≡ get_or rows entry 0
     same_rows entry = ap (λ (o : Option ℕ). unwrap_or o 0) (h.entries entry) ∙ elim (cases_lt entry (length rows)) [
       | inl below ↦ ap (λ (t : Bool). unwrap_or (if t then Some (get_or rows entry 0) else None) 0) (lt-ltb entry (length rows) below)
       | inr past ↦ ap (λ (t : Bool). unwrap_or (if t then Some (get_or rows entry 0) else None) 0) (le-ltb entry (length rows) past)

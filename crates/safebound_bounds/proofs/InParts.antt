@@ -7,7 +7,7 @@ use Rattle.std.proofs.lemmas.Bool.{and_parts, cases_lt, eqb-true, false≢true}
 use Rattle.degree_sequences.specs.Saturation.{saturated}
 use Rattle.berge_tree.specs.declared.edges.Edge.{Edge}
 use Rattle.berge_tree.specs.declared.edges.Place.{Place}
-use Rattle.entry_sets.specs.Sets.{IsWithin, has_entry}
+use Rattle.entry_sets.specs.Sets.{IsSubset, has_entry}
 use Rattle.join_graph.specs.Kept.{equalities_within, joins_within}
 use Rattle.bound_fold.proofs.TestedSets.{each_in_set, each_named}
 use Rattle.set_bounds.specs.AllSets.{bound_in_128_bits}
@@ -21,7 +21,7 @@ use Rattle.safebound_bounds.proofs.SameBounds.{HaveOneBound, HaveOneList, same_b
 
 -- ---- the row bound of an entry of a part
 
-module _ (lists : List ColumnList) (runs : List Run) (subset part : ℕ) (within : IsWithin part subset) (entry : ℕ) (has : has_entry part entry ≡ true) where
+module _ (lists : List ColumnList) (runs : List Run) (subset part : ℕ) (within : IsSubset part subset) (entry : ℕ) (has : has_entry part entry ≡ true) where
   abbrev OnOneSide : Edge → Type 0
   OnOneSide e = has_entry part e.left.entry ≡ has_entry part e.right.entry
 
@@ -57,7 +57,7 @@ module _ (lists : List ColumnList) (runs : List Run) (subset part : ℕ) (within
 -- ---- the row bounds and lists of all entries of a part, and of the other entries
 
 module _ (rows : List ℕ) (lists : List ColumnList) (runs : List Run) (es : List Edge) where
-  module _ (subset part : ℕ) (within : IsWithin part subset) (unjoined : AreUnjoined es subset part) where
+  module _ (subset part : ℕ) (within : IsSubset part subset) (unjoined : AreUnjoined es subset part) where
     same_rows : (entry : ℕ) → has_entry part entry ≡ true → get_or (rows_in_set rows lists runs es part) entry 0 ≡ get_or (rows_in_set rows lists runs es subset) entry 0
     same_rows entry has = elim (cases_lt entry (length rows)) [
       | inl low ↦ in_set_at rows lists runs es part entry low
@@ -80,7 +80,7 @@ module _ (rows : List ℕ) (lists : List ColumnList) (runs : List Run) (es : Lis
         (same_list e.left.entry e.left.column both.0, same_list e.right.entry e.right.column both.1))))
 
   module _ (subset part rest : ℕ) (others : (entry : ℕ) → has_entry rest entry ≡ (has_entry subset entry && not (has_entry part entry))) where
-    rest_within : IsWithin rest subset
+    rest_within : IsSubset rest subset
     rest_within entry has = (and_parts (has_entry subset entry) (not (has_entry part entry)) (sym (others entry) ∙ has)).0
 
     one_unjoined : (e : Edge) → joins_within subset e ≡ true → has_entry part e.left.entry ≡ has_entry part e.right.entry → has_entry rest e.left.entry ≡ has_entry rest e.right.entry

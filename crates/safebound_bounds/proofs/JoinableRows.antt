@@ -13,7 +13,7 @@ use Rattle.join_graph.specs.Kept.{equalities_within, joins_within}
 use Rattle.safebound_lists.specs.declared.runs.Run.{Run}
 use Rattle.safebound_bounds.specs.declared.arguments.ColumnList.{ColumnList}
 use Rattle.safebound_bounds.specs.declared.arguments.Equality.{Equality}
-use Rattle.safebound_bounds.specs.Causes.{AreEqualitiesRight, AreListsRight, IsRight}
+use Rattle.safebound_bounds.specs.Causes.{AreEqualitiesValid, AreListsValid, AreArgumentsValid}
 use Rattle.safebound_bounds.specs.Meaning.{at_most_with_value, rows_in_set, joinable_rows, rows_with_value}
 
 -- ---- the number for one entry
@@ -79,15 +79,15 @@ module _ (rows : List ℕ) (lists : List ColumnList) (runs : List Run) (es : Lis
     | inr past ↦ omega (arith, in_set_past entry past)
   ]
 
-  pub right_in_set : (equalities : List Equality) → IsRight rows equalities lists runs → IsRight (rows_in_set rows lists runs es subset) equalities lists runs
+  pub right_in_set : (equalities : List Equality) → AreArgumentsValid rows equalities lists runs → AreArgumentsValid (rows_in_set rows lists runs es subset) equalities lists runs
   right_in_set equalities right = record {
     rows_right = record {
       some = omega (arith, in_set_counted, right.rows_right.some);
       few = omega (arith, in_set_counted, right.rows_right.few);
       each = λ i low. omega (arith, in_set_at_most i, right.rows_right.each i (omega (arith, low, in_set_counted)));
     };
-    equalities_right = subst (λ (n : ℕ). AreEqualitiesRight n equalities) (sym in_set_counted) right.equalities_right;
-    lists_right = subst (λ (n : ℕ). AreListsRight n (length runs) lists) (sym in_set_counted) right.lists_right;
+    equalities_right = subst (λ (n : ℕ). AreEqualitiesValid n equalities) (sym in_set_counted) right.equalities_right;
+    lists_right = subst (λ (n : ℕ). AreListsValid n (length runs) lists) (sym in_set_counted) right.lists_right;
     runs_right = right.runs_right;
     listed = right.listed;
   }

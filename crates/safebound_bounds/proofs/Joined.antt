@@ -130,8 +130,8 @@ module _ (tables : ValuedTables) where
     abbrev rows_with_values : ℕ → List ℕ
     rows_with_values = with_values own
 
-    -- Let a column be one that the set's equalities name. A key is at most as frequent among the rows with values as in the column, and these rows
-    -- are at most as many as the column's values.
+    -- Let a column be one that the set's equalities name. A key is at most as frequent among the rows with values as in the column. There are at most
+    -- as many of these rows as values in the column.
     few_keys : (p : Place) → Contains (places_of own) p
         → ((a : ℕ) → degree (map (key p.entry p.column) (rows_with_values p.entry)) a ≤ degree (present (tables.values p.entry p.column)) a)
         × (length (rows_with_values p.entry) ≤ length (present (tables.values p.entry p.column)))

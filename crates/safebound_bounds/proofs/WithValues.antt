@@ -98,7 +98,7 @@ module _ (t : ℕ → Bool) (key : ℕ → ℕ) where
       subst (λ (n : ℕ). get_or values k None ≡ Some (key n)) (sym same) (have k low (subst (λ (n : ℕ). t n ≡ true) same passes)) in
       (keys_no_more 0 values from_first, rows_no_more 0 values from_first)
 
--- ---- lists that dominate
+-- ---- lists that dominate the keys of these rows
 
 weighs_within : (keys picked : List ℕ) → IsDistinct eqb picked → sum_by (degree keys) picked ≤ length keys
 weighs_within keys picked distinct =

@@ -1,17 +1,17 @@
--- When the values that a caller hands in for a query are right.
+-- When the values that a caller hands in for a query are valid.
 use Rattle.std.specs.Prelude.{◌≡◌, ◌≢◌, ℕ, ◌+◌, ◌-◌, ◌^◌, ◌<◌, ◌≤◌, Bool, true, false, ◌==◌, ◌&&◌, List, length, take, drop, slice_index, slice_index_or}
 use Rattle.std.specs.List.{list_any}
 use Rattle.limits.specs.Profile.{greatest_rows}
 use Rattle.safebound_lists.specs.declared.runs.Run.{Run}
 use Rattle.safebound_lists.specs.First.{IsFirstWrong}
-use Rattle.safebound_lists.specs.Runs.{AreRight, IsRightAt}
+use Rattle.safebound_lists.specs.Runs.{AreValid, IsValidAt}
 use Rattle.safebound_bounds.specs.declared.arguments.ColumnList.{ColumnList}
 use Rattle.safebound_bounds.specs.declared.arguments.Equality.{Equality}
 
 -- ---- row bounds
 
-abbrev pub IsRowsRightAt : List ℕ → ℕ → Type 0
-IsRowsRightAt rows i = slice_index rows i ≤ greatest_rows
+abbrev pub IsRowBoundValidAt : List ℕ → ℕ → Type 0
+IsRowBoundValidAt rows i = slice_index rows i ≤ greatest_rows
 
 -- ---- equalities
 
@@ -22,7 +22,7 @@ abbrev pub equality_at : List Equality → ℕ → Equality
 equality_at equalities i = slice_index_or equalities i default_equality
 
 -- both entries of the equality exist, and they are different
-pub record IsEqualityRight (entries : ℕ) (equality : Equality) : Type 0 where
+pub record IsEqualityValid (entries : ℕ) (equality : Equality) : Type 0 where
   pub left : equality.left_entry < entries
   pub right : equality.right_entry < entries
   pub two : equality.left_entry ≢ equality.right_entry
@@ -49,13 +49,13 @@ pub record RunsExist (runs : ℕ) (list : ColumnList) : Type 0 where
   pub marked : list.length ≡ 0 → list.first ≡ no_values
 
 -- the list's entry exists, its runs exist, and no earlier list is that of the same column
-pub record IsListRight (entries runs : ℕ) (before : List ColumnList) (list : ColumnList) : Type 0 where
+pub record IsListValid (entries runs : ℕ) (before : List ColumnList) (list : ColumnList) : Type 0 where
   pub entry : list.entry < entries
   pub runs_there : RunsExist runs list
   pub once : list_any (is_of list.entry list.column) before ≡ false
 
-abbrev pub IsListRightAt : ℕ → ℕ → List ColumnList → ℕ → Type 0
-IsListRightAt entries runs lists i = IsListRight entries runs (take i lists) (list_at lists i)
+abbrev pub IsListValidAt : ℕ → ℕ → List ColumnList → ℕ → Type 0
+IsListValidAt entries runs lists i = IsListValid entries runs (take i lists) (list_at lists i)
 
 -- ---- runs
 
@@ -63,15 +63,15 @@ IsListRightAt entries runs lists i = IsListRight entries runs (take i lists) (li
 abbrev pub runs_of : List Run → ColumnList → List Run
 runs_of runs list = take list.length (drop list.first runs)
 
-abbrev pub AreRunsRightAt : List ColumnList → List Run → ℕ → Type 0
-AreRunsRightAt lists runs i = AreRight (runs_of runs (list_at lists i))
+abbrev pub AreRunsValidAt : List ColumnList → List Run → ℕ → Type 0
+AreRunsValidAt lists runs i = AreValid (runs_of runs (list_at lists i))
 
--- of the first list that has a wrong run, the first wrong run. `place` is this run's index in the call's array of runs
+-- `place` is the index of an invalid run in the call's array of runs. It is the first invalid run of the first list that has one
 pub record IsWrongRun (lists : List ColumnList) (runs : List Run) (place : ℕ) : Type 0 where
   pub list : ℕ
-  pub first_list : IsFirstWrong (AreRunsRightAt lists runs) (length lists) list
+  pub first_list : IsFirstWrong (AreRunsValidAt lists runs) (length lists) list
   pub run : ℕ
-  pub first_run : IsFirstWrong (IsRightAt (runs_of runs (list_at lists list))) (length (runs_of runs (list_at lists list))) run
+  pub first_run : IsFirstWrong (IsValidAt (runs_of runs (list_at lists list))) (length (runs_of runs (list_at lists list))) run
   pub at : place ≡ (list_at lists list).first + run
 
 -- ---- both columns of an equality have a list

@@ -8,12 +8,12 @@ use Rattle.safebound_lists.specs.Runs.{list_of}
 use Rattle.safebound_bounds.specs.declared.arguments.ColumnList.{ColumnList}
 use Rattle.safebound_bounds.specs.declared.in_sets.Given.{Given}
 use Rattle.safebound_bounds.specs.Arguments.{runs_of}
-use Rattle.safebound_bounds.specs.Causes.{IsRight}
+use Rattle.safebound_bounds.specs.Causes.{AreArgumentsValid}
 use Rattle.safebound_bounds.specs.Meaning.{edges_of, known_in}
 
--- the values are right, `es` are their equalities, and the set is one of their entries
+-- the values are valid, `es` are their equalities, and the set's entries exist
 pub record AreGiven (given : Given) (es : List Edge) (subset : ℕ) : Type 0 where
-  pub right : IsRight given.rows.now given.equalities.now given.lists.now given.runs.now
+  pub right : AreArgumentsValid given.rows.now given.equalities.now given.lists.now given.runs.now
   pub edges : es ≡ edges_of given.equalities.now
   pub fits : subset < 2 ^ length given.rows.now
 

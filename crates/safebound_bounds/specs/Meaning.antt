@@ -29,12 +29,12 @@ abbrev pub fitted : ℕ → List ℕ → List ℕ
 fitted rows list = cut_at list rows ++ replicate (rows - sum (cut_at list rows)) 1
 
 -- the list that was handed in for a column: the first list of that column
-abbrev pub list_if : List Run → Option ColumnList → Option (List ℕ)
-list_if runs None = None
-list_if runs (Some list) = Some (list_of (runs_of runs list))
+abbrev pub decoded_list : List Run → Option ColumnList → Option (List ℕ)
+decoded_list runs None = None
+decoded_list runs (Some list) = Some (list_of (runs_of runs list))
 
 abbrev pub given_list : List ColumnList → List Run → ℕ → ℕ → Option (List ℕ)
-given_list lists runs entry column = list_if runs (find (is_of entry column) lists)
+given_list lists runs entry column = decoded_list runs (find (is_of entry column) lists)
 
 -- the row bounds and lists of entries with these numbers of rows
 abbrev pub fitted_if : ℕ → Option (List ℕ) → List ℕ
@@ -49,25 +49,26 @@ known rows lists runs = record {
 
 -- ---- row bounds and lists in a set
 
--- how many rows of an entry have a value in a column, at most: the sum of the column's list
+-- the most rows of an entry that may have a value in a column: the sum of the column's list
 abbrev pub rows_with_value : List ColumnList → List Run → Place → ℕ
 rows_with_value lists runs p = sum (unwrap_or (given_list lists runs p.entry p.column) [])
 
--- if the column at `p` is one of the entry's, the lesser of `rows` and the number of rows with a value in this column. Otherwise `rows`
+-- `rows`, if the column at `p` is a column of another entry. Otherwise the lesser of `rows` and the number of rows with a value in this column
 abbrev pub at_most_with_value : List ColumnList → List Run → ℕ → Place → ℕ → ℕ
 at_most_with_value lists runs entry p rows = if p.entry == entry then min rows (rows_with_value lists runs p) else rows
 
--- the least of these numbers: `rows`, and for each of the entry's columns that the equalities name, the number of rows with a value in it
+-- The least of several numbers: `rows`, and the number of rows with a value in each of the entry's columns that the equalities name
 abbrev pub joinable_rows : List ColumnList → List Run → ℕ → List Edge → ℕ → ℕ
 joinable_rows lists runs entry [] rows = rows
 joinable_rows lists runs entry (e ∷ es) rows = joinable_rows lists runs entry es (at_most_with_value lists runs entry e.right (at_most_with_value lists runs entry e.left rows))
 
--- for each entry, how many of its rows the equalities of a set can join at most. A row without a value matches no row
+-- for each entry the most of its rows that the equalities of a set can join. A row without a value matches no row
 abbrev pub rows_in_set : List ℕ → List ColumnList → List Run → List Edge → ℕ → List ℕ
 rows_in_set rows lists runs es subset =
     map (λ entry. joinable_rows lists runs entry (equalities_within subset es) (slice_index rows entry)) (range_with_len 0 (length rows))
 
--- the row bounds and lists of the entries in a set: the rows that the set's equalities can join, and lists that are fitted to these numbers of rows
+-- The row bounds and lists of the entries in a set. A row bound is the most rows that the set's equalities can join, and the entry's lists are fitted
+-- to it
 abbrev pub known_in : List ℕ → List ColumnList → List Run → List Edge → ℕ → EntryBounds
 known_in rows lists runs es subset = known (rows_in_set rows lists runs es subset) lists runs
 

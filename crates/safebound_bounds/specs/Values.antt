@@ -39,7 +39,7 @@ pub record FitsColumn (given : ℕ → ℕ → Option (List ℕ)) (tables : Valu
   pub values : DominatesKeys (unwrap_or (given entry column) []) (present (tables.values entry column))
   pub one_each : length (tables.values entry column) ≡ tables.rows entry
 
--- each entry of a set has at most as many rows as its row bound, and each column that an equality of the set names fits its list
+-- Each entry of a set has at most as many rows as its row bound. Each column that an equality of the set names fits its list
 pub record ValuesFit (rows : List ℕ) (given : ℕ → ℕ → Option (List ℕ)) (tables : ValuedTables) (es : List Edge) (subset : ℕ) : Type 0 where
   pub entries : AllByRecursion (λ entry. tables.rows entry ≤ slice_index rows entry) (entries_of_set subset)
   pub columns : EachNamedColumn (FitsColumn given tables) (equalities_within subset es)

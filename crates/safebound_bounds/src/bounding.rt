@@ -8,7 +8,7 @@ ghost use Rattle.safebound_lists.specs.declared.refusal.Refusal.TheVariants as r
 ghost use Rattle.safebound_lists.specs.Written.{RoomBeginsWith};
 ghost use Rattle.safebound_bounds.specs.Arguments.{list_at};
 ghost use Rattle.set_bounds.specs.AllSets.{bounds_in_sets as told_in_sets};
-ghost use Rattle.safebound_bounds.specs.Causes.{IsBoundsCause, IsRight, IsSetCause, IsWithinCause};
+ghost use Rattle.safebound_bounds.specs.Causes.{IsBoundsCause, AreArgumentsValid, IsSetCause, IsWithinCause};
 ghost use Rattle.safebound_bounds.specs.InSets.{CoversRows, known_by};
 ghost use Rattle.safebound_bounds.specs.Meaning.{all_bounds, bound_in, edges_of, given_list, known_in, in_64_bits, no_bound};
 ghost use Rattle.safebound_bounds.specs.Values.{SatisfiesValues, ValuedTables, ValuesFit};
@@ -24,22 +24,22 @@ use crate::work::work;
 use base_io::{NoMemory, Seq};
 use entry_sets::EntrySet;
 use join_graph::Parts;
-use limits::{MOST_CONJUNCTS, MOST_ENTRIES};
+use limits::{GREATEST_ENTRIES, MOST_CONJUNCTS};
 use safebound_lists::{Refusal, Run};
 use set_bounds::{KnownInSets, bounds_in_sets, bounds_of_sets};
 use std::alloc::Global;
 
-// Refuses the first value that is wrong.
+// Refuses the first invalid value.
 fn check_values(
     rows: &[u64],
     equalities: &[Equality],
     lists: &[ColumnList],
     runs: &[Run],
 ) -> Result<(), Refusal>
-    ensures right { OnOk result (IsRight rows.now equalities.now lists.now runs.now) }
+    ensures right { OnOk result (AreArgumentsValid rows.now equalities.now lists.now runs.now) }
     ensures wrong { (room : ℕ) → IfErr result (IsBoundsCause rows.now equalities.now lists.now runs.now room) }
 {
-    if rows.is_empty() || rows.len() > MOST_ENTRIES {
+    if rows.is_empty() || rows.len() > GREATEST_ENTRIES {
         return Err(Refusal::Entries {
             count: rows.len() as u64,
         });
@@ -82,7 +82,7 @@ fn bounds_if_lists_cover_rows(
     parts: &Parts,
     given: &Given,
 ) -> Result<Seq<u128>, NoMemory>
-    requires right { IsRight given.now.rows.now given.now.equalities.now given.now.lists.now given.now.runs.now }
+    requires right { AreArgumentsValid given.now.rows.now given.now.equalities.now given.now.lists.now given.now.runs.now }
     requires edges { parts.now.equalities ≡ edges_of given.now.equalities.now }
     requires full { (i : ℕ) → i < length given.now.lists.now → CoversRows given.now.rows.now given.now.runs.now (list_at given.now.lists.now i) }
     ensures { IfOk result (λ bounds. bounds ≡ told_in_sets (known_by given.now) parts.now.equalities (length given.now.rows.now)) }
@@ -93,7 +93,7 @@ fn bounds_if_lists_cover_rows(
 
 // The bounds of all sets. Rows may lack values.
 fn bounds_of_all_sets(alloc: Global, parts: &Parts, given: &Given) -> Result<Seq<u128>, NoMemory>
-    requires right { IsRight given.now.rows.now given.now.equalities.now given.now.lists.now given.now.runs.now }
+    requires right { AreArgumentsValid given.now.rows.now given.now.equalities.now given.now.lists.now given.now.runs.now }
     requires edges { parts.now.equalities ≡ edges_of given.now.equalities.now }
     ensures { IfOk result (λ bounds. bounds ≡ told_in_sets (known_by given.now) parts.now.equalities (length given.now.rows.now)) }
 {
@@ -119,9 +119,9 @@ fn write_bounds(bounds: &[u128], into: &mut [u64])
     }
 }
 
-// Writes the bounds of all sets, from values that are right.
+// Writes the bounds of all sets, from valid values.
 fn fill(alloc: Global, parts: &Parts, given: &Given, into: &mut [u64]) -> Result<u64, Refusal>
-    requires right { IsRight given.now.rows.now given.now.equalities.now given.now.lists.now given.now.runs.now }
+    requires right { AreArgumentsValid given.now.rows.now given.now.equalities.now given.now.lists.now given.now.runs.now }
     requires edges { parts.now.equalities ≡ edges_of given.now.equalities.now }
     requires room { 2 ^ length given.now.rows.now ≤ length into.old }
     ensures done { IfOk result (RoomBeginsWith (all_bounds (known_by given.now) (edges_of given.now.equalities.now) (length given.now.rows.now)) into.old into.new) }
@@ -133,7 +133,7 @@ fn fill(alloc: Global, parts: &Parts, given: &Given, into: &mut [u64]) -> Result
     Ok(bounds.len() as u64)
 }
 
-// Refuses wrong values, and a buffer that is too small for the bounds.
+// Refuses invalid values, and a buffer that is too small for the bounds.
 fn check_room(
     rows: &[u64],
     equalities: &[Equality],
@@ -141,7 +141,7 @@ fn check_room(
     runs: &[Run],
     room: usize,
 ) -> Result<(), Refusal>
-    ensures right { OnOk result (IsRight rows.now equalities.now lists.now runs.now) }
+    ensures right { OnOk result (AreArgumentsValid rows.now equalities.now lists.now runs.now) }
     ensures room { OnOk result (2 ^ length rows.now ≤ room) }
     ensures refused { IfErr result (IsBoundsCause rows.now equalities.now lists.now runs.now room) }
 {
@@ -158,8 +158,8 @@ fn check_room(
 /// Writes the bounds of all sets of entries, in rows. The bound of a set is written at the index whose bits are the set's entries. The result
 /// is how many bounds were written. A bound of 2^64 - 1 means 2^64 - 1 or more.
 ///
-/// No bound is too low, if the row bounds and lists fit the tables. Rows may lack values. Take the choices (one row for each entry of a set)
-/// that satisfy the set's equalities. They are at most as many as the set's bound (SafeBound, SIGMOD 2023; Degree Sequence Bound, ICDT 2023).
+/// No bound is too low, if the row bounds and lists fit the tables. Rows may lack values. Count the choices (one row for each entry of a set)
+/// that satisfy the set's equalities. There are at most as many as the set's bound (SafeBound, SIGMOD 2023; Degree Sequence Bound, ICDT 2023).
 /// A comparison with a missing value isn't true (SQL-92, 8.2).
 pub fn bounds(
     alloc: Global,
@@ -177,7 +177,7 @@ pub fn bounds(
         → AllByRecursion (SatisfiesValues tables (entries_of_set subset) (equalities_within subset (edges_of equalities.now))) choices
         → ChoicesAreDifferent (entries_of_set subset) choices
         → (length choices ≤ slice_index into.new subset) ⊎ (slice_index into.new subset ≡ no_bound)) }
-    ensures right { OnOk result (IsRight rows.now equalities.now lists.now runs.now) }
+    ensures right { OnOk result (AreArgumentsValid rows.now equalities.now lists.now runs.now) }
     ensures refused { IfErr result (IsBoundsCause rows.now equalities.now lists.now runs.now (length into.old)) }
     ensures kept { OnErr result (into.new ≡ into.old) }
 {
@@ -194,7 +194,7 @@ pub fn bounds(
 
 // Refuses a call whose work is above the limit.
 fn check_work(alloc: Global, parts: &Parts, given: &Given, limit: u64) -> Result<(), Refusal>
-    requires right { IsRight given.now.rows.now given.now.equalities.now given.now.lists.now given.now.runs.now }
+    requires right { AreArgumentsValid given.now.rows.now given.now.equalities.now given.now.lists.now given.now.runs.now }
     requires edges { parts.now.equalities ≡ edges_of given.now.equalities.now }
     ensures within { OnOk result (work_of given.now.lists.now (edges_of given.now.equalities.now) (length given.now.rows.now) ≤ limit) }
     ensures refused { (room : ℕ) → 2 ^ length given.now.rows.now ≤ room
@@ -227,7 +227,7 @@ pub fn bounds_within(
         → AllByRecursion (SatisfiesValues tables (entries_of_set subset) (equalities_within subset (edges_of equalities.now))) choices
         → ChoicesAreDifferent (entries_of_set subset) choices
         → (length choices ≤ slice_index into.new subset) ⊎ (slice_index into.new subset ≡ no_bound)) }
-    ensures right { OnOk result (IsRight rows.now equalities.now lists.now runs.now) }
+    ensures right { OnOk result (AreArgumentsValid rows.now equalities.now lists.now runs.now) }
     ensures within { OnOk result (work_of lists.now (edges_of equalities.now) (length rows.now) ≤ limit) }
     ensures refused { IfErr result (IsWithinCause rows.now equalities.now lists.now runs.now limit (length into.old)) }
     ensures kept { OnErr result (into.new ≡ into.old) }
@@ -260,7 +260,7 @@ pub fn set_bound(
         → AllByRecursion (SatisfiesValues tables (entries_of_set set) (equalities_within set (edges_of equalities.now))) choices
         → ChoicesAreDifferent (entries_of_set set) choices
         → (length choices ≤ bound) ⊎ (bound ≡ no_bound)) }
-    ensures right { OnOk result (IsRight rows.now equalities.now lists.now runs.now) }
+    ensures right { OnOk result (AreArgumentsValid rows.now equalities.now lists.now runs.now) }
     ensures there { OnOk result (set < 2 ^ length rows.now) }
     ensures refused { IfErr result (IsSetCause rows.now equalities.now lists.now runs.now set) }
 {

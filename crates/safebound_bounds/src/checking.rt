@@ -1,8 +1,8 @@
-//! Finds the first wrong value that a caller handed in. No function here allocates memory.
+//! Finds the first invalid value that a caller handed in. No function here allocates memory.
 ghost use Rattle.std.specs.Prelude.{◌≡◌, ◌<◌, ◌≤◌, ◌↔◌, ℕ, find, length, IsTrue, MatchOption};
 ghost use Rattle.std.specs.List.{list_any};
 ghost use Rattle.safebound_lists.specs.First.{IsFirstWrong};
-ghost use Rattle.safebound_bounds.specs.Arguments.{ColumnsHaveLists, AreRunsRightAt, RunsExist, IsEqualityRight, IsListRight, IsListRightAt, IsRowsRightAt, IsWrongRun, equality_at, is_of, list_at, runs_of};
+ghost use Rattle.safebound_bounds.specs.Arguments.{ColumnsHaveLists, AreRunsValidAt, RunsExist, IsEqualityValid, IsListValid, IsListValidAt, IsRowBoundValidAt, IsWrongRun, equality_at, is_of, list_at, runs_of};
 
 use crate::arguments::{ColumnList, Equality, NO_VALUES};
 use berge_tree::Place;
@@ -10,8 +10,8 @@ use limits::GREATEST_ROWS;
 use safebound_lists::{Run, first_wrong_run};
 
 pub(crate) fn first_wrong_rows(rows: &[u64]) -> Option<usize>
-    ensures { MatchOption result ((i : ℕ) → i < length rows.now → IsRowsRightAt rows.now i)
-        (IsFirstWrong (IsRowsRightAt rows.now) (length rows.now)) }
+    ensures { MatchOption result ((i : ℕ) → i < length rows.now → IsRowBoundValidAt rows.now i)
+        (IsFirstWrong (IsRowBoundValidAt rows.now) (length rows.now)) }
 {
     for (place, most) in rows.iter().enumerate() {
         if *most > GREATEST_ROWS {
@@ -22,7 +22,7 @@ pub(crate) fn first_wrong_rows(rows: &[u64]) -> Option<usize>
 }
 
 fn is_right(entries: usize, equality: Equality) -> bool
-    ensures { IsTrue result ↔ IsEqualityRight entries equality }
+    ensures { IsTrue result ↔ IsEqualityValid entries equality }
 {
     (equality.left_entry as usize) < entries
         && (equality.right_entry as usize) < entries
@@ -30,8 +30,8 @@ fn is_right(entries: usize, equality: Equality) -> bool
 }
 
 pub(crate) fn first_wrong_equality(entries: usize, equalities: &[Equality]) -> Option<usize>
-    ensures { MatchOption result ((i : ℕ) → i < length equalities.now → IsEqualityRight entries (equality_at equalities.now i))
-        (IsFirstWrong (λ i. IsEqualityRight entries (equality_at equalities.now i)) (length equalities.now)) }
+    ensures { MatchOption result ((i : ℕ) → i < length equalities.now → IsEqualityValid entries (equality_at equalities.now i))
+        (IsFirstWrong (λ i. IsEqualityValid entries (equality_at equalities.now i)) (length equalities.now)) }
 {
     for (place, equality) in equalities.iter().enumerate() {
         if !is_right(entries, *equality) {
@@ -41,7 +41,7 @@ pub(crate) fn first_wrong_equality(entries: usize, equalities: &[Equality]) -> O
     None
 }
 
-// Whether one of `lists` is that of the column.
+// Whether `lists` has a list of the column.
 fn is_listed(lists: &[ColumnList], entry: u32, column: u32) -> bool
     ensures { result ≡ list_any (is_of entry column) lists.now }
 {
@@ -60,7 +60,7 @@ fn are_runs_there(runs: usize, list: ColumnList) -> bool
 }
 
 fn is_list_right(entries: usize, runs: usize, before: &[ColumnList], list: ColumnList) -> bool
-    ensures { IsTrue result ↔ IsListRight entries runs before.now list }
+    ensures { IsTrue result ↔ IsListValid entries runs before.now list }
 {
     if list.entry as usize >= entries || !are_runs_there(runs, list) {
         return false;
@@ -69,8 +69,8 @@ fn is_list_right(entries: usize, runs: usize, before: &[ColumnList], list: Colum
 }
 
 pub(crate) fn first_wrong_list(entries: usize, runs: usize, lists: &[ColumnList]) -> Option<usize>
-    ensures { MatchOption result ((i : ℕ) → i < length lists.now → IsListRightAt entries runs lists.now i)
-        (IsFirstWrong (IsListRightAt entries runs lists.now) (length lists.now)) }
+    ensures { MatchOption result ((i : ℕ) → i < length lists.now → IsListValidAt entries runs lists.now i)
+        (IsFirstWrong (IsListValidAt entries runs lists.now) (length lists.now)) }
 {
     for (place, list) in lists.iter().enumerate() {
         if !is_list_right(entries, runs, &lists[..place], *list) {
@@ -111,7 +111,7 @@ pub(crate) fn own_runs<'a>(runs: &'a [Run], list: ColumnList) -> &'a [Run]
 
 pub(crate) fn first_wrong_run_of(lists: &[ColumnList], runs: &[Run]) -> Option<u64>
     requires { (i : ℕ) → i < length lists.now → RunsExist (length runs.now) (list_at lists.now i) }
-    ensures { MatchOption result ((i : ℕ) → i < length lists.now → AreRunsRightAt lists.now runs.now i) (IsWrongRun lists.now runs.now) }
+    ensures { MatchOption result ((i : ℕ) → i < length lists.now → AreRunsValidAt lists.now runs.now i) (IsWrongRun lists.now runs.now) }
 {
     for list in lists {
         let own = own_runs(runs, *list);

@@ -1,11 +1,11 @@
 //! The row bounds and lists of the entries in a set. If an equality of the set names a column, a row without a value in this column joins
-//! with no row, so the row isn't counted.
+//! with no row. So the row isn't counted.
 ghost use Rattle.std.specs.Prelude.{◌≡◌, ◌∷◌, [], ◌<◌, ◌≤◌, ℕ, length, true, IfOk};
 ghost use Rattle.std.specs.List.{sum};
-ghost use Rattle.limits.specs.Profile.{most_entries};
+ghost use Rattle.limits.specs.Profile.{greatest_entries};
 ghost use Rattle.join_graph.specs.Kept.{equalities_within};
-ghost use Rattle.safebound_lists.specs.Runs.{AreRight, list_of as list_of_runs};
-ghost use Rattle.safebound_bounds.specs.Arguments.{AreRunsRightAt, RunsExist, IsListRightAt, list_at, runs_of};
+ghost use Rattle.safebound_lists.specs.Runs.{AreValid, list_of as list_of_runs};
+ghost use Rattle.safebound_bounds.specs.Arguments.{AreRunsValidAt, RunsExist, IsListValidAt, list_at, runs_of};
 ghost use Rattle.safebound_bounds.specs.InSets.{AreGiven, CoversRows, known_by};
 ghost use Rattle.safebound_bounds.specs.Meaning.{at_most_with_value as fewer_there, rows_in_set as rows_of_set, joinable_rows as joinable_by, rows_with_value as with_value};
 
@@ -31,7 +31,7 @@ pub(crate) struct Given<'a> {
 
 // How many rows the runs count.
 fn total(runs: &[Run]) -> u64
-    requires { AreRight runs.now }
+    requires { AreValid runs.now }
     ensures { result ≡ sum (list_of_runs runs.now) }
 {
     let mut total = 0;
@@ -41,10 +41,10 @@ fn total(runs: &[Run]) -> u64
     total
 }
 
-// How many rows have a value in a column, at most.
+// The most rows that may have a value in a column.
 fn rows_with_value(lists: &[ColumnList], runs: &[Run], place: Place) -> u64
     requires there { (i : ℕ) → i < length lists.now → RunsExist (length runs.now) (list_at lists.now i) }
-    requires right { (i : ℕ) → i < length lists.now → AreRunsRightAt lists.now runs.now i }
+    requires right { (i : ℕ) → i < length lists.now → AreRunsValidAt lists.now runs.now i }
     ensures { result ≡ with_value lists.now runs.now place }
 {
     match list_of(lists, place) {
@@ -53,10 +53,10 @@ fn rows_with_value(lists: &[ColumnList], runs: &[Run], place: Place) -> u64
     }
 }
 
-// If the column at `place` is one of the entry's, the lesser of `rows` and the number of rows with a value in this column. Otherwise `rows`.
+// `rows`, if the column at `place` is a column of another entry. Otherwise the lesser of `rows` and the number of rows with a value in this column.
 fn at_most_with_value(lists: &[ColumnList], runs: &[Run], entry: u8, place: Place, rows: u64) -> u64
     requires there { (i : ℕ) → i < length lists.now → RunsExist (length runs.now) (list_at lists.now i) }
-    requires right { (i : ℕ) → i < length lists.now → AreRunsRightAt lists.now runs.now i }
+    requires right { (i : ℕ) → i < length lists.now → AreRunsValidAt lists.now runs.now i }
     ensures { result ≡ fewer_there lists.now runs.now entry place rows }
 {
     if place.entry != entry {
@@ -75,7 +75,7 @@ fn joinable_at(
     rows: u64,
 ) -> u64
     requires there { (i : ℕ) → i < length lists.now → RunsExist (length runs.now) (list_at lists.now i) }
-    requires right { (i : ℕ) → i < length lists.now → AreRunsRightAt lists.now runs.now i }
+    requires right { (i : ℕ) → i < length lists.now → AreRunsValidAt lists.now runs.now i }
     ensures { result ≡ joinable_by lists.now runs.now entry (equalities_within subset (edge ∷ [])) rows }
 {
     if !joins_within(subset, edge) {
@@ -85,7 +85,7 @@ fn joinable_at(
     at_most_with_value(lists, runs, entry, edge.right, left)
 }
 
-// How many rows of an entry the equalities of a set can join, at most.
+// The most rows of an entry that the equalities of a set can join.
 fn joinable_rows(
     lists: &[ColumnList],
     runs: &[Run],
@@ -95,7 +95,7 @@ fn joinable_rows(
     most: u64,
 ) -> u64
     requires there { (i : ℕ) → i < length lists.now → RunsExist (length runs.now) (list_at lists.now i) }
-    requires right { (i : ℕ) → i < length lists.now → AreRunsRightAt lists.now runs.now i }
+    requires right { (i : ℕ) → i < length lists.now → AreRunsValidAt lists.now runs.now i }
     ensures { result ≡ joinable_by lists.now runs.now entry (equalities_within subset edges.now) most }
 {
     let mut rows = most;
@@ -105,16 +105,16 @@ fn joinable_rows(
     rows
 }
 
-// How many rows of each entry the equalities of a set can join, at most.
+// For each entry the most of its rows that the equalities of a set can join.
 fn rows_in_set(
     alloc: Global,
     given: &Given,
     edges: &[Edge],
     subset: EntrySet,
 ) -> Result<Seq<u64>, NoMemory>
-    requires few { length given.now.rows.now ≤ most_entries }
+    requires few { length given.now.rows.now ≤ greatest_entries }
     requires there { (i : ℕ) → i < length given.now.lists.now → RunsExist (length given.now.runs.now) (list_at given.now.lists.now i) }
-    requires right { (i : ℕ) → i < length given.now.lists.now → AreRunsRightAt given.now.lists.now given.now.runs.now i }
+    requires right { (i : ℕ) → i < length given.now.lists.now → AreRunsValidAt given.now.lists.now given.now.runs.now i }
     ensures { IfOk result (λ met. met ≡ rows_of_set given.now.rows.now given.now.lists.now given.now.runs.now edges.now subset) }
 {
     let mut met = Seq::new(alloc);
@@ -148,7 +148,7 @@ impl KnownInSets for Given<'_> {
 fn covers_rows(rows: &[u64], runs: &[Run], list: ColumnList) -> bool
     requires entry { list.entry < length rows.now }
     requires there { RunsExist (length runs.now) list }
-    requires right { AreRight (runs_of runs.now list) }
+    requires right { AreValid (runs_of runs.now list) }
     ensures { result ≡ true → CoversRows rows.now runs.now list }
 {
     total(own_runs(runs, list)) >= rows[list.entry as usize]
@@ -157,8 +157,8 @@ fn covers_rows(rows: &[u64], runs: &[Run], list: ColumnList) -> bool
 /// Whether the sum of every list is at least its entry's row bound, so that no row lacks a value. Then row bounds and lists are the same in
 /// every set.
 pub(crate) fn cover_rows(rows: &[u64], lists: &[ColumnList], runs: &[Run]) -> bool
-    requires lists { (i : ℕ) → i < length lists.now → IsListRightAt (length rows.now) (length runs.now) lists.now i }
-    requires runs { (i : ℕ) → i < length lists.now → AreRunsRightAt lists.now runs.now i }
+    requires lists { (i : ℕ) → i < length lists.now → IsListValidAt (length rows.now) (length runs.now) lists.now i }
+    requires runs { (i : ℕ) → i < length lists.now → AreRunsValidAt lists.now runs.now i }
     ensures { result ≡ true → (i : ℕ) → i < length lists.now → CoversRows rows.now runs.now (list_at lists.now i) }
 {
     for list in lists {

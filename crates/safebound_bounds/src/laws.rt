@@ -9,15 +9,15 @@ ghost use Rattle.tree_bounds.specs.Tables.{ChoicesAreDifferent};
 ghost use Rattle.safebound_lists.specs.declared.runs.Run.{Run};
 ghost use Rattle.safebound_bounds.specs.declared.arguments.ColumnList.{ColumnList};
 ghost use Rattle.safebound_bounds.specs.declared.arguments.Equality.{Equality};
-ghost use Rattle.safebound_bounds.specs.Causes.{IsRight};
+ghost use Rattle.safebound_bounds.specs.Causes.{AreArgumentsValid};
 ghost use Rattle.safebound_bounds.specs.Meaning.{edges_of, given_list, known, known_in};
 ghost use Rattle.safebound_bounds.specs.Values.{SatisfiesValues, ValuedTables, ValuesFit};
 
-/// No bound is too low, even if rows lack values. The choices (one row for each entry of a set) that satisfy the set's equalities are at most
-/// as many as the set's bound by `known_in`. If no equality joins entries of the set, all rows of its entries count.
+/// No bound is too low, even if rows lack values. Count the choices (one row for each entry of a set) that satisfy the set's equalities. There are
+/// at most as many as the set's bound from `known_in`. If no equality joins entries of the set, all rows of its entries count.
 pub fn rows_without_values_join_with_nothing()
     ensures never_under { (rows : List ℕ) (equalities : List Equality) (lists : List ColumnList) (runs : List Run)
-        → IsRight rows equalities lists runs → (subset : ℕ) → subset < 2 ^ length rows → (tables : ValuedTables)
+        → AreArgumentsValid rows equalities lists runs → (subset : ℕ) → subset < 2 ^ length rows → (tables : ValuedTables)
         → ValuesFit rows (given_list lists runs) tables (edges_of equalities) subset → (choices : List (ℕ → ℕ))
         → AllByRecursion (SatisfiesValues tables (entries_of_set subset) (equalities_within subset (edges_of equalities))) choices
         → ChoicesAreDifferent (entries_of_set subset) choices

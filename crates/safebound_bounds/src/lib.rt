@@ -6,7 +6,7 @@
 //! A list may count fewer rows than its entry's row bound. The other rows then have no value in that column (NULL) and match nothing. So they
 //! aren't counted in a set in which an equality names the column. A list that counts more rows than the row bound is cut.
 //!
-//! Callers cite `known_in` for the row bounds and lists in a set, and `all_bounds` and `bound_in` for the results. `IsBoundsCause`,
+//! In contracts `known_in` has the row bounds and lists in a set, and `all_bounds` and `bound_in` are the results. `IsBoundsCause`,
 //! `IsWithinCause` and `IsSetCause` define the causes of refusals. `work_of` is the number that is compared with the limit of work. `ValuesFit`
 //! says to which tables the bounds apply.
 #![tactic(auto)]

@@ -1,9 +1,9 @@
-//! Makes the row bounds and lists of the entries, from arguments that are right.
+//! Makes the row bounds and lists of the entries, from valid arguments.
 ghost use Rattle.std.specs.Prelude.{◌≡◌, [], ◌<◌, ◌≤◌, ℕ, length, IfOk};
 ghost use Rattle.std.specs.List.{sum};
-ghost use Rattle.limits.specs.Profile.{greatest_rows, most_entries};
-ghost use Rattle.safebound_lists.specs.Runs.{AreRight, list_of};
-ghost use Rattle.safebound_bounds.specs.Arguments.{AreRunsRightAt, IsEqualityRight, IsListRightAt, IsRowsRightAt, equality_at};
+ghost use Rattle.limits.specs.Profile.{greatest_entries, greatest_rows};
+ghost use Rattle.safebound_lists.specs.Runs.{AreValid, list_of};
+ghost use Rattle.safebound_bounds.specs.Arguments.{AreRunsValidAt, IsEqualityValid, IsListValidAt, IsRowBoundValidAt, equality_at};
 ghost use Rattle.safebound_bounds.specs.Listed.{HoldsListed};
 ghost use Rattle.safebound_bounds.specs.Meaning.{edge_of as edge_of_equality, edges_of, fitted as fitted_to};
 
@@ -17,10 +17,10 @@ use piece_math::Pieces;
 use safebound_lists::{Run, pieces_of};
 use std::alloc::Global;
 
-// The list of a column, fitted to a number of rows: cut if its sum is above `rows`, and filled up with ones if its sum is below.
+// The list of a column, fitted to a number of rows. If its sum is above `rows`, it is cut. If its sum is below `rows`, ones are added.
 fn fitted(alloc: Global, rows: u64, runs: &[Run]) -> Result<Pieces, NoMemory>
     requires rows { rows ≤ greatest_rows }
-    requires right { AreRight runs.now }
+    requires right { AreValid runs.now }
     ensures list { IfOk result (λ list. list ≡ fitted_to rows (list_of runs.now)) }
     ensures total { IfOk result (λ list. sum list ≡ rows) }
 {
@@ -35,7 +35,7 @@ fn fitted(alloc: Global, rows: u64, runs: &[Run]) -> Result<Pieces, NoMemory>
 
 // The row bounds of the entries, without lists.
 fn with_rows(alloc: Global, rows: &[u64]) -> Result<EntryLists, NoMemory>
-    requires { length rows.now ≤ most_entries }
+    requires { length rows.now ≤ greatest_entries }
     ensures { IfOk result (λ known. HoldsListed rows.now (length rows.now) [] [] known) }
 {
     let mut known = EntryLists::new(alloc);
@@ -52,10 +52,10 @@ pub(crate) fn entry_lists(
     lists: &[ColumnList],
     runs: &[Run],
 ) -> Result<EntryLists, NoMemory>
-    requires few { length rows.now ≤ most_entries }
-    requires rows { (i : ℕ) → i < length rows.now → IsRowsRightAt rows.now i }
-    requires lists { (i : ℕ) → i < length lists.now → IsListRightAt (length rows.now) (length runs.now) lists.now i }
-    requires runs { (i : ℕ) → i < length lists.now → AreRunsRightAt lists.now runs.now i }
+    requires few { length rows.now ≤ greatest_entries }
+    requires rows { (i : ℕ) → i < length rows.now → IsRowBoundValidAt rows.now i }
+    requires lists { (i : ℕ) → i < length lists.now → IsListValidAt (length rows.now) (length runs.now) lists.now i }
+    requires runs { (i : ℕ) → i < length lists.now → AreRunsValidAt lists.now runs.now i }
     ensures { IfOk result (λ known. HoldsListed rows.now (length rows.now) lists.now runs.now known) }
 {
     let mut known = with_rows(alloc, rows)?;
@@ -87,7 +87,7 @@ fn edge_of(equality: Equality) -> Edge
 
 /// The parts of a query whose conjuncts are these equalities alone.
 pub(crate) fn parts_of(alloc: Global, equalities: &[Equality]) -> Result<Parts, NoMemory>
-    requires { (i : ℕ) → i < length equalities.now → IsEqualityRight most_entries (equality_at equalities.now i) }
+    requires { (i : ℕ) → i < length equalities.now → IsEqualityValid greatest_entries (equality_at equalities.now i) }
     ensures { IfOk result (λ parts. parts.equalities ≡ edges_of equalities.now) }
 {
     let mut edges = Seq::new(alloc);

@@ -1,6 +1,6 @@
 //! Counts the work of a call for all bounds, before the call does the work.
 ghost use Rattle.std.specs.Prelude.{◌≡◌, ◌+◌, ◌^◌, ◌<◌, ◌≤◌, if◌then◌else◌, ℕ, length, map, slice_index, IfOk};
-ghost use Rattle.limits.specs.Profile.{most_conjuncts, most_entries};
+ghost use Rattle.limits.specs.Profile.{greatest_entries, most_conjuncts};
 ghost use Rattle.join_graph.specs.Kept.{joins_within};
 ghost use Rattle.safebound_bounds.specs.Work.{runs_joined as runs_of_both, runs_listed as runs_of_list, work_of_set, work_of_turn, work_of};
 
@@ -78,15 +78,15 @@ fn work_of_set(lists: &[ColumnList], parts: &Parts, each: &[u128], subset: Entry
 }
 
 fn work_of_sets(lists: &[ColumnList], parts: &Parts, each: &[u128], entries: u8) -> u128
-    requires entries { entries ≤ most_entries }
+    requires entries { entries ≤ greatest_entries }
     requires many { length parts.now.equalities ≤ most_conjuncts }
     requires are { each.now ≡ map (runs_of_both lists.now) parts.now.equalities }
     requires few { (i : ℕ) → slice_index each.now i < 2 ^ 65 }
     ensures { result ≡ work_of lists.now parts.now.equalities entries }
 {
     let mut work = 0;
-    for bits in 0..1u16 << entries {
-        work += work_of_set(lists, parts, each, EntrySet::from_bits(bits));
+    for bits in 0..1u32 << entries {
+        work += work_of_set(lists, parts, each, EntrySet::from_bits(bits as u16));
     }
     work
 }
@@ -98,7 +98,7 @@ pub(crate) fn work(
     parts: &Parts,
     entries: u8,
 ) -> Result<u128, NoMemory>
-    requires entries { entries ≤ most_entries }
+    requires entries { entries ≤ greatest_entries }
     requires many { length parts.now.equalities ≤ most_conjuncts }
     ensures { IfOk result (λ work. work ≡ work_of lists.now parts.now.equalities entries) }
 {

@@ -69,8 +69,8 @@ abbrev pub detail_of : Result ℕ Refusal → ℕ → ℕ
 detail_of (Ok count) old = count
 detail_of (Err why) old = detail_of_refusal why old
 
--- The status and `*detail` (`before` and `after` the call) say which answer the call has, and the answer is right. If it is a number, `Done`
--- holds for this number. If it is a refusal, its cause holds, and the elements of the caller's buffer are unchanged (`old` and `new`).
+-- The status and `*detail` (`before` and `after` the call) tell the call's answer. If it is a number, `Done` holds for this number. If it is a
+-- refusal, its cause holds, and the elements of the caller's buffer are unchanged (`old` and `new`).
 pub record TellsAnswer {A : Type 0} (Done : ℕ → Type 0) (Cause : Refusal → Type 0) (old new : List A) (before status after : ℕ) : Type 0 where
   pub answer : Result ℕ Refusal
   pub told : status ≡ status_of answer

@@ -5,7 +5,7 @@ ghost use Rattle.entry_sets.specs.Sets.{entries_of_set};
 ghost use Rattle.join_graph.specs.Kept.{equalities_within};
 ghost use Rattle.tree_bounds.specs.Tables.{ChoicesAreDifferent};
 ghost use Rattle.safebound_lists.specs.Written.{RoomBeginsWith};
-ghost use Rattle.safebound_bounds.specs.Causes.{IsBoundsCause, IsRight, IsSetCause, IsWithinCause};
+ghost use Rattle.safebound_bounds.specs.Causes.{IsBoundsCause, AreArgumentsValid, IsSetCause, IsWithinCause};
 ghost use Rattle.safebound_bounds.specs.Meaning.{all_bounds, bound_in, edges_of, given_list, known_in, no_bound};
 ghost use Rattle.safebound_bounds.specs.Values.{SatisfiesValues, ValuedTables, ValuesFit};
 ghost use Rattle.safebound_bounds.specs.Work.{work_of};
@@ -18,8 +18,8 @@ use std::alloc::Global;
 
 /// Writes the bounds of all sets of entries, in rows. The bound of a set is written at the index whose bits are the set's entries.
 ///
-/// No bound is too low, if the row bounds and lists fit the tables. Rows may lack values. Take the choices (one row for each entry of a set)
-/// that satisfy the set's equalities. They are at most as many as the set's bound, or the bound is 2^64 - 1.
+/// No bound is too low, if the row bounds and lists fit the tables. Rows may lack values. Count the choices (one row for each entry of a set)
+/// that satisfy the set's equalities. There are at most as many as the set's bound, or the bound is 2^64 - 1.
 #[unsafe(no_mangle)]
 pub extern "C" fn safebound_bounds(
     alloc: Global,
@@ -32,7 +32,7 @@ pub extern "C" fn safebound_bounds(
 ) -> u32
     ensures exact { TellsAnswer (RoomBeginsWith (all_bounds (known_in rows.now lists.now runs.now (edges_of equalities.now)) (edges_of equalities.now) (length rows.now)) into.old into.new)
         (IsBoundsCause rows.now equalities.now lists.now runs.now (length into.old)) into.old into.new detail.old result detail.new }
-    ensures right { result ≡ done → IsRight rows.now equalities.now lists.now runs.now }
+    ensures right { result ≡ done → AreArgumentsValid rows.now equalities.now lists.now runs.now }
     ensures never_under { result ≡ done → (subset : ℕ) → subset < 2 ^ length rows.now
         → (tables : ValuedTables) → ValuesFit rows.now (given_list lists.now runs.now) tables (edges_of equalities.now) subset
         → (choices : List (ℕ → ℕ))
@@ -57,7 +57,7 @@ pub extern "C" fn safebound_bounds_within(
 ) -> u32
     ensures exact { TellsAnswer (RoomBeginsWith (all_bounds (known_in rows.now lists.now runs.now (edges_of equalities.now)) (edges_of equalities.now) (length rows.now)) into.old into.new)
         (IsWithinCause rows.now equalities.now lists.now runs.now limit (length into.old)) into.old into.new detail.old result detail.new }
-    ensures right { result ≡ done → IsRight rows.now equalities.now lists.now runs.now }
+    ensures right { result ≡ done → AreArgumentsValid rows.now equalities.now lists.now runs.now }
     ensures within { result ≡ done → work_of lists.now (edges_of equalities.now) (length rows.now) ≤ limit }
     ensures never_under { result ≡ done → (subset : ℕ) → subset < 2 ^ length rows.now
         → (tables : ValuedTables) → ValuesFit rows.now (given_list lists.now runs.now) tables (edges_of equalities.now) subset
@@ -85,7 +85,7 @@ pub extern "C" fn safebound_set_bound(
 ) -> u32
     ensures exact { TellsAnswer (λ bound. bound ≡ bound_in (known_in rows.now lists.now runs.now (edges_of equalities.now)) (edges_of equalities.now) set)
         (IsSetCause rows.now equalities.now lists.now runs.now set) rows.now rows.now detail.old result detail.new }
-    ensures right { result ≡ done → IsRight rows.now equalities.now lists.now runs.now }
+    ensures right { result ≡ done → AreArgumentsValid rows.now equalities.now lists.now runs.now }
     ensures there { result ≡ done → set < 2 ^ length rows.now }
     ensures never_under { result ≡ done
         → (tables : ValuedTables) → ValuesFit rows.now (given_list lists.now runs.now) tables (edges_of equalities.now) set

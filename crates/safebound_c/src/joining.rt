@@ -3,7 +3,7 @@ ghost use Rattle.std.specs.Prelude.{◌≡◌, ℕ, [], length, IfErr, IfOk, Som
 ghost use Rattle.joined_tables.specs.Bounds.{IsWithin};
 ghost use Rattle.joined_tables.specs.Tables.{Condition, Table, inner_join, joined};
 ghost use Rattle.joined_tables.specs.declared.joins.Join.{Join};
-ghost use Rattle.safebound_c.specs.Kinds.{IsJoinBound, IsKindCause, join_of};
+ghost use Rattle.safebound_c.specs.Kinds.{IsJoinBound, IsKindCause, join_kind_of};
 ghost use Rattle.safebound_c.specs.Status.{TellsAnswer, done};
 
 use crate::status::answer_status;
@@ -22,7 +22,7 @@ const ANTI: u64 = 5;
 
 // The kind of join to which include/safebound.h gives this number.
 fn join_named(kind: u64) -> Option<Join>
-    ensures { result ≡ join_of kind }
+    ensures { result ≡ join_kind_of kind }
 {
     match kind {
         LEFT => Some(Join::Left),
@@ -34,10 +34,10 @@ fn join_named(kind: u64) -> Option<Join>
     }
 }
 
-// How many rows a joined table has at most, if the inner join has at most `inner` rows, and the tables have at most `left` and `right` rows.
+// The most rows that a joined table can have. The inner join has at most `inner` rows, and the tables have at most `left` and `right` rows.
 fn rows_of_kind(kind: u64, inner: u64, left: u64, right: u64) -> Result<u64, Refusal>
     ensures done { IfOk result (IsJoinBound kind inner left right) }
-    ensures never_under { IfOk result (λ rows. (join : Join) → join_of kind ≡ Some join
+    ensures never_under { IfOk result (λ rows. (join : Join) → join_kind_of kind ≡ Some join
         → (is_true : Condition) (left_table right_table : Table)
         → IsWithin (length (inner_join is_true left_table right_table)) inner
         → IsWithin (length left_table.rows) left → IsWithin (length right_table.rows) right
@@ -50,8 +50,8 @@ fn rows_of_kind(kind: u64, inner: u64, left: u64, right: u64) -> Result<u64, Ref
     }
 }
 
-/// Writes to `detail` how many rows an outer join, a semi-join or an anti-join of two tables has at most. A `kind` that is no number of a join
-/// is refused, and `detail` is then the kind.
+/// Writes to `detail` how many rows an outer join, a semi-join or an anti-join of two tables has at most. If no join has the number `kind`, the
+/// call is refused, and `detail` is then `kind`.
 ///
 /// The bound is never too low. Let the inner join have at most `inner` rows, and the tables at most `left` and `right` rows. Then the joined
 /// table has at most `detail` rows. As an argument and as the result, the number 2^64 - 1 says that no bound is known.
@@ -64,7 +64,7 @@ pub extern "C" fn safebound_joined_rows(
     detail: &mut u64,
 ) -> u32
     ensures exact { TellsAnswer {A = ℕ} (IsJoinBound kind inner left right) (IsKindCause kind) [] [] detail.old result detail.new }
-    ensures never_under { result ≡ done → (join : Join) → join_of kind ≡ Some join
+    ensures never_under { result ≡ done → (join : Join) → join_kind_of kind ≡ Some join
         → (is_true : Condition) (left_table right_table : Table)
         → IsWithin (length (inner_join is_true left_table right_table)) inner
         → IsWithin (length left_table.rows) left → IsWithin (length right_table.rows) right

@@ -1,10 +1,10 @@
 //! The library for callers in C: the calls of include/safebound.h. Each call but `safebound_version` hands its values to a crate that checks
-//! them and computes the result. The kind of join is checked here, in `safebound_joined_rows`. One function of the header isn't
-//! here, but in library/status.c: the one that returns the text of a status.
+//! them and computes the result. The kind of join is checked in this crate, in `safebound_joined_rows`. The header's function that returns
+//! the text of a status isn't in this crate, but in library/status.c.
 //!
-//! A call returns a status, and writes a number to `*detail` unless the status is one that leaves `*detail` as it was. `TellsAnswer` says
-//! what the two numbers mean, and what was written into the caller's buffer. No call has a precondition on the values that it gets, and no
-//! call keeps anything for the next call. What the header asks of pointers is trusted.
+//! A call returns a status. It also writes a number to `*detail`, if this status has one. `TellsAnswer` says what the two numbers mean, and
+//! what was written into the caller's buffer. No call has a precondition on the values that it gets, and no call keeps anything for the
+//! next call. What the header asks of pointers is trusted.
 #![tactic(auto)]
 
 mod bounding;

@@ -6,7 +6,7 @@ ghost use Rattle.degree_sequences.specs.Compression.{compressed};
 ghost use Rattle.degree_sequences.specs.Degrees.{degree_list};
 ghost use Rattle.degree_sequences.specs.RunningSums.{cut_at, lesser};
 ghost use Rattle.safebound_lists.specs.Causes.{IsAppendCause, IsCompressCause, IsCutCause, IsDegreesCause, IsGreaterCause, IsLesserCause};
-ghost use Rattle.safebound_lists.specs.Runs.{AreBothRight, AreRight, MayBeAdded, MayBeCompressed, MayTakeGreater, list_of};
+ghost use Rattle.safebound_lists.specs.Runs.{AreBothValid, AreValid, MayBeAdded, MayBeCompressed, MayTakeGreater, list_of};
 ghost use Rattle.safebound_lists.specs.Written.{IsWritten};
 ghost use Rattle.safebound_c.specs.Status.{TellsAnswer, done};
 
@@ -29,7 +29,7 @@ pub extern "C" fn safebound_degrees(
     answer_status(degrees(alloc, keys, into), detail)
 }
 
-/// Writes few runs that dominate a list, by compression at an accuracy.
+/// Compresses a list at an accuracy, and writes the compressed list. It has few runs, and dominates what the list dominates.
 #[unsafe(no_mangle)]
 pub extern "C" fn safebound_compress(
     alloc: Global,
@@ -73,13 +73,13 @@ pub extern "C" fn safebound_lesser(
 ) -> u32
     ensures exact { TellsAnswer (IsWritten (lesser (list_of runs.now) (list_of others.now)) into.old into.new)
         (IsLesserCause runs.now others.now (length into.old)) into.old into.new detail.old result detail.new }
-    ensures right { result ≡ done → AreBothRight runs.now others.now }
+    ensures right { result ≡ done → AreBothValid runs.now others.now }
 {
     answer_status(lesser_of(alloc, runs, others, into), detail)
 }
 
-/// Writes the greater of two lists, rank by rank. The result dominates the rows of each of the two lists alone: for example the rows of
-/// either of two values.
+/// Writes the greater of two lists, rank by rank. The result dominates what the first list dominates, and also what the second list dominates.
+/// For example, it dominates the rows with one value, and also the rows with another value.
 #[unsafe(no_mangle)]
 pub extern "C" fn safebound_greater(
     alloc: Global,
@@ -106,7 +106,7 @@ pub extern "C" fn safebound_cut(
 ) -> u32
     ensures exact { TellsAnswer (IsWritten (cut_at (list_of runs.now) rows) into.old into.new)
         (IsCutCause runs.now rows (length into.old)) into.old into.new detail.old result detail.new }
-    ensures right { result ≡ done → AreRight runs.now }
+    ensures right { result ≡ done → AreValid runs.now }
 {
     answer_status(cut(alloc, runs, rows, into), detail)
 }

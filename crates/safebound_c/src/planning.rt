@@ -40,8 +40,8 @@ pub extern "C" fn safebound_tree(
     answer_status(tree(alloc, bounds, budget, into), detail)
 }
 
-/// The bytes that an engine's buffers take for an order: the bytes of a list of rows for each entry, of the levels, and of the chains (hash
-/// tables of rows).
+/// The bytes that an engine's buffers take for an order. There are buffers for a list of rows of each entry, for the levels, and for the chains
+/// (hash tables of rows).
 #[unsafe(no_mangle)]
 pub extern "C" fn safebound_memory(rows: &[u64], levels: &[Level], detail: &mut u64) -> u32
     ensures exact { TellsAnswer (IsOrderMemory rows.now levels.now) (IsOrderMemoryCause rows.now levels.now)

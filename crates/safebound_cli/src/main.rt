@@ -11,7 +11,7 @@ use std::process::ExitCode;
 use std::{env, io};
 use stream_sink::StreamSink;
 
-// The words after the program's name.
+// The command line's words, without the program's name.
 fn words(rt: &HostRuntime) -> io::Result<Vec<String>> {
     let mut all = Vec::new(rt.alloc());
     for (i, word) in env::args(rt)?.enumerate() {

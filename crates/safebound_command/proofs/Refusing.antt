@@ -1,5 +1,5 @@
--- No command takes more than 16 words. A call with more words that is refused as Usage, reads no file and writes only the line of its
--- status satisfies the headline.
+-- No command takes more than 16 words. Suppose that a call with more words is refused as Usage, reads no file, and writes only the line of its
+-- status. Then it satisfies the headline.
 use Rattle.std.proofs.Common.{◌≡◌, ℕ, ◌<◌, List, [], ◌∷◌, length, None, Some, refl, sym, subst}
 use Rattle.base_io.specs.Devices.{Growth}
 use Rattle.base_io.specs.Files.{Files}
@@ -7,14 +7,14 @@ use Rattle.outcomes.specs.declared.refusal.Refusal.TheVariants as refusal
 use Rattle.outcomes.specs.declared.status.Status.{Status}
 use Rattle.outcomes.specs.declared.status.Status.TheVariants as status
 use Rattle.safebound_words.proofs.WordCounts.{too_many}
-use Rattle.safebound_top.specs.Course.{StatusReported}
+use Rattle.safebound_top.specs.CallHistory.{StatusReported}
 use Rattle.safebound_top.specs.Faults.{status_line}
 use Rattle.safebound_top.specs.Headline.{Headline}
 use Rattle.safebound_top.proofs.Courses.{headline}
 use Rattle.safebound_top.proofs.RunCourses.{course_unasked}
 use Rattle.safebound_top.proofs.ShopCourses.{course_of_words}
 use Rattle.prepared_runs.proofs.CommandFacts.{no_command, no_shop}
-use Rattle.prepared_runs.specs.Shops.{shop_of, store_read}
+use Rattle.prepared_runs.specs.Shops.{demo_number_of, store_read}
 use Rattle.safebound_command.specs.Command.{read_from, stream}
 use Rattle.safebound_command.proofs.WithoutName.{tells_behind, with_name, without_name}
 use Rattle.safebound_command.proofs.SameRooms.{prefix_name}
@@ -32,7 +32,7 @@ module _ (name : ℕ) (before : List ℕ) (name' : ℕ) (text : List ℕ) (f f' 
       (subst (λ (x : List ℕ). StatusReported (without_name x (Some (name' ∷ text)) f f') line) b told_bare)
 
 pub refused_many : (words : List (List ℕ)) (files : Files) (s : Status) (notes : Growth) → 16 < length words → s ≡ status.Refused refusal.Usage → StatusReported notes (status_line s None None)
-    → Headline (record { words = words; status = s; store = store_read (shop_of words) (read_from files files 0 0); out = stream [] 0; notes = notes })
+    → Headline (record { words = words; status = s; store = store_read (demo_number_of words) (read_from files files 0 0); out = stream [] 0; notes = notes })
 refused_many words files s notes many is told =
     let asked = sym (too_many words many) in
     headline _ (course_of_words words s (read_from files files 0 0) (stream [] 0) notes None (no_shop words asked)

@@ -7,7 +7,7 @@ use Rattle.base_io.specs.Files.{Files}
 use Rattle.outcomes.specs.Statuses.{code_of}
 use Rattle.outcomes.specs.declared.status.Status.{Status}
 use Rattle.safebound_top.specs.Headline.{Headline}
-use Rattle.prepared_runs.specs.Shops.{shop_of, store_read}
+use Rattle.prepared_runs.specs.Shops.{demo_number_of, store_read}
 
 -- a store whose files are known, and in which no read fails
 abbrev pub read_from : Files → Files → ℕ → ℕ → Reading
@@ -58,7 +58,7 @@ pub record Ran (words : List (List ℕ)) (files : Files) (out notes : Written) (
   pub headline : Headline (record {
     words = words;
     status = status;
-    store = store_read (shop_of words) (read_from files files_after 0 misses);
+    store = store_read (demo_number_of words) (read_from files files_after 0 misses);
     out = stream (text_of out) out_faults;
     notes = stream (text_of notes) notes_faults;
   })

@@ -4,7 +4,7 @@
 //! and returns the exit status of the program. The words are copied into an array of fixed size, so only the run itself can run out of
 //! memory.
 //!
-//! Callers cite `CallEnds` (in `specs/Command.antt`). It is the headline of the top call with a store and streams in memory. The store has
+//! The contract is `CallEnds` (in `specs/Command.antt`). It is the headline of the top call with a store and streams in memory. The store has
 //! exactly these files, and its reads never fail. Writes to a stream fail only if its room is full.
 #![tactic(auto)]
 

@@ -10,7 +10,7 @@ use safebound_words::MOST_WORDS;
 use slice_devices::{SliceFile, SliceSink, SliceStore};
 use std::alloc::Global;
 
-/// How a run ended: its status, how many bytes it wrote into each room, and how often it asked for a file that isn't among the files.
+/// How a run ended: its status, and how many bytes it wrote into each room. Also how often it asked for a file that isn't among the files.
 #[derive(Clone, Copy, Debug)]
 pub(crate) struct RunResult {
     pub status: Status,

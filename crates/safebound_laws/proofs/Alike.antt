@@ -32,9 +32,9 @@ use Rattle.table_files.proofs.EntryLaws.{two_steps}
 use Rattle.table_files.specs.Stage.{tables_stage}
 use Rattle.table_files.specs.TableFile.{read}
 use Rattle.safebound_words.specs.Commands.{over_query}
-use Rattle.safebound_words.specs.declared.command.Work.{Work}
-use Rattle.safebound_words.specs.declared.command.Aim.TheVariants as aims
-use Rattle.safebound_words.specs.declared.command.Work.TheVariants as works
+use Rattle.safebound_words.specs.declared.command.QueryTask.{QueryTask}
+use Rattle.safebound_words.specs.declared.command.SchemaTask.TheVariants as aims
+use Rattle.safebound_words.specs.declared.command.QueryTask.TheVariants as works
 use Rattle.prepared_runs.specs.StatsFiles.{made_from_file, plan_from_file_asked, stats_file_plan_stage, stats_of_text, stats_stage, stats_file_of_tables, unless_missing}
 use Rattle.prepared_runs.specs.Limits.{within_limit}
 use Rattle.prepared_runs.specs.RunOutcome.{RunOutcome, Planned}
@@ -60,7 +60,7 @@ limits_alike : (memory : Option ℕ) (bytes : ℕ) (x y : RunOutcome) → printe
 limits_alike None bytes x y same = ap (λ (p : Option (List ℕ) × Option (List ℕ)). Ok p) same
 limits_alike (Some limit) bytes x y same = test_alike (nat_le bytes limit) (refusal.MemoryLimit bytes) x y same
 
--- ---- the stages after the query
+-- ---- the stages after the query is read
 
 module _ (query : Query) (file : StatsFile) (rows : List (List Row)) (terms : PlanTerms) (accuracy : ℕ) where
   by_file : Result AnyPlan PlanError → Result RunOutcome Refusal
@@ -80,7 +80,7 @@ module _ (schema : Schema) (query : Query) (db : Database) (over : FitsQueryAndT
   abbrev file_of : StatsFile
   file_of = file_of_query schema query (tables_of db) accuracy
 
-  -- the plan from the file is the one over the tables
+  -- the plan from the file is the plan over the tables
   same_plan : plan_from_file_asked terms query file_of ≡ plan_asked (plan_of_columns terms accuracy) schema query (tables_of db)
   unfolding planned_by sets_by scans_by
   same_plan =
@@ -122,7 +122,7 @@ module _ (schema : Schema) (query : Query) (db : Database) (over : FitsQueryAndT
 
 module _ (schema_file query_file : List ℕ) (files : Files) (schema : Schema) (query : Query) (schema_is : schema_stage schema_file files ≡ Ok schema)
     (query_is : query_stage query_file schema files ≡ Ok query) where
-  asked_work : (work : Work) → command_run (over_query None schema_file query_file work) files ≡ work_run work schema query files
+  asked_work : (work : QueryTask) → command_run (over_query None schema_file query_file work) files ≡ work_run work schema query files
   unfolding command_run
   asked_work work =
       ap (λ (s : Result Schema Refusal). s >>= λ s. aim_run (aims.Query query_file work) s files) schema_is

@@ -19,10 +19,10 @@ use Rattle.table_files.specs.Stage.{table_at}
 use Rattle.table_files.specs.TableFile.{rows_in}
 use Rattle.table_files.proofs.EntryLaws.{two_steps}
 use Rattle.prepared_runs.specs.Appending.{append_run, grown_stage, rows_run, section_stage, stats_run}
-use Rattle.safebound_words.specs.Commands.{with_rows}
+use Rattle.safebound_words.specs.Commands.{append_command}
 use Rattle.safebound_words.specs.declared.command.Command.{Command}
 use Rattle.safebound_words.specs.declared.command.NewRows.{NewRows}
-use Rattle.safebound_words.specs.declared.command.Aim.TheVariants as aims
+use Rattle.safebound_words.specs.declared.command.SchemaTask.TheVariants as aims
 use Rattle.prepared_runs.specs.StatsFiles.{stats_stage}
 use Rattle.prepared_runs.specs.RunOutcome.{Appended, BoundsHoldForItsTables, NoBoundIsTooLow, RunOutcome, PlannedFromStats}
 use Rattle.prepared_runs.specs.Verdict.{aim_run, command_run, command_stage, or_usage, schema_stage, verdict}
@@ -48,7 +48,7 @@ module _ (schema : Schema) (stats : StatsFile) (table before : ℕ) (rows : List
   ]
 
 module _ (files : Files) (schema_file : List ℕ) (append : NewRows) (outcome : RunOutcome) where
-  pub grows_so : command_run (with_rows schema_file append) files ≡ Ok outcome → GrowsByFile files schema_file append.stats_file append.table append.rows_file outcome
+  pub grows_so : command_run (append_command schema_file append) files ≡ Ok outcome → GrowsByFile files schema_file append.stats_file append.table append.rows_file outcome
   unfolding command_run append_run stats_run rows_run
   grows_so is =
       let first = two_steps (schema_stage schema_file files) (λ schema. aim_run (aims.Append append) schema files) outcome is in
@@ -71,12 +71,12 @@ module _ (files : Files) (schema_file : List ℕ) (append : NewRows) (outcome : 
         written = last.1;
       }
 
-pub append_grows : (words : List (List ℕ)) (files : Files) (schema stats name rows : List ℕ) (outcome : RunOutcome) → command_of words ≡ Some (with_rows schema (record { stats_file = stats; table = name; rows_file = rows }))
+pub append_grows : (words : List (List ℕ)) (files : Files) (schema stats name rows : List ℕ) (outcome : RunOutcome) → command_of words ≡ Some (append_command schema (record { stats_file = stats; table = name; rows_file = rows }))
     → verdict words files ≡ Ok outcome → GrowsByFile files schema stats name rows outcome
 unfolding verdict
 append_grows words files schema stats name rows outcome command is =
     let append : NewRows = record { stats_file = stats; table = name; rows_file = rows } in
-    let asked : command_stage words ≡ Ok (with_rows schema append) = ap or_usage command in
+    let asked : command_stage words ≡ Ok (append_command schema append) = ap or_usage command in
     grows_so files schema append outcome (sym (ap (λ (r : Result Command Refusal). r >>= (λ ask. command_run ask files)) asked) ∙ is)
 
 module _ (files : Files) (schema stats name rows : List ℕ) (outcome : RunOutcome) (grows : GrowsByFile files schema stats name rows outcome) where

@@ -30,7 +30,7 @@ use Rattle.stats_reading.specs.Names.{HasByteColumns}
 use Rattle.table_files.specs.Stage.{no_table, table_at}
 use Rattle.table_files.specs.TableFile.{read, rows_of_bytes}
 use Rattle.table_files.proofs.EntryLaws.{two_steps}
-use Rattle.table_files.proofs.StagedFiles.{read_ok, told_ok}
+use Rattle.table_files.proofs.StagedFiles.{read_ok, ok_without_refusal}
 use Rattle.prepared_runs.proofs.AppendStages.{section_alone, section_there}
 use Rattle.prepared_runs.specs.Appending.{is_of_table, or_missing, section_stage}
 use Rattle.prepared_runs.specs.RunOutcome.{RunOutcome}
@@ -82,7 +82,7 @@ module _ (files : Files) (schema_file stats_file name rows_file : List ℕ) (out
       record {
         bytes = steps.0;
         there = read_ok (file_id.Table grows.section.table) most_file rows_file files steps.0 steps.1;
-        read = told_ok (table_refusal grows.section.table) (rows_of_file table steps.0) grows.rows steps.2;
+        read = ok_without_refusal (table_refusal grows.section.table) (rows_of_file table steps.0) grows.rows steps.2;
       }
 
   pub table_there : grows.section.table < length grows.schema.tables

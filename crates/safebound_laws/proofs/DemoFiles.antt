@@ -31,17 +31,17 @@ use Rattle.safebound_words.specs.Answer.{command_of}
 use Rattle.safebound_words.specs.Commands.{demo_of, over_query}
 use Rattle.safebound_words.proofs.Ranges.{of_shop}
 use Rattle.safebound_words.specs.declared.command.Command.{Command}
-use Rattle.safebound_words.specs.declared.command.Work.TheVariants as works
+use Rattle.safebound_words.specs.declared.command.QueryTask.TheVariants as works
 use Rattle.safebound_top.specs.Call.{Call}
 use Rattle.safebound_top.specs.Headline.{Headline}
 use Rattle.prepared_runs.specs.Limits.{within_limit}
 use Rattle.prepared_runs.specs.RunOutcome.{Planned}
 use Rattle.prepared_runs.specs.Shapes.{shape_bytes}
-use Rattle.prepared_runs.specs.Shops.{shop_asked, shop_of, shop_store}
+use Rattle.prepared_runs.specs.Shops.{shop_asked, demo_number_of, shop_store}
 use Rattle.prepared_runs.specs.Verdict.{aim_run, command_run, command_stage, plan_asked, plan_stage, query_of_text, query_stage, or_usage, run_asked, schema_of_text, schema_stage, verdict, work_run}
 use Rattle.safebound_words.specs.declared.command.PlanWork.{PlanWork}
 use Rattle.prepared_runs.proofs.LimitFacts.{within_misses}
-use Rattle.table_files.proofs.StagedFiles.{told_ok}
+use Rattle.table_files.proofs.StagedFiles.{ok_without_refusal}
 use Rattle.safebound_top.proofs.Promises.{query_of_schema}
 
 -- ---- no reader of a text gives the refusal Missing
@@ -110,16 +110,16 @@ module _ (number : ℕ) where
     ask_misses =
         then_misses (schema_stage (codes "schema.sql") files) (λ schema. aim_run ask.aim schema files)
         (subst MissesNothing (sym schema_is) (schemas_miss (schema_answer schema_text)))
-        (λ schema there. schema_misses schema (told_ok schema_refusal (schema_answer schema_text) schema (sym schema_is ∙ there)))
+        (λ schema there. schema_misses schema (ok_without_refusal schema_refusal (schema_answer schema_text) schema (sym schema_is ∙ there)))
 
--- ---- the words
+-- ---- the words of a call of `demo`
 
 demo_asked : (words : List (List ℕ)) (number : ℕ) (asked : Option Command) → command_of words ≡ asked → shop_asked asked ≡ Some number
     → asked ≡ Some (demo_of number)
 demo_asked words number None is e = cc
 demo_asked words number (Some command) is e = ap (λ (c : Command). Some c) (of_shop words command is number e)
 
-pub demo_misses : (number : ℕ) (words : List (List ℕ)) → shop_of words ≡ Some number → MissesNothing (verdict words (demo_files number))
+pub demo_misses : (number : ℕ) (words : List (List ℕ)) → demo_number_of words ≡ Some number → MissesNothing (verdict words (demo_files number))
 unfolding verdict
 demo_misses number words is =
     let asked : command_stage words ≡ Ok (demo_of number) = ap or_usage (demo_asked words number (command_of words) refl is) in
@@ -131,12 +131,12 @@ no_rise : Rose 0 0 → ⊥
 no_rise (inl less) = omega (arith, less)
 no_rise (inr full) = omega (arith, full)
 
-pub no_read_fault : (call : Call) (number : ℕ) → Headline call → shop_of call.words ≡ Some number → call.store ≡ shop_store number
+pub no_read_fault : (call : Call) (number : ℕ) → Headline call → demo_number_of call.words ≡ Some number → call.store ≡ shop_store number
     → (file : FileId) → call.status ≡ status.ReadFault file → ⊥
 no_read_fault call number h is store file fault =
     no_rise (subst (λ (s : Reading). Rose s.faults_before s.faults_after) store (h.read_faults_have_their_cause.told file fault).0)
 
-pub no_absent_file : (call : Call) (number : ℕ) → Headline call → shop_of call.words ≡ Some number → call.store ≡ shop_store number
+pub no_absent_file : (call : Call) (number : ℕ) → Headline call → demo_number_of call.words ≡ Some number → call.store ≡ shop_store number
     → (file : FileId) → call.status ≡ status.Refused (refusal.Missing file) → ⊥
 no_absent_file call number h is store file absent =
     let told = (h.refusals_are_the_verdict.told (refusal.Missing file) absent).1 (demo_files number) (ap (λ (s : Reading). s.files) store) in

@@ -2,7 +2,7 @@
 use Rattle.std.proofs.Common.{◌≡◌, ℕ, List, [], ◌∷◌, None, Some, Result, refl, ap, sym, ◌∙◌}
 use Rattle.std.specs.Prelude.{codes, false}
 use Rattle.base_io.specs.Files.{Files}
-use Rattle.safebound_words.specs.Answer.{command_of, kind_of, parts_from, reading_of}
+use Rattle.safebound_words.specs.Answer.{command_of, kind_of_word, parts_from, reading_of}
 use Rattle.safebound_words.specs.Commands.{demo_of, over_query, plan_by}
 use Rattle.safebound_words.specs.Table.{over_files}
 use Rattle.safebound_words.specs.declared.command.Command.{Command}
@@ -18,7 +18,7 @@ abbrev audit : Command
 audit = over_query None (codes "schema.sql") (codes "query.sql") (plan_by out_text.Audit 1000000 1 false false false None)
 
 audit_is : command_of audit_words ≡ Some audit
-unfolding command_of kind_of over_files parts_from reading_of
+unfolding command_of kind_of_word over_files parts_from reading_of
 audit_is = refl
 
 same_run : (number : ℕ) (files : Files) → command_run (demo_of number) files ≡ command_run audit files

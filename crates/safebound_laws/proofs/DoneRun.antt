@@ -27,7 +27,7 @@ use Rattle.stats_file.specs.declared.types.StatsFile.{StatsFile}
 use Rattle.stats_reading.specs.Names.{HasByteColumns}
 use Rattle.table_files.specs.TableFile.{read}
 use Rattle.table_files.proofs.EntryLaws.{two_steps}
-use Rattle.table_files.proofs.StagedFiles.{read_ok, told_ok}
+use Rattle.table_files.proofs.StagedFiles.{read_ok, ok_without_refusal}
 use Rattle.prepared_runs.specs.StatsFiles.{stats_of_text, stats_stage}
 use Rattle.prepared_runs.specs.RunOutcome.{NoBoundIsTooLow, RunOutcome}
 use Rattle.prepared_runs.specs.Verdict.{command_run, command_stage, or_usage, schema_stage, verdict}
@@ -109,5 +109,5 @@ unfolding stats_stage
 stats_are name schema files stats file valid columns keeps there staged =
     let steps = two_steps (read file_id.Stats most_file name files) (stats_of_text schema) stats staged in
     let text : steps.0 ≡ file_text schema file = same_some steps.0 (file_text schema file) (sym (read_ok file_id.Stats most_file name files steps.0 steps.1) ∙ there) in
-    let answered : stats_answer schema steps.0 ≡ Ok stats = told_ok stats_refusal (stats_answer schema steps.0) stats steps.2 in
+    let answered : stats_answer schema steps.0 ≡ Ok stats = ok_without_refusal stats_refusal (stats_answer schema steps.0) stats steps.2 in
     same_ok {E = StatsError} stats file (sym answered ∙ ap (stats_answer schema) text ∙ written schema file valid columns keeps)

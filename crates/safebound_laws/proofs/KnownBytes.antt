@@ -18,9 +18,9 @@ use Rattle.level_bounds.proofs.Lists.{from_filter_map}
 use Rattle.limits.specs.Profile.{most_accuracy}
 use Rattle.query_types.specs.Validity.{IsOf}
 use Rattle.query_types.specs.declared.types.Query.{Query}
-use Rattle.safebound_words.specs.Commands.{over_query, with_rows}
+use Rattle.safebound_words.specs.Commands.{over_query, append_command}
 use Rattle.safebound_words.specs.declared.command.Command.{Command}
-use Rattle.safebound_words.specs.declared.command.Work.TheVariants as works
+use Rattle.safebound_words.specs.declared.command.QueryTask.TheVariants as works
 use Rattle.schema_types.specs.Validity.{IsValid}
 use Rattle.schema_types.specs.declared.types.Schema.{Schema}
 use Rattle.sql_meaning.specs.Tables.{Tables, tables_of}
@@ -149,13 +149,13 @@ pub record FromAppend (query : Query) (tables : Tables) (append : AppendCall) (s
 
 module _ (schema : Schema) (query : Query) (before : List ℕ) (tables : Tables) (known : Known schema query before tables) (append : AppendCall) (did : AppendedTo schema before append) where
   abbrev its_outcome : RunOutcome
-  its_outcome = (ended append.call (with_rows append.schema_file append.names) append.files did.done).outcome
+  its_outcome = (ended append.call (append_command append.schema_file append.names) append.files did.done).outcome
 
   abbrev GrowsSo : Type 0
   GrowsSo = GrowsByFile append.files append.schema_file append.names.stats_file append.names.table append.names.rows_file its_outcome
 
   grows : GrowsSo
-  grows = grows_so append.files append.schema_file append.names its_outcome (ended append.call (with_rows append.schema_file append.names) append.files did.done).ran
+  grows = grows_so append.files append.schema_file append.names its_outcome (ended append.call (append_command append.schema_file append.names) append.files did.done).ran
 
   same : grows.schema ≡ schema
   same = same_schema append.files append.schema_file schema did.declares grows.schema grows.schema_is
@@ -195,7 +195,7 @@ module _ (schema : Schema) (query : Query) (before : List ℕ) (tables : Tables)
   known_after : Known grows.schema query append.bytes (with_added query tables (its_added ∷ []))
   unfolding its_added
   known_after =
-      let end = ended append.call (with_rows append.schema_file append.names) append.files did.done in
+      let end = ended append.call (append_command append.schema_file append.names) append.files did.done in
       record {
         file = grows.after;
         is = sym (took_text append.call.out (file_text grows.schema grows.after) append.bytes

@@ -25,7 +25,7 @@ use Rattle.stats_file.specs.declared.types.StatsFile.{StatsFile}
 use Rattle.stats_file.specs.declared.types.TableStats.{TableStats}
 use Rattle.safebound_top.specs.Promise.{AsksQuery}
 use Rattle.prepared_runs.specs.Shapes.{answer_of, planned_by}
-use Rattle.prepared_runs.specs.Sources.{scans_by, sets_by, sourced}
+use Rattle.prepared_runs.specs.Sources.{scans_by, sets_by, bounds_and_lists_by}
 use Rattle.prepared_runs.specs.StatsFiles.{plan_from_file_asked}
 use Rattle.prepared_runs.specs.declared.shapes.AnyPlan.{AnyPlan}
 use Rattle.safebound_words.specs.declared.command.ListSource.TheVariants as sources
@@ -102,14 +102,14 @@ module _ (schema : Schema) (bytes : List ℕ) (made : StatsCall) (planned : Plan
   }
 
   plans_same : plan_from_file_asked planned.terms outcome_query file
-      ≡ planned_by planned.terms.shape (sourced sources.Columns schema outcome_query tables) made.accuracy planned.terms.budget
+      ≡ planned_by planned.terms.shape (bounds_and_lists_by sources.Columns schema outcome_query tables) made.accuracy planned.terms.budget
   unfolding planned_by sets_by scans_by
   plans_same =
       ap (λ sets. answer_of planned.terms.shape sets (scan_bounds_of_file outcome_query file) planned.terms.budget) (sets_known outcome_query file tables made.accuracy knows)
       ∙ ap (λ scans. answer_of planned.terms.shape (set_bounds_of outcome_query tables made.accuracy) scans planned.terms.budget)
       (scans_known outcome_query file tables made.accuracy knows)
 
-  of_tables : planned_by planned.terms.shape (sourced sources.Columns schema outcome_query tables) made.accuracy planned.terms.budget ≡ Ok plan
+  of_tables : planned_by planned.terms.shape (bounds_and_lists_by sources.Columns schema outcome_query tables) made.accuracy planned.terms.budget ≡ Ok plan
   of_tables =
       sym plans_same ∙ ap (λ (f : StatsFile). plan_from_file_asked planned.terms outcome_query f) (sym file_is)
       ∙ (planned_facts.its made schema bytes start bytes (tables_of start.database) start.known planned from).planned

@@ -21,10 +21,10 @@ use Rattle.table_files.specs.EntryTables.{tables_in}
 use Rattle.prepared_runs.specs.AcceptedQuery.{AcceptedQuery, tables}
 use Rattle.safebound_words.specs.Commands.{over_query}
 use Rattle.safebound_words.specs.declared.command.Command.{Command}
-use Rattle.safebound_words.specs.declared.command.Work.TheVariants as works
+use Rattle.safebound_words.specs.declared.command.QueryTask.TheVariants as works
 use Rattle.prepared_runs.specs.RunOutcome.{Planned}
 use Rattle.prepared_runs.specs.Shapes.{answer_of, planned_by}
-use Rattle.prepared_runs.specs.Sources.{sets_by, scans_by, sourced}
+use Rattle.prepared_runs.specs.Sources.{sets_by, scans_by, bounds_and_lists_by}
 use Rattle.prepared_runs.specs.Verdict.{command_run, command_stage, run_asked, verdict}
 use Rattle.prepared_runs.specs.declared.shapes.AnyPlan.{AnyPlan}
 use Rattle.prepared_runs.specs.declared.shapes.AnyPlan.TheVariants as shaped
@@ -63,13 +63,13 @@ tree_is_answer shapes.Tree sets scans budget plan e = tree_from_map (tree_answer
 tree_is_answer shapes.Order sets scans budget plan e = absurd (no_tree (plan_answer sets scans budget) plan e)
 
 order_planned : (shape : Shape) (schema : Schema) (query : Query) (ts : Tables) (accuracy budget : ℕ) (plan : Plan)
-    → planned_by shape (sourced sources.Columns schema query ts) accuracy budget ≡ Ok (shaped.OrderPlan plan)
+    → planned_by shape (bounds_and_lists_by sources.Columns schema query ts) accuracy budget ≡ Ok (shaped.OrderPlan plan)
     → planned query ts accuracy budget ≡ Ok plan
 unfolding planned_by sets_by scans_by planned
 order_planned shape schema query ts accuracy budget plan e = order_answer shape _ _ budget plan e
 
 tree_planned : (shape : Shape) (schema : Schema) (query : Query) (ts : Tables) (accuracy budget : ℕ) (plan : BushyPlan)
-    → planned_by shape (sourced sources.Columns schema query ts) accuracy budget ≡ Ok (shaped.TreePlan plan)
+    → planned_by shape (bounds_and_lists_by sources.Columns schema query ts) accuracy budget ≡ Ok (shaped.TreePlan plan)
     → tree_answer (set_bounds_of query ts accuracy) (scan_bounds_of query ts accuracy) budget ≡ Ok plan
 unfolding planned_by sets_by scans_by
 tree_planned shape schema query ts accuracy budget plan e = tree_is_answer shape _ _ budget plan e
@@ -77,7 +77,7 @@ tree_planned shape schema query ts accuracy budget plan e = tree_is_answer shape
 -- ---- the bounds of a plan of either shape
 
 pub parts_near : (shape : Shape) (schema : Schema) (query : Query) (ts : Tables) (accuracy budget : ℕ) (plan : AnyPlan) → FiltersNoEntry query → IsOf schema query
-    → planned_by shape (sourced sources.Columns schema query ts) accuracy budget ≡ Ok plan → PartsAreNear query ts accuracy plan
+    → planned_by shape (bounds_and_lists_by sources.Columns schema query ts) accuracy budget ≡ Ok plan → PartsAreNear query ts accuracy plan
 parts_near shape schema query ts accuracy budget (shaped.OrderPlan plan) none of made =
     levels_near query ts accuracy budget plan none of.few (order_planned shape schema query ts accuracy budget plan made)
 parts_near shape schema query ts accuracy budget (shaped.TreePlan plan) none of made =
@@ -100,9 +100,9 @@ module _ (schema_file query_file : List ℕ) (task : PlanWork) (files : Files) (
   its_source = ap (λ (r : AcceptedQuery). r.source) same_run ∙ source
 
   made : (plan : AnyPlan) → run.plan ≡ plan
-      → planned_by task.terms.shape (sourced sources.Columns s.schema s.query (tables_in s.rows)) task.accuracy task.terms.budget ≡ Ok plan
+      → planned_by task.terms.shape (bounds_and_lists_by sources.Columns s.schema s.query (tables_in s.rows)) task.accuracy task.terms.budget ≡ Ok plan
   made plan is =
-      ap (λ (from : ListSource). planned_by task.terms.shape (sourced from s.schema s.query (tables_in s.rows)) task.accuracy task.terms.budget) (sym its_source)
+      ap (λ (from : ListSource). planned_by task.terms.shape (bounds_and_lists_by from s.schema s.query (tables_in s.rows)) task.accuracy task.terms.budget) (sym its_source)
       ∙ s.planned ∙ ap (λ (p : AnyPlan). Ok p) (ap (λ (r : AcceptedQuery). r.plan) same_run ∙ is)
 
   pub run_levels : (plan : Plan) → run.plan ≡ shaped.OrderPlan plan → LevelsAreNear run.query (tables run) task.accuracy plan

@@ -1,4 +1,4 @@
--- A statistics file that stands for a query's tables also stands for those of another query, if both have the same rows.
+-- A statistics file that stands for a query's tables also stands for another query's tables, if the tables of both queries have the same rows.
 use Rattle.std.proofs.Common.{ℕ, List, get_or, ap, ◌∙◌, subst}
 use Rattle.appended_stats.specs.Appended.{tables_of_rows}
 use Rattle.csv_tables.specs.Rows.{Row}

@@ -22,15 +22,15 @@ use Rattle.query_types.specs.Validity.{IsOf}
 use Rattle.query_types.specs.declared.types.Query.{Query}
 use Rattle.query_types.specs.declared.types.Source.{Source}
 use Rattle.safebound_words.specs.Commands.{over_query}
-use Rattle.safebound_words.specs.declared.command.Aim.TheVariants as aims
+use Rattle.safebound_words.specs.declared.command.SchemaTask.TheVariants as aims
 use Rattle.safebound_words.specs.declared.command.Command.{Command}
-use Rattle.safebound_words.specs.declared.command.Work.TheVariants as works
+use Rattle.safebound_words.specs.declared.command.QueryTask.TheVariants as works
 use Rattle.schema_types.specs.declared.types.Schema.{Schema}
 use Rattle.sql_meaning.specs.Tables.{Tables, tables_of}
 use Rattle.stats_file.specs.declared.types.StatsFile.{StatsFile}
 use Rattle.table_files.specs.Stage.{no_table, table_at, table_rows}
 use Rattle.table_files.proofs.EntryLaws.{two_steps}
-use Rattle.table_files.proofs.StagedFiles.{table_ok, told_ok}
+use Rattle.table_files.proofs.StagedFiles.{table_ok, ok_without_refusal}
 use Rattle.prepared_runs.proofs.LimitFacts.{within_ok}
 use Rattle.prepared_runs.proofs.ShapeFacts.{plan_over_fits}
 use Rattle.prepared_runs.specs.StatsFiles.{made_from_file, plan_from_file_asked, stats_file_plan_stage, stats_stage, unless_missing}
@@ -95,7 +95,7 @@ plan_made schema_file query_file stats_file terms files outcome ran =
       stats_is = third.1;
       there = there_is (first_missing second.0 third.0) there.0 there.1;
       plan = last.0;
-      planned = told_ok plan_refusal (plan_from_file_asked terms second.0 third.0) last.0 last.1;
+      planned = ok_without_refusal plan_refusal (plan_from_file_asked terms second.0 third.0) last.0 last.1;
       within = kept.1;
       is = kept.0;
     }

@@ -30,7 +30,7 @@ use Rattle.csv_tables.specs.Cells.{AreCellsOf, rows_of_cells, rows_of_columns}
 use Rattle.csv_tables.specs.Files.{after_header, header_of, rows_in_records, rows_of_file, rows_under_header}
 use Rattle.csv_tables.specs.Header.{column_place, column_places}
 use Rattle.csv_tables.specs.Keys.{rows_with_keys}
-use Rattle.csv_tables.specs.Numbers.{bits_of, decimal_after, greatest_magnitude, is_minus, is_numeral, signed, magnitude_of, without_sign}
+use Rattle.csv_tables.specs.Numbers.{bits_of, decimal_after, greatest_magnitude, begins_with_minus, is_numeral, signed, magnitude_of, without_sign}
 use Rattle.csv_tables.specs.Pools.{PoolBeginsWith}
 use Rattle.csv_tables.specs.Reads.{AreCellsOfRow, IsCellOf, add_row, kinds_of}
 use Rattle.csv_tables.specs.Records.{Record, records_of}
@@ -137,9 +137,9 @@ text_value most false field value old pool utf8 e = absurd cc
 
 value_cell : (k : Kind) (field : List ℕ) (value : Value) (old : List (List ℕ)) → IsPool old → IsUtf8 field → value_of_field k field ≡ Some value → CellFound k value old
 value_cell kind.Int field value old pool utf8 e =
-    number_cell (is_minus field) (magnitude_of (greatest_magnitude (is_minus field)) (without_sign field)) value old pool
-    (λ size is. sized (is_numeral (without_sign field)) (nat_le (decimal_after 0 (without_sign field)) (greatest_magnitude (is_minus field)))
-    (decimal_after 0 (without_sign field)) (greatest_magnitude (is_minus field)) size refl is) e
+    number_cell (begins_with_minus field) (magnitude_of (greatest_magnitude (begins_with_minus field)) (without_sign field)) value old pool
+    (λ size is. sized (is_numeral (without_sign field)) (nat_le (decimal_after 0 (without_sign field)) (greatest_magnitude (begins_with_minus field)))
+    (decimal_after 0 (without_sign field)) (greatest_magnitude (begins_with_minus field)) size refl is) e
 value_cell (kind.Text most) field value old pool utf8 e = text_value most (nat_le (length (chars field)) most) field value old pool utf8 e
 
 -- ---- if `then_all` has a value, its first step and the rest have one
@@ -225,7 +225,7 @@ module _ (columns : List Column) (places : List ℕ) (width : ℕ) (records : Li
       (record { row = both.x; is_row = both.first_is; cells_of_row = row.are }) row.grows.begins (omega (arith, row.grows.few, few)) low)
       row.grows.pool text.1 both.rest_is
 
--- ---- the records of a text
+-- ---- the records of a UTF-8 text have UTF-8 fields
 
 record_text : (s : State) (xs : List ℕ) (p : Read) → IsUtf8 xs → next_record default_config s [] [] xs ≡ Some p → AllText p.0 × IsUtf8 p.2
 record_text s xs p text e =

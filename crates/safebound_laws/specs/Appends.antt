@@ -41,7 +41,7 @@ abbrev pub StandsAfter : StatsFile → ℕ → List Row → StatsFile → Type 0
 StandsAfter before table rows after = (query : Query) (tables grown : Tables) → StandsFor query before tables → HasNewRows query table rows tables grown
     → StandsFor query after grown
 
--- if `before` stands for the tables of a plan's query, then no bound of a plan from `after` is too low for the tables with the new rows
+-- Suppose that `before` stands for the tables of a plan's query. Then no bound of a plan from `after` is too low for the tables with the new rows
 abbrev pub PlansAfter : StatsFile → ℕ → List Row → StatsFile → Type 0
 PlansAfter before table rows after = (words : List (List ℕ)) (files : Files) (plan : PlanFromStatsFile) (tables grown : Tables)
     → verdict words files ≡ Ok (PlannedFromStats plan) → plan.file ≡ after

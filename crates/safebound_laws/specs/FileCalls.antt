@@ -5,11 +5,11 @@ use Rattle.base_io.specs.Devices.{Growth}
 use Rattle.base_io.specs.Files.{Files, file_of}
 use Rattle.outcomes.specs.declared.status.Status.TheVariants as status
 use Rattle.safebound_words.specs.CommandLines.{AskFor}
-use Rattle.safebound_words.specs.Commands.{over_query, with_rows}
+use Rattle.safebound_words.specs.Commands.{over_query, append_command}
 use Rattle.safebound_words.specs.declared.command.Command.{Command}
 use Rattle.safebound_words.specs.declared.command.NewRows.{NewRows}
 use Rattle.safebound_words.specs.declared.command.PlanTerms.{PlanTerms}
-use Rattle.safebound_words.specs.declared.command.Work.TheVariants as works
+use Rattle.safebound_words.specs.declared.command.QueryTask.TheVariants as works
 use Rattle.schema_types.specs.declared.types.Schema.{Schema}
 use Rattle.safebound_top.specs.Call.{Call}
 use Rattle.safebound_top.specs.Headline.{Headline}
@@ -54,7 +54,7 @@ pub record AppendCall : Type 0 where
 
 -- the call of `append` read this schema, and its statistics file has these bytes
 pub record AppendedTo (schema : Schema) (before : List ℕ) (append : AppendCall) : Type 0 where
-  pub done : IsDone append.call (with_rows append.schema_file append.names) append.files
+  pub done : IsDone append.call (append_command append.schema_file append.names) append.files
   pub declares : DeclaresSchema append.files append.schema_file schema
   pub there : file_of append.files append.names.stats_file ≡ Some before
   pub wrote : Took append.call.out append.bytes

@@ -1,4 +1,4 @@
--- What a plan from a statistics file says about the rows in table files: the rows that `stats` read, and the rows that `append` read after `stats`.
+-- What a plan from a statistics file says about the rows in table files. `stats` read some of these rows, and `append` may have read more.
 use Rattle.std.specs.Prelude.{ℕ, ◌≡◌, ◌<◌, ◌==◌, if◌then◌else◌, ◌++◌, List, [], ◌∷◌, length, slice_get, Some, Ok, true, ⊤}
 use Rattle.std.specs.List.{flat_map}
 use Rattle.std.specs.Str.{str_eq_ignore_ascii_case}
@@ -16,7 +16,7 @@ use Rattle.safebound_top.specs.Call.{Grew}
 use Rattle.safebound_top.specs.Promise.{AreInFile, AsksQuery, PrintsPlan}
 use Rattle.safebound_top.specs.Texts.{plan_text_of}
 use Rattle.prepared_runs.specs.Shapes.{planned_by}
-use Rattle.prepared_runs.specs.Sources.{sourced}
+use Rattle.prepared_runs.specs.Sources.{bounds_and_lists_by}
 use Rattle.prepared_runs.specs.declared.shapes.AnyPlan.{AnyPlan}
 use Rattle.prepared_runs.specs.declared.shapes.AnyPlan.TheVariants as shaped
 use Rattle.safebound_words.specs.declared.command.ListSource.TheVariants as sources
@@ -29,7 +29,7 @@ pub record IsOver (made : StatsCall) (planned : PlanCall) (schema : Schema) (que
   pub asks : AsksQuery planned.files planned.query_file schema query
   pub rows : (entry : ℕ) → entry < length query.from → AreInFile made.files schema query entry (tables entry)
 
--- `plan --stats` wrote the text of a plan to notes, and over the rows that `stats` read no scan and no level or node has more rows than the text
+-- `plan --stats` wrote the text of a plan to notes. Over the rows that `stats` read, no scan and no level or node has more rows than the text
 -- says
 pub record PlanHolds (made : StatsCall) (planned : PlanCall) (schema : Schema) : Type 0 where
   pub query : Query
@@ -39,14 +39,14 @@ pub record PlanHolds (made : StatsCall) (planned : PlanCall) (schema : Schema) :
   pub plan : PrintsPlan planned.terms.shape planned.terms.memory query tables (scans_of query tables) text
   pub written : Grew planned.call.notes text
 
--- `plan --stats` wrote to notes the plan that `plan` makes of the rows that `stats` read, at the accuracy of `stats` and on the terms of
--- `plan --stats`
+-- `plan --stats` wrote to notes the plan that `plan` makes of the rows that `stats` read. This plan is at the accuracy of `stats`, and on the terms
+-- (shape, budget, limit of memory) of `plan --stats`
 pub record PlanIsOfTables (made : StatsCall) (planned : PlanCall) (schema : Schema) : Type 0 where
   pub query : Query
   pub tables : Tables
   pub over : IsOver made planned schema query tables
   pub plan : AnyPlan
-  pub same : planned_by planned.terms.shape (sourced sources.Columns schema query tables) made.accuracy planned.terms.budget ≡ Ok plan
+  pub same : planned_by planned.terms.shape (bounds_and_lists_by sources.Columns schema query tables) made.accuracy planned.terms.budget ≡ Ok plan
   pub written : Grew planned.call.notes (plan_text_of query.from plan planned.terms.memory)
 
 -- the bound of each level or inner node is near the bound without compression
@@ -54,8 +54,8 @@ abbrev pub PartsAreNear : Query → Tables → ℕ → AnyPlan → Type 0
 PartsAreNear query tables accuracy (shaped.OrderPlan plan) = LevelsAreNear query tables accuracy plan
 PartsAreNear query tables accuracy (shaped.TreePlan plan) = NodesAreNear query tables accuracy plan
 
--- `plan --stats` wrote a plan to notes, and the bound of each level or inner node is near the bound without compression, over the rows that
--- `stats` read
+-- `plan --stats` wrote a plan to notes. Over the rows that `stats` read, the bound of each level or inner node is near the bound without
+-- compression
 pub record PlanIsNear (made : StatsCall) (planned : PlanCall) (schema : Schema) : Type 0 where
   pub query : Query
   pub tables : Tables
@@ -80,7 +80,7 @@ pub record AddsRowsOfFile (schema : Schema) (append : AppendCall) (added : Added
   pub there : file_of append.files append.names.rows_file ≡ Some bytes
   pub read : rows_of_file table bytes ≡ Ok added.rows
 
--- the two lists are equally long, and call i of `append` added the rows at index i of the other list
+-- there are as many `AddedRows` as calls of `append`, and call i added the rows at index i
 abbrev pub AddRowsEach : Schema → List AppendCall → List AddedRows → Type 0
 AddRowsEach schema [] [] = ⊤
 AddRowsEach schema [] (added ∷ more) = ⊥

@@ -1,4 +1,4 @@
--- The texts that a run prints, from its outcome; and the work of a plan over whole columns.
+-- The texts that a run prints, made from its outcome. Also the work of a plan over whole columns.
 use Rattle.std.specs.Prelude.{ℕ, List, Option}
 use Rattle.prepared_runs.specs.RunOutcome.{RunOutcome}
 use Rattle.safebound_top.specs.OutcomeTexts.{notes_text, out_text}
@@ -7,10 +7,10 @@ use Rattle.safebound_words.specs.declared.command.OutText.TheVariants as out
 use Rattle.safebound_words.specs.declared.command.PlanTerms.{PlanTerms}
 use Rattle.safebound_words.specs.declared.command.PlanWork.{PlanWork}
 
--- the text for notes, if there is one, and the text for out, if there is one
+-- the text for the sink `notes` and the text for the sink `out`; either may be missing
 abbrev pub printed : RunOutcome → Option (List ℕ) × Option (List ℕ)
 printed outcome = (notes_text outcome, out_text outcome)
 
--- the work that `plan` asks for without `--keys`, `--reduce` or `--count`: statistics of whole columns at an accuracy, and no text for out
+-- the work of `plan` without `--keys`, `--reduce` or `--count`: statistics of whole columns at an accuracy, and no text for the sink `out`
 abbrev pub plan_of_columns : PlanTerms → ℕ → PlanWork
 plan_of_columns terms accuracy = record { terms = terms; accuracy = accuracy; source = sources.Columns; out = out.Nothing }

@@ -2,7 +2,7 @@
 ghost use Rattle.std.specs.Prelude.{◌≡◌, ℕ, List, Ok, Some};
 ghost use Rattle.base_io.specs.Files.{Files};
 ghost use Rattle.safebound_words.specs.Answer.{command_of};
-ghost use Rattle.safebound_words.specs.Commands.{with_rows};
+ghost use Rattle.safebound_words.specs.Commands.{append_command};
 ghost use Rattle.prepared_runs.specs.RunOutcome.{RunOutcome};
 ghost use Rattle.prepared_runs.specs.Verdict.{verdict};
 ghost use Rattle.safebound_laws.specs.Appends.{GrowsByFile, PlansAfter, StandsAfter};
@@ -11,7 +11,7 @@ ghost use Rattle.safebound_laws.specs.Appends.{GrowsByFile, PlansAfter, StandsAf
 /// name. The file that it writes is this statistics file with the new rows counted.
 pub fn appended_files_are_read()
     ensures { (words : List (List ℕ)) (files : Files) (schema stats name rows : List ℕ) (outcome : RunOutcome)
-        → command_of words ≡ Some (with_rows schema (record { stats_file = stats; table = name; rows_file = rows })) → verdict words files ≡ Ok outcome
+        → command_of words ≡ Some (append_command schema (record { stats_file = stats; table = name; rows_file = rows })) → verdict words files ≡ Ok outcome
         → GrowsByFile files schema stats name rows outcome }
 {}
 

@@ -9,12 +9,12 @@ ghost use Rattle.tree_plans.specs.declared.bushy.BushyPlan.{BushyPlan};
 ghost use Rattle.plan_nearness.specs.Nearness.{FiltersNoEntry, LevelsAreNear, NodesAreNear};
 ghost use Rattle.prepared_runs.specs.AcceptedQuery.{AcceptedQuery, tables};
 ghost use Rattle.safebound_words.specs.Commands.{over_query};
-ghost use Rattle.safebound_words.specs.declared.command.Work.TheVariants as works;
+ghost use Rattle.safebound_words.specs.declared.command.QueryTask.TheVariants as works;
 ghost use Rattle.safebound_top.specs.Call.{Call};
 ghost use Rattle.safebound_top.specs.Headline.{Headline};
 ghost use Rattle.prepared_runs.specs.RunOutcome.{Planned};
 ghost use Rattle.safebound_top.specs.Promise.{Promise};
-ghost use Rattle.prepared_runs.specs.Shops.{shop_of, shop_store};
+ghost use Rattle.prepared_runs.specs.Shops.{demo_number_of, shop_store};
 ghost use Rattle.prepared_runs.specs.Verdict.{command_stage, verdict};
 ghost use Rattle.prepared_runs.specs.declared.shapes.AnyPlan.TheVariants as shaped;
 ghost use Rattle.safebound_words.specs.declared.command.ListSource.TheVariants as sources;
@@ -27,14 +27,14 @@ pub fn the_headline_keeps_the_promise()
 
 /// `demo` never ends with a read fault or an absent file. It reads only the files of its shop, which are in memory, and these reads never fail.
 pub fn demo_meets_no_read_fault()
-    ensures fault { (call : Call) (number : ℕ) → Headline call → shop_of call.words ≡ Some number → call.store ≡ shop_store number
+    ensures fault { (call : Call) (number : ℕ) → Headline call → demo_number_of call.words ≡ Some number → call.store ≡ shop_store number
         → (file : FileId) → call.status ≢ status.ReadFault file }
-    ensures absent { (call : Call) (number : ℕ) → Headline call → shop_of call.words ≡ Some number → call.store ≡ shop_store number
+    ensures absent { (call : Call) (number : ℕ) → Headline call → demo_number_of call.words ≡ Some number → call.store ≡ shop_store number
         → (file : FileId) → call.status ≢ status.Refused (refusal.Missing file) }
 {}
 
-/// Printed bounds are near the bounds without compression, if no conjunct names one entry alone and none of `--keys`, `--reduce` and
-/// `--count` is given. At accuracy K, K^n times the printed bound of a level or inner node of n entries is at most (K + 1)^n times its bound
+/// Printed bounds are near the bounds without compression. This needs that no conjunct names one entry alone, and that `--keys`, `--reduce` and
+/// `--count` aren't given. Let a level or inner node have n entries. At accuracy K, K^n times its printed bound is at most (K + 1)^n times its bound
 /// without compression.
 pub fn printed_bounds_are_near()
     ensures levels { (words : List (List ℕ)) (files : Files) (shop : Option ℕ) (schema query : List ℕ) (task : PlanWork) (run : AcceptedQuery) (plan : Plan)

@@ -7,17 +7,17 @@ ghost use Rattle.safebound_top.specs.Promise.{AsksQuery};
 ghost use Rattle.safebound_laws.specs.FileCalls.{AppendCall, AppendedEach, PlanCall, PlannedFrom, StatsCall, WroteStats, last_bytes};
 ghost use Rattle.safebound_laws.specs.FilePlans.{GrownPlanHolds, PlanHolds, PlanIsNear, PlanIsOfTables};
 
-/// `stats`, then `plan --stats`. Suppose that the statistics file of the second call has the bytes that the first call wrote, and that both
-/// calls read the same schema. Then, for every query that the second call accepts, no scan and no level over the rows that `stats` read has
-/// more rows than the plan text says.
+/// `stats`, then `plan --stats`. Suppose that the statistics file of the second call has the bytes that the first call wrote. Suppose that both
+/// calls read the same schema. Take any query that the second call accepts, over the rows that `stats` read. Then no scan and no level has more
+/// rows than the plan text says.
 pub fn plans_from_written_files_hold()
     ensures { (schema : Schema) (bytes : List ℕ) (made : StatsCall) (planned : PlanCall)
         → WroteStats made schema bytes → PlannedFrom schema bytes planned → PlanHolds made planned schema }
 {}
 
 /// `stats`, then `append` any number of times, then `plan --stats`. Suppose that the statistics file of each call has the bytes that the call
-/// before wrote, and that all calls read the same schema. Take any query that the last call accepts, over the rows that `stats` read,
-/// followed by all new rows. Then no scan and no level has more rows than the plan text says.
+/// before wrote. Suppose that all calls read the same schema. Take any query that the last call accepts, over the rows that `stats` read with
+/// all new rows after them. Then no scan and no level has more rows than the plan text says.
 pub fn plans_from_appended_files_hold()
     ensures { (schema : Schema) (bytes : List ℕ) (made : StatsCall) (appends : List AppendCall) (planned : PlanCall)
         → WroteStats made schema bytes → AppendedEach schema bytes appends → PlannedFrom schema (last_bytes bytes appends) planned
@@ -25,15 +25,15 @@ pub fn plans_from_appended_files_hold()
 {}
 
 /// `stats`, then `plan --stats`, under the conditions of `plans_from_written_files_hold`: the plan is the same as the plan from the tables.
-/// For every query that the later call accepts, `plan` makes this plan from the rows that `stats` read, at the accuracy of `stats` and within
+/// Take any query that the later call accepts. `plan` makes this plan from the rows that `stats` read, at the accuracy of `stats` and within
 /// the later call's budget.
 pub fn plans_from_written_files_are_those_of_the_tables()
     ensures { (schema : Schema) (bytes : List ℕ) (made : StatsCall) (planned : PlanCall)
         → WroteStats made schema bytes → PlannedFrom schema bytes planned → PlanIsOfTables made planned schema }
 {}
 
-/// `stats`, then `plan --stats`, under the conditions of `plans_from_written_files_hold`: the bounds of the plan are near the bounds without
-/// compression, if no conjunct of the query names one entry alone. At accuracy K, K^n times the printed bound of a level of n entries is at
+/// `stats`, then `plan --stats`, under the conditions of `plans_from_written_files_hold`. If no conjunct of the query names one entry alone, the
+/// bounds of the plan are near the bounds without compression. At accuracy K, K^n times the printed bound of a level of n entries is at
 /// most (K + 1)^n times its bound without compression. At the usual accuracy, 1, the printed bound is at most 2^n times the bound without
 /// compression.
 pub fn plans_from_written_files_are_near()

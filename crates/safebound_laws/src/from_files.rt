@@ -6,11 +6,11 @@ ghost use Rattle.outcomes.specs.Reads.{mapped};
 ghost use Rattle.outcomes.specs.declared.names.FileId.TheVariants as file;
 ghost use Rattle.safebound_words.specs.Commands.{over_query};
 ghost use Rattle.safebound_words.specs.declared.command.PlanTerms.{PlanTerms};
-ghost use Rattle.safebound_words.specs.declared.command.Work.TheVariants as works;
+ghost use Rattle.safebound_words.specs.declared.command.QueryTask.TheVariants as works;
 ghost use Rattle.schema_types.specs.Texts.{IsSchemaOf};
 ghost use Rattle.schema_types.specs.declared.types.Schema.{Schema};
 ghost use Rattle.stats_answers.specs.StatsTexts.{stats_answer};
-ghost use Rattle.stats_file.specs.Answers.{Answers};
+ghost use Rattle.stats_file.specs.Answers.{IsAllowedResult};
 ghost use Rattle.stats_file.specs.FileText.{file_text};
 ghost use Rattle.stats_file.specs.Rules.{KeepsRules};
 ghost use Rattle.stats_file.specs.declared.types.StatsError.{StatsError};
@@ -28,12 +28,12 @@ pub fn files_of_declared_schemas_are_read()
     ensures answered { (text : List ℕ) (schema : Schema) (file : StatsFile) → IsSchemaOf text (Ok schema) → KeepsRules schema file
         → stats_answer schema (file_text schema file) ≡ Ok file }
     ensures read { (text : List ℕ) (schema : Schema) (file : StatsFile) (answer : Result StatsFile StatsError)
-        → IsSchemaOf text (Ok schema) → KeepsRules schema file → Answers schema (file_text schema file) answer
+        → IsSchemaOf text (Ok schema) → KeepsRules schema file → IsAllowedResult schema (file_text schema file) answer
         → (answer ≡ Ok file) ⊎ (answer ≡ Err error.NoMemory) }
 {}
 
-/// Suppose that `stats` over some files writes the text of a statistics file, and that one of these files, `stats_file`, has exactly this
-/// text. Then `plan --stats` with this file prints what `plan` prints at the accuracy of `stats`, or both are refused for the same cause.
+/// Suppose that `stats` over some files writes the text of a statistics file. Suppose that one of these files, `stats_file`, has exactly this
+/// text. Then `plan --stats` with this file prints what `plan` prints at the accuracy of `stats`. Or both calls are refused for the same cause.
 /// This holds for each budget, each shape and each limit of memory.
 pub fn files_plan_as_their_tables()
     ensures { (schema_file query_file stats_file : List ℕ) (accuracy : ℕ) (terms : PlanTerms) (files : Files) (written : RunOutcome) (text : List ℕ)

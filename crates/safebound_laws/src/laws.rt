@@ -27,7 +27,7 @@ ghost use Rattle.safebound_words.specs.Answer.{command_of};
 ghost use Rattle.safebound_words.specs.Commands.{demo_of};
 ghost use Rattle.prepared_runs.specs.RunOutcome.{KeepsItsLimit, NoBoundIsTooLow, PrintsTheAnswer};
 ghost use Rattle.prepared_runs.specs.Shapes.{planned_by};
-ghost use Rattle.prepared_runs.specs.Sources.{SourceNeeds, Sourced, sourced, sourced_of_file};
+ghost use Rattle.prepared_runs.specs.Sources.{SourceNeeds, BoundsAndLists, bounds_and_lists_by, sourced_of_file};
 ghost use Rattle.prepared_runs.specs.StatsFiles.{plan_from_file_asked};
 ghost use Rattle.safebound_words.specs.declared.command.PlanTerms.{PlanTerms};
 ghost use Rattle.prepared_runs.specs.Standing.{IsSource};
@@ -51,27 +51,27 @@ pub fn demo_is_an_audit()
         → verdict words files ≡ verdict (codes "audit" ∷ codes "schema.sql" ∷ codes "query.sql" ∷ []) files }
 {}
 
-/// A source gives bounds, and the rows that are joined. At every accuracy, each bound is at least the number of rows that it bounds, and no
-/// row of the answer is lost if only the given rows are joined. The source `Keyed` carries conditions along declared keys, so it needs tables
-/// in which the declared keys hold. They hold in all tables that were read from files. A statistics file is
-/// a source too, for all tables for which it stands.
+/// A `ListSource` gives bounds, and the rows that are joined. At every accuracy, each bound is at least the number of rows that it bounds. If
+/// only the given rows are joined, no row of the answer is lost. The source `Keyed` carries conditions along declared keys, so it needs tables
+/// in which the declared keys hold. They hold in all tables that were read from files. A statistics file gives bounds and rows in the same
+/// way, for all tables for which it stands.
 pub fn sources_are_sound()
     ensures stand { (source : ListSource) (schema : Schema) (query : Query) (tables : Tables) → SourceNeeds source schema query tables
-        → IsSource query tables (sourced source schema query tables) }
+        → IsSource query tables (bounds_and_lists_by source schema query tables) }
     ensures read { (source : ListSource) (schema : Schema) (query : Query) (files : Files) (rows : List (List Row)) → IsOf schema query
         → tables_stage schema query.from files ≡ Ok rows → SourceNeeds source schema query (tables_in rows) }
     ensures files { (query : Query) (file : StatsFile) → NamesItsEntries query → KeepsRulesOfSome file → first_missing query file ≡ None
         → (tables : Tables) → StandsFor query file tables → IsSource query tables (sourced_of_file query file tables) }
 {}
 
-/// The program may run out of memory, but the definitions that specify it never give the error `NoMemory`. This holds for the texts of a schema, a
-/// query and statistics, a table's bytes, a plan of any source and shape, and a plan from a statistics file. So each refusal of the verdict is about
-/// the words or about a file.
+/// The program may run out of memory, but the definitions that specify it never give the error `NoMemory`. This holds for reading a schema, a query,
+/// statistics and a table. It holds for a plan of any `ListSource` and shape, and for a plan from a statistics file. So each refusal of the verdict
+/// is about the words, the files or the plan.
 pub fn definitions_never_give_no_memory()
     ensures schemas { (text : List ℕ) → schema_answer text ≢ Err schema_error.NoMemory }
     ensures queries { (schema : Schema) (text : List ℕ) → query_answer schema text ≢ Err query_error.NoMemory }
     ensures tables { (table : Table) (bytes : List ℕ) → rows_of_file table bytes ≢ Err table_error.NoMemory }
-    ensures plans { (shape : Shape) (given : Sourced) (accuracy budget : ℕ)
+    ensures plans { (shape : Shape) (given : BoundsAndLists) (accuracy budget : ℕ)
         → planned_by shape given accuracy budget ≢ Err plan_error.NoMemory }
     ensures statistics { (schema : Schema) (text : List ℕ) → stats_answer schema text ≢ Err stats_error.NoMemory }
     ensures filed_plans { (terms : PlanTerms) (query : Query) (file : StatsFile)

@@ -1,4 +1,4 @@
-//! Laws from which those of `file_plans` are proved. A call does nothing; its contract is the law.
+//! Laws from which the laws of `file_plans` are proved. A call does nothing; its contract is the law.
 ghost use Rattle.std.specs.Prelude.{◌≡◌, ℕ, List, Ok};
 ghost use Rattle.base_io.specs.Files.{Files};
 ghost use Rattle.stats_file_of_query.specs.Standing.{StandsFor};
@@ -24,8 +24,8 @@ pub fn appended_texts_are_read_back()
         → stats_answer grows.schema (file_text grows.schema grows.after) ≡ Ok grows.after }
 {}
 
-/// Suppose that a statistics file has sections only of tables that a query names, and stands for the query's tables. Then the file stands for
-/// the tables of any other query too, if each table that both queries name has the same rows in both.
+/// Suppose that a statistics file has sections only of tables that a query names, and stands for the query's tables. Take another query, in which
+/// each table that both queries name has the same rows. Then the file stands for the tables of this query too.
 pub fn files_stand_for_other_queries()
     ensures { (query other : Query) (file : StatsFile) (tables also : Tables) → StandsFor query file tables → IsOfTables query file
         → HaveSameRows query tables other also → StandsFor other file also }

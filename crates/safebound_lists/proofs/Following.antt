@@ -1,4 +1,4 @@
--- Runs that follow one another stand for a list. The lemmas are about the sum and the length of this list, and about the test of the runs one by one.
+-- Valid runs stand for a list. The lemmas are about the sum and the length of this list, and about the loop that tests the runs.
 use Rattle.std.proofs.Common.{◌≡◌, ℕ, zero, suc, ◌+◌, ◌-◌, ◌*◌, ◌/◌, ◌<◌, ◌≤◌, ◌^◌, List, [], ◌∷◌, ◌++◌, length, take, replicate, ap, sym, ◌∙◌, subst, sum, arith}
 use Rattle.std.specs.List.{AllByRecursion, All}
 use Rattle.std.proofs.Math.Nat.{le-div_iff_mul-le}
@@ -8,7 +8,7 @@ use Rattle.std.proofs.lemmas.List.Sums.{sum_by-append, sum_by-cons}
 use Rattle.std.proofs.lemmas.List.Elements.{All-from_recursion}
 use borrow.Author.Count.{below_more}
 use Rattle.safebound_lists.specs.declared.runs.Run.{Run}
-use Rattle.safebound_lists.specs.Runs.{AreRight, IsRightAt, MayFollow, list_of, no_run, run_at}
+use Rattle.safebound_lists.specs.Runs.{AreValid, IsValidAt, MayFollow, list_of, no_run, run_at}
 
 -- ---- a property of each run, when a run is added at the end or a least degree is lowered
 
@@ -69,10 +69,10 @@ room_for before run may =
 
 -- ---- the test of the runs, one after another
 
--- The loop of `first_wrong_run` has found that the runs before index `place` are right. `least` is their least degree (2^64 - 1 if there are
--- no runs before `place`), and `remaining` is 2^48 minus the sum of their list
+-- The loop of `first_wrong_run` has found that the runs before index `place` are valid. `least` is their least degree, or 2^64 - 1 if there are
+-- no runs before `place`. `remaining` is 2^48 minus the sum of their list
 pub record IsTested (runs : List Run) (place least remaining : ℕ) : Type 0 where
-  pub right : (i : ℕ) → i < place → IsRightAt runs i
+  pub right : (i : ℕ) → i < place → IsValidAt runs i
   pub least_below : AllByRecursion (λ e. least ≤ e.degree) (take place runs)
   pub greatest : (x : ℕ) → x < 2 ^ 64 → AllByRecursion (λ e. x ≤ e.degree) (take place runs) → x ≤ least
   pub sums : remaining + sum (list_of (take place runs)) ≡ 2 ^ 48
@@ -89,22 +89,22 @@ module _ (runs : List Run) (place least remaining : ℕ) (tested : IsTested runs
   more : take (place + 1) runs ≡ take place runs ++ run_at runs place ∷ []
   more = take_more runs place no_run low
 
-  -- the loop calls a run wrong in two cases: its degree is above `least`, or it has more keys than `remaining` divided by its degree
-  pub rises : (run_at runs place).degree < 2 ^ 64 → least < (run_at runs place).degree → IsRightAt runs place → ⊥
+  -- A run is invalid in two cases. Its degree is above `least`, or it has more keys than `remaining` divided by its degree
+  pub rises : (run_at runs place).degree < 2 ^ 64 → least < (run_at runs place).degree → IsValidAt runs place → ⊥
   rises fits above may = absurd (omega (arith, tested.greatest (run_at runs place).degree fits may.falls))
 
-  pub exceeds : 0 < (run_at runs place).degree → remaining / (run_at runs place).degree < (run_at runs place).keys → IsRightAt runs place → ⊥
+  pub exceeds : 0 < (run_at runs place).degree → remaining / (run_at runs place).degree < (run_at runs place).keys → IsValidAt runs place → ⊥
   exceeds some above may =
       let within : (run_at runs place).keys * (run_at runs place).degree ≤ remaining = omega (arith, sum_more (take place runs) (run_at runs place), may.sum, tested.sums) in
       absurd (omega (arith, above, (le-div_iff_mul-le {k = (run_at runs place).degree} {x = (run_at runs place).keys} {y = remaining} some).1 within))
 
-  -- a run that passes all four tests is right
+  -- a run that passes all four tests is valid
   module _ (degree : 0 < (run_at runs place).degree) (keys : 0 < (run_at runs place).keys) (falls : (run_at runs place).degree ≤ least)
       (fits : (run_at runs place).keys ≤ remaining / (run_at runs place).degree) where
     pub within_left : (run_at runs place).keys * (run_at runs place).degree ≤ remaining
     within_left = (le-div_iff_mul-le {k = (run_at runs place).degree} {x = (run_at runs place).keys} {y = remaining} degree).0 fits
 
-    may_follow : IsRightAt runs place
+    may_follow : IsValidAt runs place
     may_follow = record {
       degree = degree;
       keys = keys;
@@ -112,8 +112,8 @@ module _ (runs : List Run) (place least remaining : ℕ) (tested : IsTested runs
       sum = omega (arith, sum_more (take place runs) (run_at runs place), tested.sums, within_left);
     }
 
-    right_so_far : (i : ℕ) → i < place + 1 → IsRightAt runs i
-    right_so_far = below_more (IsRightAt runs) place tested.right may_follow
+    right_so_far : (i : ℕ) → i < place + 1 → IsValidAt runs i
+    right_so_far = below_more (IsValidAt runs) place tested.right may_follow
 
     pub one_more_tested : IsTested runs (place + 1) (run_at runs place).degree (remaining - (run_at runs place).degree * (run_at runs place).keys)
     one_more_tested = record {
@@ -124,19 +124,19 @@ module _ (runs : List Run) (place least remaining : ℕ) (tested : IsTested runs
       sums = omega (arith, ap (λ (s : List Run). sum (list_of s)) more, sum_more (take place runs) (run_at runs place), tested.sums, within_left);
     }
 
--- ---- the list that right runs stand for sums to at most 2^48
+-- ---- the list that valid runs stand for sums to at most 2^48
 
-pub right_sum : (runs : List Run) → AreRight runs → sum (list_of runs) ≤ 2 ^ 48
-right_sum [] right = omega arith
-right_sum (r ∷ rs) right =
+pub valid_sum : (runs : List Run) → AreValid runs → sum (list_of runs) ≤ 2 ^ 48
+valid_sum [] right = omega arith
+valid_sum (r ∷ rs) right =
     let whole : take (length rs + 1) (r ∷ rs) ≡ r ∷ rs = take_all (length rs + 1) (r ∷ rs) (omega arith) in
     let last : take (length rs + 1) (r ∷ rs) ≡ take (length rs) (r ∷ rs) ++ run_at (r ∷ rs) (length rs) ∷ [] = take_more (r ∷ rs) (length rs) no_run (omega arith) in
-    let may : IsRightAt (r ∷ rs) (length rs) = right (length rs) (omega arith) in
+    let may : IsValidAt (r ∷ rs) (length rs) = right (length rs) (omega arith) in
     subst (λ (s : List Run). sum (list_of s) ≤ 2 ^ 48) (sym last ∙ whole) may.sum
 
 -- ---- the loop of `pieces_of`, which adds the runs to a list one by one
 
-module _ (runs : List Run) (i v : ℕ) (pieces : List ℕ) (so_far : pieces ≡ list_of (take i runs)) (value : v ≡ (run_at runs i).degree) (low : i < length runs) (right : AreRight runs) where
+module _ (runs : List Run) (i v : ℕ) (pieces : List ℕ) (so_far : pieces ≡ list_of (take i runs)) (value : v ≡ (run_at runs i).degree) (low : i < length runs) (right : AreValid runs) where
   pub next_falls : All (λ x. v ≤ x) pieces
   next_falls = rw (so_far, value) (may_be_pushed (run_at runs i).degree (take i runs) (right i low).falls)
 

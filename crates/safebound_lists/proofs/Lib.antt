@@ -1,5 +1,4 @@
 pub mod Conditions
-pub mod DescendingRuns
 pub mod Following
 pub mod Small
 pub mod Writing

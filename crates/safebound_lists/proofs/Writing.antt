@@ -11,7 +11,7 @@ use Rattle.safebound_lists.specs.declared.runs.Run.{Run}
 use Rattle.safebound_lists.specs.Runs.{piece_of, no_run}
 use Rattle.safebound_lists.specs.declared.refusal.Refusal.{Refusal}
 use Rattle.safebound_lists.specs.declared.refusal.Refusal.TheVariants as refusal
-use Rattle.safebound_lists.specs.Written.{RoomBeginsWith, IsWritten, NeedsRoom}
+use Rattle.safebound_lists.specs.Written.{RoomBeginsWith, IsWritten, IsRoomRefusal}
 
 abbrev pub run_of : Piece → Run
 run_of piece = record { degree = piece.value; keys = piece.count }
@@ -68,7 +68,7 @@ all_written list ps old new count is are counted filled = record {
 
 -- ---- a refusal because the room is too small is one of the causes for which a call refuses
 
-pub as_cause : (P : Refusal → Type 0) (needed room : ℕ) → ((n : ℕ) → n ≡ needed → room < needed → P (refusal.Room n)) → (r : Result ℕ Refusal) → IfErr r (NeedsRoom needed room) → IfErr r P
+pub as_cause : (P : Refusal → Type 0) (needed room : ℕ) → ((n : ℕ) → n ≡ needed → room < needed → P (refusal.Room n)) → (r : Result ℕ Refusal) → IfErr r (IsRoomRefusal needed room) → IfErr r P
 as_cause P needed room f (Ok x) h = tt
 as_cause P needed room f (Err (refusal.Room n)) h = f n h.0 h.1
 as_cause P needed room f (Err e) h = absurd h

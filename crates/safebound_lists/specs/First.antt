@@ -1,7 +1,7 @@
--- The first element of an argument that is wrong.
+-- The first invalid element of an argument.
 use Rattle.std.specs.Prelude.{ℕ, ◌<◌}
 
--- `place` is the first index below `count` whose element is wrong
+-- `place` is the first index below `count` whose element is invalid
 pub record IsFirstWrong (IsRight : ℕ → Type 0) (count place : ℕ) : Type 0 where
   pub within : place < count
   pub wrong : ¬ IsRight place

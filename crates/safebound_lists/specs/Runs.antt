@@ -22,8 +22,8 @@ no_run = record { degree = 0; keys = 0 }
 abbrev pub run_at : List Run → ℕ → Run
 run_at runs i = slice_index_or runs i no_run
 
--- `run` may follow the runs `before`: its degree and its number of keys are above 0, no earlier degree is lower, and the list of all of these
--- runs sums to at most 2^48
+-- `run` may follow the runs `before`. Its degree and its number of keys are above 0, and no earlier degree is lower. The list of `before` and `run`
+-- sums to at most 2^48
 pub record MayFollow (before : List Run) (run : Run) : Type 0 where
   pub degree : 0 < run.degree
   pub keys : 0 < run.keys
@@ -31,33 +31,33 @@ pub record MayFollow (before : List Run) (run : Run) : Type 0 where
   pub sum : sum (list_of (before ++ run ∷ [])) ≤ greatest_rows
 
 -- the run at index i may follow the runs before it
-abbrev pub IsRightAt : List Run → ℕ → Type 0
-IsRightAt runs i = MayFollow (take i runs) (run_at runs i)
+abbrev pub IsValidAt : List Run → ℕ → Type 0
+IsValidAt runs i = MayFollow (take i runs) (run_at runs i)
 
--- each run may follow the runs before it
-abbrev pub AreRight : List Run → Type 0
-AreRight runs = (i : ℕ) → i < length runs → IsRightAt runs i
+-- the runs are valid: each run may follow the runs before it
+abbrev pub AreValid : List Run → Type 0
+AreValid runs = (i : ℕ) → i < length runs → IsValidAt runs i
 
 -- ---- what calls need of their arguments
 
--- compression: a right list, and an accuracy from 1 to 64
+-- compression needs a valid list, and an accuracy from 1 to 64
 pub record MayBeCompressed (runs : List Run) (accuracy : ℕ) : Type 0 where
   pub some : 0 < accuracy
   pub most : accuracy ≤ most_accuracy
-  pub right : AreRight runs
+  pub right : AreValid runs
 
--- a sum: two right lists whose degrees sum to at most 2^48 together
+-- a sum needs two valid lists whose degrees sum to at most 2^48 together
 pub record MayBeAdded (runs others : List Run) : Type 0 where
-  pub right : AreRight runs
-  pub others_right : AreRight others
+  pub right : AreValid runs
+  pub others_right : AreValid others
   pub small : sum (list_of runs) + sum (list_of others) ≤ greatest_rows
 
--- a lesser list: two right lists
-pub record AreBothRight (runs others : List Run) : Type 0 where
-  pub right : AreRight runs
-  pub others_right : AreRight others
+-- a lesser list needs two valid lists
+pub record AreBothValid (runs others : List Run) : Type 0 where
+  pub right : AreValid runs
+  pub others_right : AreValid others
 
--- a greater list: two right lists. The greater of their degrees at each rank sum to at most 2^48
+-- a greater list needs two valid lists. The sum over all ranks of the greater of their degrees is at most 2^48
 pub record MayTakeGreater (runs others : List Run) : Type 0 where
-  pub both : AreBothRight runs others
+  pub both : AreBothValid runs others
   pub small : sum (rank_maximum (list_of runs) (list_of others)) ≤ greatest_rows

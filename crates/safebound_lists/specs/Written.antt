@@ -11,8 +11,8 @@ pub record RoomBeginsWith {A : Type 0} (front old new : List A) (count : ℕ) : 
   pub counted : length front ≡ count
   pub filled : new ≡ front ++ drop count old
 
--- the room now begins with `count` runs that stand for the list. Each has a lower degree than the run before, and the other elements are
--- as they were
+-- the room now begins with `count` runs that stand for the list. Each run has a lower degree than the run before it. The other elements of the
+-- room are as they were
 pub record IsWritten (list : List ℕ) (old new : List Run) (count : ℕ) : Type 0 where
   pub front : List Run
   pub stands_for : list_of front ≡ list
@@ -20,6 +20,6 @@ pub record IsWritten (list : List ℕ) (old new : List Run) (count : ℕ) : Type
   pub filled : RoomBeginsWith front old new count
 
 -- the refusal says that the room is too small, and how many elements are needed
-abbrev pub NeedsRoom : ℕ → ℕ → Refusal → Type 0
-NeedsRoom needed room (refusal.Room n) = (n ≡ needed) × (room < needed)
-NeedsRoom needed room _ = ⊥
+abbrev pub IsRoomRefusal : ℕ → ℕ → Refusal → Type 0
+IsRoomRefusal needed room (refusal.Room n) = (n ≡ needed) × (room < needed)
+IsRoomRefusal needed room _ = ⊥

@@ -3,7 +3,7 @@ ghost use Rattle.std.specs.Prelude.{◌≡◌, length, IfErr, IfOk, OnErr, OnOk}
 ghost use Rattle.degree_sequences.specs.ByRank.{rank_maximum};
 ghost use Rattle.degree_sequences.specs.RunningSums.{lesser};
 ghost use Rattle.safebound_lists.specs.Causes.{IsGreaterCause, IsLesserCause};
-ghost use Rattle.safebound_lists.specs.Runs.{AreBothRight, MayTakeGreater, list_of};
+ghost use Rattle.safebound_lists.specs.Runs.{AreBothValid, MayTakeGreater, list_of};
 ghost use Rattle.safebound_lists.specs.Written.{IsWritten};
 
 use crate::refusal::Refusal;
@@ -21,7 +21,7 @@ pub fn lesser_of(
     into: &mut [Run],
 ) -> Result<u64, Refusal>
     ensures done { IfOk result (IsWritten (lesser (list_of runs.now) (list_of others.now)) into.old into.new) }
-    ensures right { OnOk result (AreBothRight runs.now others.now) }
+    ensures right { OnOk result (AreBothValid runs.now others.now) }
     ensures refused { IfErr result (IsLesserCause runs.now others.now (length into.old)) }
     ensures kept { OnErr result (into.new ≡ into.old) }
 {
@@ -41,7 +41,7 @@ pub fn lesser_of(
     write_runs(&both, into)
 }
 
-/// Writes a list that dominates the rows of either of two values, from the list of each value. The new list has the greater degree at each rank.
+/// Writes a list that dominates the rows of each of two values, from the list of each value. The new list has the greater degree at each rank.
 pub fn greater_of(
     alloc: Global,
     runs: &[Run],

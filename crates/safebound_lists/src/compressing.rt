@@ -1,4 +1,4 @@
-//! Few runs that dominate a list.
+//! Compresses a list into few runs.
 ghost use Rattle.std.specs.Prelude.{◌≡◌, length, IfErr, IfOk, OnErr, OnOk};
 ghost use Rattle.degree_sequences.specs.Compression.{compressed};
 ghost use Rattle.safebound_lists.specs.Causes.{IsCompressCause};

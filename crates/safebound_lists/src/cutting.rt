@@ -2,7 +2,7 @@
 ghost use Rattle.std.specs.Prelude.{◌≡◌, length, IfErr, IfOk, OnErr, OnOk};
 ghost use Rattle.degree_sequences.specs.RunningSums.{cut_at};
 ghost use Rattle.safebound_lists.specs.Causes.{IsCutCause};
-ghost use Rattle.safebound_lists.specs.Runs.{AreRight, list_of};
+ghost use Rattle.safebound_lists.specs.Runs.{AreValid, list_of};
 ghost use Rattle.safebound_lists.specs.Written.{IsWritten};
 
 use crate::refusal::Refusal;
@@ -14,7 +14,7 @@ use std::alloc::Global;
 /// too.
 pub fn cut(alloc: Global, runs: &[Run], rows: u64, into: &mut [Run]) -> Result<u64, Refusal>
     ensures done { IfOk result (IsWritten (cut_at (list_of runs.now) rows) into.old into.new) }
-    ensures right { OnOk result (AreRight runs.now) }
+    ensures right { OnOk result (AreValid runs.now) }
     ensures refused { IfErr result (IsCutCause runs.now rows (length into.old)) }
     ensures kept { OnErr result (into.new ≡ into.old) }
 {

@@ -19,8 +19,8 @@ pub fn lists_dominate()
 {}
 
 /// Each row number has a key, and a list dominates rows if it dominates their keys. Let a list dominate the rows of one condition, and another list
-/// the rows of another condition. Then the lesser list dominates the rows that satisfy both conditions, and the sum of the lists dominates the rows
-/// that satisfy at least one. If the two conditions compare one column with two values, the greater list dominates the rows of each of the
+/// the rows of another condition. The lesser list then dominates the rows that satisfy both conditions. The sum of the lists dominates the rows
+/// that satisfy at least one condition. If the two conditions compare one column with two values, the greater list dominates the rows of each of the
 /// two values. A list that dominates at most `rows` keys still dominates them when it is cut at `rows`.
 pub fn conditions_dominate()
     ensures both { (rows : List ℕ) (key : ℕ → ℕ) (first second : ℕ → Bool) (list other : List ℕ)

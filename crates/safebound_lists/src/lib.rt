@@ -1,13 +1,13 @@
-//! Calls for a planner that keeps lists itself. Each call checks every value that it is given, calls the proved crates, and writes its answer
+//! Calls for a planner that keeps lists itself. Each call checks every value that it is given, and calls the proved crates. It writes its result
 //! into the caller's buffer, which is called the room.
 //!
 //! Lists are given as runs. One call makes the degree sequence of a column from its keys, and one makes a list with fewer runs. Other calls
-//! make a list from two lists, rank by rank: the sum of their elements, the greater of their elements, or the lesser of their running sums.
-//! One call cuts a list. Each call answers how many elements it wrote. If it answers a `Refusal`, the room is as it was. No call has a
+//! make a list from two lists, rank by rank. It has the sum of their elements, the greater of their elements, or the lesser of their running sums.
+//! One call cuts a list. Each call returns how many elements it wrote. If it returns a `Refusal`, the room is as it was. No call has a
 //! precondition: it tests what it needs.
 //!
-//! Callers cite `AreRight` for lists, and `MayBeCompressed`, `MayBeAdded`, `AreBothRight` and `MayTakeGreater` for what calls take. They cite
-//! `IsWritten` for what is in the room afterwards, and for each call the causes of its refusals.
+//! In contracts `AreValid` says that a list is valid. `MayBeCompressed`, `MayBeAdded`, `AreBothValid` and `MayTakeGreater` say which arguments
+//! calls accept. `IsWritten` says what is in the room afterwards. Each call has a definition of its refusals' causes (`specs/Causes.antt`).
 #![tactic(auto)]
 
 mod adding;

@@ -14,16 +14,16 @@ pub enum Refusal {
     NoMemory,
     /// There are more than 2^48 keys.
     Keys { count: u64 },
-    /// The run at this index breaks a rule of its list: degrees and numbers of keys are above 0, degrees don't increase, and the degrees of all
+    /// The run at this index breaks a rule of lists. Degrees and numbers of keys are above 0, degrees don't increase, and the degrees of all
     /// keys sum to at most 2^48.
     Run { place: u64 },
-    /// The run at this index of the second list is wrong, as in `Run`.
+    /// The run at this index of the second list breaks a rule, as in `Run`.
     OtherRun { place: u64 },
     /// The degrees of the list that a call would make of two lists sum to more than 2^48: to `sum`.
     Sum { sum: u64 },
     /// The accuracy isn't from 1 to 64.
     Accuracy { given: u64 },
-    /// The number of entries isn't from 1 to 12.
+    /// The number of entries isn't from 1 to `GREATEST_ENTRIES`; for the bytes of a plan, to `MOST_ENTRIES`.
     Entries { count: u64 },
     /// The row bound at this index is above 2^48.
     Rows { place: u64 },
@@ -31,12 +31,12 @@ pub enum Refusal {
     Equalities { count: u64 },
     /// The equality at this index names an entry that doesn't exist, or one entry on both sides.
     Equality { place: u64 },
-    /// The list at this index has a mistake. Its entry doesn't exist, or an earlier list is of the same column, or the list has no runs and no
-    /// mark `NO_VALUES`, or it names runs that don't exist.
+    /// The list at this index is invalid, for one of these reasons: its entry doesn't exist; an earlier list is of the same column; this list has no
+    /// runs and no mark `NO_VALUES`; the runs that it names don't exist.
     List { place: u64 },
     /// A column of the equality at this index has no list.
     MissingList { place: u64 },
-    /// The number of bounds isn't 2^n for a number of entries n from 1 to 12.
+    /// The number of bounds isn't 2^n for a number of entries n from 1 to `GREATEST_ENTRIES`.
     Bounds { count: u64 },
     /// The budget that the caller gave is above 2^59.
     GivenBudget { given: u64 },
@@ -48,15 +48,15 @@ pub enum Refusal {
     Joins { count: u64 },
     /// The join at this index names a node that isn't before it.
     Join { place: u64 },
-    /// The best plan passes the budget. `least` is the least budget that would do.
+    /// The best plan exceeds the budget. `least` is the least budget that would be enough.
     Budget { least: u64 },
     /// The set names an entry that doesn't exist.
     Set { given: u64 },
     /// No kind of join has this number.
     JoinKind { given: u64 },
-    /// The work passes the limit. `needed` is the least limit that would do, or 2^64 - 1 if that limit is above 2^64 - 1.
+    /// The work exceeds the limit. `needed` is the least limit that would be enough, or 2^64 - 1 if that limit is above 2^64 - 1.
     Work { needed: u64 },
-    /// Each plan has a level or a join without a bound, or the number that was asked for has more than 64 bits.
+    /// Each plan has a level or a join without a bound. Or the number that the call should give has more than 64 bits.
     PastBits,
 }
 

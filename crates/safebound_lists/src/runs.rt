@@ -1,9 +1,9 @@
-//! Lists as runs, and whether they are right.
+//! Lists as runs, and whether the runs are valid.
 ghost use Rattle.std.specs.Prelude.{◌≡◌, ◌<◌, ◌≤◌, length, IfOk, MatchOption};
 ghost use Rattle.std.specs.List.{sum};
 ghost use Rattle.limits.specs.Profile.{greatest_rows};
 ghost use Rattle.safebound_lists.specs.First.{IsFirstWrong};
-ghost use Rattle.safebound_lists.specs.Runs.{AreRight, IsRightAt, list_of};
+ghost use Rattle.safebound_lists.specs.Runs.{AreValid, IsValidAt, list_of};
 
 use base_io::NoMemory;
 use limits::GREATEST_ROWS;
@@ -18,9 +18,9 @@ pub struct Run {
     pub keys: u64,
 }
 
-/// The index of the first run that is wrong, if there is one.
+/// The index of the first invalid run, if there is one.
 pub fn first_wrong_run(runs: &[Run]) -> Option<usize>
-    ensures { MatchOption result (AreRight runs.now) (λ place. IsFirstWrong (IsRightAt runs.now) (length runs.now) place) }
+    ensures { MatchOption result (AreValid runs.now) (λ place. IsFirstWrong (IsValidAt runs.now) (length runs.now) place) }
 {
     let mut least = u64::MAX;
     let mut remaining = GREATEST_ROWS;
@@ -38,9 +38,9 @@ pub fn first_wrong_run(runs: &[Run]) -> Option<usize>
     None
 }
 
-/// The list that right runs stand for.
+/// The list that valid runs stand for.
 pub fn pieces_of(alloc: Global, runs: &[Run]) -> Result<Pieces, NoMemory>
-    requires { AreRight runs.now }
+    requires { AreValid runs.now }
     ensures pieces { IfOk result (λ pieces. pieces ≡ list_of runs.now) }
     ensures small { IfOk result (λ pieces. sum pieces ≤ greatest_rows) }
 {

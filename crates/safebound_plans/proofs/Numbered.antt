@@ -4,15 +4,15 @@ use Rattle.std.specs.List.{AllByRecursion}
 use Rattle.std.proofs.lemmas.List.Elements.{All-cons}
 use Rattle.safebound_plans.specs.declared.ordering.Level.{Level}
 use Rattle.safebound_plans.specs.declared.shaping.JoinNode.{JoinNode}
-use Rattle.safebound_plans.specs.Memory.{join_of, IsJoinRightAt, IsLevelRightAt}
+use Rattle.safebound_plans.specs.Memory.{join_of, IsJoinValidAt, IsLevelValidAt}
 use Rattle.safebound_plans.specs.Orders.{entries_in}
 
-pub entries_each : (entries : ℕ) (levels : List Level) → ((place : ℕ) → place < length levels → IsLevelRightAt entries levels place) → All (λ e. e < entries) (entries_in levels)
+pub entries_each : (entries : ℕ) (levels : List Level) → ((place : ℕ) → place < length levels → IsLevelValidAt entries levels place) → All (λ e. e < entries) (entries_in levels)
 entries_each entries [] right = λ k d low. absurd (omega arith)
 entries_each entries (level ∷ levels) right =
     All-cons (λ e. e < entries) level.entry (entries_in levels) (right 0 (omega arith)) (entries_each entries levels (λ place low. right (suc place) (omega arith)))
 
-pub rights_each : (entries end : ℕ) (joins : List JoinNode) → ((place : ℕ) → place < length joins → IsJoinRightAt entries joins place) → entries + length joins ≤ end
+pub rights_each : (entries end : ℕ) (joins : List JoinNode) → ((place : ℕ) → place < length joins → IsJoinValidAt entries joins place) → entries + length joins ≤ end
     → AllByRecursion (λ join. join.right < end) (map join_of joins)
 rights_each entries end [] right fits = tt
 rights_each entries end (join ∷ joins) right fits =

@@ -10,7 +10,7 @@ use Rattle.safebound_lists.specs.declared.refusal.Refusal.TheVariants as refusal
 use Rattle.safebound_plans.specs.Given.{AreOfSets, MayPlan}
 use Rattle.safebound_plans.specs.Bits.{all_in_128_bits}
 
--- there are `count` bounds, which isn't the number of sets of n entries for any n from 1 to 12
+-- there are `count` bounds, which isn't the number of sets of n entries for any n from 1 to `greatest_entries`
 abbrev pub IsWrongCount : List ℕ → ℕ → Type 0
 IsWrongCount bounds count = (count ≡ length bounds) × ((n : ℕ) → ¬ AreOfSets bounds n)
 
@@ -18,8 +18,8 @@ IsWrongCount bounds count = (count ≡ length bounds) × ((n : ℕ) → ¬ AreOf
 abbrev pub IsBudgetCause : List ℕ → ℕ → ℕ → Type 0
 IsBudgetCause bounds budget given = (n : ℕ) × AreOfSets bounds n × (given ≡ budget) × (greatest_budget < budget)
 
--- why a call for an order refuses: a wrong number of bounds, a budget that is too large, too little room, no order within the budget, or no order
--- in which each level has a bound
+-- Why a call for an order refuses. The number of bounds isn't 2^n, the budget is too large, or there is too little room. Or no order is within the
+-- budget, or no order has a bound for each level
 abbrev pub IsOrderCause : List ℕ → ℕ → ℕ → Refusal → Type 0
 IsOrderCause bounds budget room (refusal.Bounds count) = IsWrongCount bounds count
 IsOrderCause bounds budget room (refusal.GivenBudget given) = IsBudgetCause bounds budget given
@@ -31,8 +31,8 @@ IsOrderCause bounds budget room refusal.PastBits =
 IsOrderCause bounds budget room refusal.NoMemory = ⊤
 IsOrderCause bounds budget room _ = ⊥
 
--- why a call for a tree refuses: a wrong number of bounds, a budget that is too large, too little room, no tree within the budget, or no tree
--- in which each node has a bound
+-- Why a call for a tree refuses. The number of bounds isn't 2^n, the budget is too large, or there is too little room. Or no tree is within the
+-- budget, or no tree has a bound for each node
 abbrev pub IsTreeCause : List ℕ → ℕ → ℕ → Refusal → Type 0
 IsTreeCause bounds budget room (refusal.Bounds count) = IsWrongCount bounds count
 IsTreeCause bounds budget room (refusal.GivenBudget given) = IsBudgetCause bounds budget given

@@ -1,8 +1,8 @@
 -- How many bytes a plan takes, given its levels or its joins, and why a call for this number refuses.
 use Rattle.std.specs.Prelude.{◌≡◌, ℕ, ◌+◌, ◌^◌, ◌<◌, ◌≤◌, List, [], ◌∷◌, length, map, slice_index_or}
 use Rattle.limits.specs.Profile.{most_entries}
-use Rattle.reserve_plan.specs.Memory.{plan_bytes}
 use Rattle.tree_plans.specs.declared.bushy.Join.{Join}
+use Rattle.tree_plans.specs.Orders.{joins_of_order}
 use Rattle.tree_rows.specs.Memory.{joins_bytes}
 use Rattle.safebound_lists.specs.declared.refusal.Refusal.{Refusal}
 use Rattle.safebound_lists.specs.declared.refusal.Refusal.TheVariants as refusal
@@ -19,20 +19,21 @@ abbrev pub default_node : JoinNode
 default_node = record { left = 0; right = 0; bound = 0 }
 
 -- the level at this index is of an entry that exists
-abbrev pub IsLevelRightAt : ℕ → List Level → ℕ → Type 0
-IsLevelRightAt entries levels place = (slice_index_or levels place default_level).entry < entries
+abbrev pub IsLevelValidAt : ℕ → List Level → ℕ → Type 0
+IsLevelValidAt entries levels place = (slice_index_or levels place default_level).entry < entries
 
 -- the join at this index joins two nodes that are before it. First come the nodes of the entries, and then one node for each join
-abbrev pub IsJoinRightAt : ℕ → List JoinNode → ℕ → Type 0
-IsJoinRightAt entries joins place =
+abbrev pub IsJoinValidAt : ℕ → List JoinNode → ℕ → Type 0
+IsJoinValidAt entries joins place =
     let join = slice_index_or joins place default_node in (join.left < entries + place) × (join.right < entries + place)
 
--- there is a number of rows for each of 1 to 12 entries
+-- there is a number of rows for each of 1 to `most_entries` entries: the engine takes no more, whatever the library bounds and plans
 abbrev pub AreOfEntries : List ℕ → Type 0
 AreOfEntries rows = (1 ≤ length rows) × (length rows ≤ most_entries)
 
+-- the bytes of the order's tree
 abbrev pub order_bytes : List ℕ → List Level → ℕ
-order_bytes rows levels = plan_bytes (entries_in levels) rows (bounds_in levels)
+order_bytes rows levels = joins_bytes rows (joins_of_order (length rows) (entries_in levels) (bounds_in levels))
 
 abbrev pub join_of : JoinNode → Join
 join_of node = record { left = node.left; right = node.right; bound = node.bound }
@@ -40,40 +41,41 @@ join_of node = record { left = node.left; right = node.right; bound = node.bound
 abbrev pub nodes_bytes : List ℕ → List JoinNode → ℕ
 nodes_bytes rows joins = joins_bytes rows (map join_of joins)
 
--- there is a level for each entry, each level is of an entry that exists, and the bytes are those of the order
+-- There is a level for each entry, and each level is of an entry that exists. `bytes` are the bytes of the order
 pub record IsOrderMemory (rows : List ℕ) (levels : List Level) (bytes : ℕ) : Type 0 where
   pub entries : AreOfEntries rows
   pub as_many : length levels ≡ length rows
-  pub right : (place : ℕ) → place < length levels → IsLevelRightAt (length rows) levels place
+  pub right : (place : ℕ) → place < length levels → IsLevelValidAt (length rows) levels place
   pub are : bytes ≡ order_bytes rows levels
 
--- there is one join fewer than entries, each join joins two nodes that are before it, and the bytes are those of the tree
+-- There is one join fewer than entries, and each join joins two nodes that are before it. `bytes` are the bytes of the tree
 pub record IsTreeMemory (rows : List ℕ) (joins : List JoinNode) (bytes : ℕ) : Type 0 where
   pub entries : AreOfEntries rows
   pub as_many : length joins + 1 ≡ length rows
-  pub right : (place : ℕ) → place < length joins → IsJoinRightAt (length rows) joins place
+  pub right : (place : ℕ) → place < length joins → IsJoinValidAt (length rows) joins place
   pub are : bytes ≡ nodes_bytes rows joins
 
--- why a call for an order's bytes refuses: no entries or too many, a wrong number of levels, a level whose entry doesn't exist, or 2^64 bytes or more
+-- Why a call for an order's bytes refuses. There are no entries or too many, or there isn't a level for each entry. Or the entry of a level doesn't
+-- exist, or the order takes 2^64 bytes or more
 abbrev pub IsOrderMemoryCause : List ℕ → List Level → Refusal → Type 0
 IsOrderMemoryCause rows levels (refusal.Entries count) = (count ≡ length rows) × ¬ AreOfEntries rows
 IsOrderMemoryCause rows levels (refusal.Levels count) = (count ≡ length levels) × AreOfEntries rows × ¬ (length levels ≡ length rows)
 IsOrderMemoryCause rows levels (refusal.Level place) =
-    AreOfEntries rows × (length levels ≡ length rows) × IsFirstWrong (IsLevelRightAt (length rows) levels) (length levels) place
+    AreOfEntries rows × (length levels ≡ length rows) × IsFirstWrong (IsLevelValidAt (length rows) levels) (length levels) place
 IsOrderMemoryCause rows levels refusal.PastBits =
-    AreOfEntries rows × (length levels ≡ length rows) × ((place : ℕ) → place < length levels → IsLevelRightAt (length rows) levels place)
+    AreOfEntries rows × (length levels ≡ length rows) × ((place : ℕ) → place < length levels → IsLevelValidAt (length rows) levels place)
     × (2 ^ 64 ≤ order_bytes rows levels)
 IsOrderMemoryCause rows levels _ = ⊥
 
--- why a call for a tree's bytes refuses: no entries or too many, a wrong number of joins, a join of a node that isn't before it, or 2^64
--- bytes or more
+-- Why a call for a tree's bytes refuses. There are no entries or too many, or there isn't one join fewer than entries. Or a join names a node that
+-- isn't before it, or the tree takes 2^64 bytes or more
 abbrev pub IsTreeMemoryCause : List ℕ → List JoinNode → Refusal → Type 0
 IsTreeMemoryCause rows joins (refusal.Entries count) = (count ≡ length rows) × ¬ AreOfEntries rows
 IsTreeMemoryCause rows joins (refusal.Joins count) = (count ≡ length joins) × AreOfEntries rows × ¬ (length joins + 1 ≡ length rows)
 IsTreeMemoryCause rows joins (refusal.Join place) =
-    AreOfEntries rows × (length joins + 1 ≡ length rows) × IsFirstWrong (IsJoinRightAt (length rows) joins) (length joins) place
+    AreOfEntries rows × (length joins + 1 ≡ length rows) × IsFirstWrong (IsJoinValidAt (length rows) joins) (length joins) place
 IsTreeMemoryCause rows joins refusal.PastBits =
-    AreOfEntries rows × (length joins + 1 ≡ length rows) × ((place : ℕ) → place < length joins → IsJoinRightAt (length rows) joins place)
+    AreOfEntries rows × (length joins + 1 ≡ length rows) × ((place : ℕ) → place < length joins → IsJoinValidAt (length rows) joins place)
     × (2 ^ 64 ≤ nodes_bytes rows joins)
 IsTreeMemoryCause rows joins _ = ⊥
 

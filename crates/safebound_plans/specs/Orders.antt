@@ -19,7 +19,7 @@ pub record AreLevels (order levels : List ℕ) (old new : List Level) : Type 0 w
   pub bounds : bounds_in front ≡ levels
   pub filled : RoomBeginsWith front old new (length order)
 
--- the room now begins with the levels of the best order by the bounds of all sets of `count` entries, and its cost is within the budget
+-- The room now begins with the levels of the best order by the bounds of all sets of `count` entries. The order's cost is within the budget
 pub record IsBestOrder (bounds : List ℕ) (budget : ℕ) (old new : List Level) (count : ℕ) : Type 0 where
   pub given : MayPlan bounds count budget
   pub order : List ℕ

@@ -11,7 +11,7 @@ use Rattle.safebound_plans.specs.Bits.{all_in_128_bits}
 abbrev pub node_of : Join → JoinNode
 node_of join = record { left = join.left; right = join.right; bound = join.bound }
 
--- the room now begins with the joins of the best tree by the bounds of all sets of `count` + 1 entries, and its cost is within the budget
+-- The room now begins with the joins of the best tree by the bounds of all sets of `count` + 1 entries. The tree's cost is within the budget
 pub record IsBestTree (bounds : List ℕ) (budget : ℕ) (old new : List JoinNode) (count : ℕ) : Type 0 where
   pub given : MayPlan bounds (count + 1) budget
   pub tree : PlanTree

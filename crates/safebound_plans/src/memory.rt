@@ -1,23 +1,22 @@
-//! How many bytes an engine's buffers take for a plan.
+//! How many bytes the buffers of this project's engine take for a plan. The engine takes `MOST_ENTRIES` entries, fewer than the library plans.
 ghost use Rattle.std.specs.Prelude.{◌≡◌, ℕ, ◌+◌, ◌^◌, ◌<◌, ◌≤◌, length, map, IfErr, IfOk, MatchOption};
 ghost use Rattle.limits.specs.Profile.{most_entries};
 ghost use Rattle.safebound_lists.specs.declared.refusal.Refusal.TheVariants as refusal;
 ghost use Rattle.safebound_lists.specs.First.{IsFirstWrong};
-ghost use Rattle.safebound_plans.specs.Memory.{join_of, six_and_five_bytes, six_with_five_bytes, IsJoinRightAt, IsLevelRightAt, IsOrderMemory, IsOrderMemoryCause, IsTreeMemory, IsTreeMemoryCause};
+ghost use Rattle.safebound_plans.specs.Memory.{join_of, six_and_five_bytes, six_with_five_bytes, IsJoinValidAt, IsLevelValidAt, IsOrderMemory, IsOrderMemoryCause, IsTreeMemory, IsTreeMemoryCause};
 ghost use Rattle.safebound_plans.specs.Orders.{bounds_in, entries_in};
 
 use crate::ordering::Level;
 use crate::shaping::JoinNode;
 use limits::MOST_ENTRIES;
-use reserve_plan::plan_memory;
 use safebound_lists::Refusal;
 use tree_plans::Join;
 use tree_rows::joins_memory;
 
 // The index of the first level whose entry doesn't exist.
 fn first_wrong_level(levels: &[Level], entries: u64) -> Option<u64>
-    ensures { MatchOption result ((place : ℕ) → place < length levels.now → IsLevelRightAt entries levels.now place)
-        (IsFirstWrong (IsLevelRightAt entries levels.now) (length levels.now)) }
+    ensures { MatchOption result ((place : ℕ) → place < length levels.now → IsLevelValidAt entries levels.now place)
+        (IsFirstWrong (IsLevelValidAt entries levels.now) (length levels.now)) }
 {
     for place in 0..levels.len() {
         if levels[place].entry >= entries {
@@ -30,8 +29,8 @@ fn first_wrong_level(levels: &[Level], entries: u64) -> Option<u64>
 // The index of the first join that names a node that isn't before it.
 fn first_wrong_join(joins: &[JoinNode], entries: u64) -> Option<u64>
     requires few { entries + length joins.now ≤ 2 ^ 32 }
-    ensures { MatchOption result ((place : ℕ) → place < length joins.now → IsJoinRightAt entries joins.now place)
-        (IsFirstWrong (IsJoinRightAt entries joins.now) (length joins.now)) }
+    ensures { MatchOption result ((place : ℕ) → place < length joins.now → IsJoinValidAt entries joins.now place)
+        (IsFirstWrong (IsJoinValidAt entries joins.now) (length joins.now)) }
 {
     for place in 0..joins.len() {
         let own = entries + place as u64;
@@ -44,7 +43,7 @@ fn first_wrong_join(joins: &[JoinNode], entries: u64) -> Option<u64>
 
 // Writes the entries of levels.
 fn write_entries(levels: &[Level], into: &mut [u8])
-    requires right { (place : ℕ) → place < length levels.now → IsLevelRightAt most_entries levels.now place }
+    requires right { (place : ℕ) → place < length levels.now → IsLevelValidAt most_entries levels.now place }
     requires room { length into.old ≡ length levels.now }
     ensures { into.new ≡ entries_in levels.now }
 {
@@ -65,7 +64,7 @@ fn write_bounds(levels: &[Level], into: &mut [u64])
 
 // Writes nodes as joins.
 fn write_joins(nodes: &[JoinNode], into: &mut [Join])
-    requires right { (place : ℕ) → place < length nodes.now → IsJoinRightAt most_entries nodes.now place }
+    requires right { (place : ℕ) → place < length nodes.now → IsJoinValidAt most_entries nodes.now place }
     requires few { length nodes.now ≤ most_entries }
     requires room { length into.old ≡ length nodes.now }
     ensures { into.new ≡ map join_of nodes.now }
@@ -91,8 +90,8 @@ fn in_64_bits(bytes: u128) -> Result<u64, Refusal>
     Ok(bytes as u64)
 }
 
-/// How many bytes an engine's buffers take for an order, if `rows` has the most rows of each entry's list. The buffers are for the lists, the levels,
-/// the hash chains of each list that is joined after the first list, and the keys of one of these lists.
+/// How many bytes an engine's buffers take for an order. `rows` has the most rows of each entry's list. An order is a join tree whose right nodes are
+/// entries. The bytes are those that `tree_memory` gives for this tree.
 pub fn order_memory(rows: &[u64], levels: &[Level]) -> Result<u64, Refusal>
     ensures done { IfOk result (IsOrderMemory rows.now levels.now) }
     ensures refused { IfErr result (IsOrderMemoryCause rows.now levels.now) }
@@ -117,10 +116,10 @@ pub fn order_memory(rows: &[u64], levels: &[Level]) -> Result<u64, Refusal>
     let bounds = &mut bounds[..count];
     write_entries(levels, order);
     write_bounds(levels, bounds);
-    in_64_bits(plan_memory(order, rows, bounds))
+    in_64_bits(tree_rows::order_memory(order, rows, bounds))
 }
 
-/// How many bytes an engine's buffers take for the join tree with these joins, if `rows` has the most rows of each entry's list.
+/// How many bytes an engine's buffers take for the join tree with these joins. `rows` has the most rows of each entry's list.
 pub fn tree_memory(rows: &[u64], joins: &[JoinNode]) -> Result<u64, Refusal>
     ensures done { IfOk result (IsTreeMemory rows.now joins.now) }
     ensures refused { IfErr result (IsTreeMemoryCause rows.now joins.now) }
@@ -151,9 +150,10 @@ pub fn tree_memory(rows: &[u64], joins: &[JoinNode]) -> Result<u64, Refusal>
 
 /// The bytes of two small plans. This function does nothing.
 ///
-/// The tree takes 44 bytes for lists, 96 for pairs, 80 for the chain, 8 for row numbers and 40 for keys. Its lists of buffers take 64 for row
-/// numbers, 40 for inner nodes, 96 for chains and 39 for the entries below each node.
+/// The order is a tree with the 6 rows on the right. The other tree has the 5 rows on the right: it takes 44 bytes for lists, 96 for pairs, 80 for the
+/// chain, 8 for row numbers and 40 for keys. Its lists of buffers take 64 for row numbers, 40 for inner nodes, 96 for chains and 39 for the entries
+/// below each node.
 pub fn small_plans()
-    ensures order { six_and_five_bytes ≡ 556 }
+    ensures order { six_and_five_bytes ≡ 531 }
     ensures tree { six_with_five_bytes ≡ 507 }
 {}

@@ -35,7 +35,7 @@ fn write_levels(plan: &Plan, into: &mut [Level])
     }
 }
 
-/// Writes the levels of the best left-deep order by the bounds of all sets, and answers how many levels it wrote.
+/// Writes the levels of the best left-deep order by the bounds of all sets, and returns how many levels it wrote.
 pub fn order(alloc: Global, bounds: &[u64], budget: u64, into: &mut [Level]) -> Result<u64, Refusal>
     ensures done { IfOk result (IsBestOrder bounds.now budget into.old into.new) }
     ensures refused { IfErr result (IsOrderCause bounds.now budget (length into.old)) }

@@ -41,7 +41,7 @@ fn write_joins(joins: &[Join], into: &mut [JoinNode])
     }
 }
 
-/// Writes the joins of the best join tree by the bounds of all sets, and answers how many joins it wrote.
+/// Writes the joins of the best join tree by the bounds of all sets, and returns how many joins it wrote.
 pub fn tree(
     alloc: Global,
     bounds: &[u64],

@@ -4,14 +4,14 @@ ghost use Rattle.safebound_plans.specs.Given.{AreOfSets};
 ghost use Rattle.safebound_plans.specs.Bits.{all_in_128_bits, in_128_bits};
 
 use base_io::{NoMemory, Seq};
-use limits::{MOST_ENTRIES, TOP_BOUND};
+use limits::{GREATEST_ENTRIES, TOP_BOUND};
 use std::alloc::Global;
 
-/// The number n of entries, from 1 to 12, if there are 2^n bounds: one for each set of entries.
+/// The number n of entries, from 1 to `GREATEST_ENTRIES`, if there are 2^n bounds: one for each set of entries.
 pub(crate) fn entries_of(bounds: &[u64]) -> Option<u8>
     ensures { MatchOption result ((n : ℕ) → ¬ AreOfSets bounds.now n) (AreOfSets bounds.now) }
 {
-    for n in 1..MOST_ENTRIES as u8 + 1 {
+    for n in 1..GREATEST_ENTRIES as u8 + 1 {
         if bounds.len() == 1usize << n {
             return Some(n);
         }

@@ -1,9 +1,9 @@
--- If a call has a course (`Course`), each sentence of the headline is true of the call.
+-- If a call has a course (`CallHistory`), each sentence of the headline is true of the call.
 use Rattle.std.proofs.Common.{◌≡◌, ◌⊎◌, ℕ, inl, inr, List, None, Some, Result, Ok, Err, refl, ap, sym, ◌∙◌, subst}
 use Rattle.std.specs.Prelude.{IsOkAnd, codes}
 use Rattle.base_io.specs.Causes.{Rose}
 use Rattle.base_io.specs.Files.{Files}
-use Rattle.outcomes.specs.Reads.{Ends, Reads}
+use Rattle.outcomes.specs.Reads.{EndsEarly, Reads}
 use Rattle.outcomes.specs.Statuses.{status_of_failure}
 use Rattle.outcomes.specs.declared.failure.Failure.{Failure}
 use Rattle.outcomes.specs.declared.failure.Failure.TheVariants as failure
@@ -15,7 +15,7 @@ use Rattle.outcomes.specs.declared.refusal.Refusal.TheVariants as refusal
 use Rattle.outcomes.specs.declared.status.Status.TheVariants as status
 use Rattle.outcomes.proofs.StatusFacts.{ended_fault, ended_not_cut, ended_not_done, ended_refused}
 use Rattle.safebound_top.specs.Call.{Call, GrewOrWasCut}
-use Rattle.safebound_top.specs.Course.{Course, TextsEnded, Done, CutInNotes, CutInOut, RefusedOrRan, Unasked, Asked, StageRan, EndedEarly, RanToEnd, StatusReported}
+use Rattle.safebound_top.specs.CallHistory.{CallHistory, TextsEnded, Done, CutInNotes, CutInOut, RefusedOrRan, Unasked, Asked, StageRan, EndedEarly, RanToEnd, StatusReported}
 use Rattle.safebound_top.specs.Faults.{fault_text}
 use Rattle.safebound_top.specs.Headline as say
 use Rattle.prepared_runs.specs.RunOutcome.{RunOutcome}
@@ -30,19 +30,19 @@ unasked_verdict words files is = rw is refl
 unasked_is : (r : Refusal) → status.Refused refusal.Usage ≡ status.Refused r → r ≡ refusal.Usage
 unasked_is r is = cc
 
-module _ (call : Call) (course : Course call) where
+module _ (call : Call) (course : CallHistory call) where
   line_told : StatusReported call.notes course.line → (files : Files) → call.store.files ≡ Some files → say.GrewByLine call.notes (fault_text call.status call.words files)
   line_told told files is = subst (say.GrewByLine call.notes) (course.is_line files is) told.tells
 
-  -- in this part, the call's reading ended early, with the failure `e`
+  -- this part is about a call whose reading ended early, with the failure `e`
   module _ (e : Failure) (status_is : call.status ≡ status_of_failure e) (reads : Reads call.store (verdict call.words) (IsReached call.words) (Err e)) where
-    ends_as : (f : Failure) → e ≡ f → Ends call.store (verdict call.words) (IsReached call.words) f
-    ends_as f is = subst (Ends call.store (verdict call.words) (IsReached call.words)) is reads.gives
+    ends_as : (f : Failure) → e ≡ f → EndsEarly call.store (verdict call.words) (IsReached call.words) f
+    ends_as f is = subst (EndsEarly call.store (verdict call.words) (IsReached call.words)) is reads.gives
 
-    by_refusal : (r : Refusal) → call.status ≡ status.Refused r → Ends call.store (verdict call.words) (IsReached call.words) (failure.Refused r)
+    by_refusal : (r : Refusal) → call.status ≡ status.Refused r → EndsEarly call.store (verdict call.words) (IsReached call.words) (failure.Refused r)
     by_refusal r is = ends_as (failure.Refused r) (ended_refused e r (sym status_is ∙ is))
 
-    by_fault : (file : FileId) → call.status ≡ status.ReadFault file → Ends call.store (verdict call.words) (IsReached call.words) (failure.Fault file)
+    by_fault : (file : FileId) → call.status ≡ status.ReadFault file → EndsEarly call.store (verdict call.words) (IsReached call.words) (failure.Fault file)
     by_fault file is = ends_as (failure.Fault file) (ended_fault e file (sym status_is ∙ is))
 
     stopped_so : (Rose call.store.faults_before call.store.faults_after → ⊥) → (files : Files) → call.store.files ≡ Some files
@@ -54,7 +54,7 @@ module _ (call : Call) (course : Course call) where
         by (failure.Fault file) is = absurd (calm ((ends_as (failure.Fault file) is).0))
         by failure.NoMemory is = inr (status_is ∙ ap status_of_failure is)
 
-  -- in this part, the call read everything to its end and then wrote its texts
+  -- this part is about a call that read everything to its end and then wrote its texts
   module _ (run : RunOutcome) (reads : Reads call.store (verdict call.words) (IsReached call.words) (Ok run))
       (written : TextsEnded call.status call.out call.notes run course.line) where
     went_verdict : (files : Files) → call.store.files ≡ Some files → verdict call.words files ≡ Ok run

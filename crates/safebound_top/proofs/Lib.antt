@@ -4,8 +4,8 @@
 --   headline's sentences have no case for `plan`.
 -- - `demo` reads another store than other commands, and `run` is proved for every store. One lemma on `Reads` (ShopCourses) turns the course of `run`
 --   over `Shop` into a course over `shop_store`, since the files are equal and no count rises.
--- - The rows text has one form for whole tables and for lists, since the last level over the lists is the last level over whole tables (`last` of
---   `LoseNoRow`).
+-- - The rows text has one form for complete tables and for lists, since the last level over the lists is the last level over complete tables (`last`
+--   of `LoseNoRow`).
 -- - In a clause, `x.now` is the value of a reference `x`. For a `Copy` parameter `x`, the value with which the function was called is `x.entry`.
 -- - If a function's exit is the last one of two nested matches, its answer is called `returns`.
 -- - An edit puts a mistake into the code, and the proofs must find it. If the mistake comes after a call, put it into a function where no

@@ -35,7 +35,7 @@ use Rattle.table_files.specs.FileNames.{file_name}
 use Rattle.table_files.specs.Stage.{no_table, numbers_of, index_of, rows_by_entry, rows_of_each, table_at, table_rows, tables_of_query, tables_stage}
 use Rattle.table_files.specs.TableFile.{bytes_of, file_rows, read, rows_of_bytes}
 use Rattle.table_files.proofs.EntryLaws.{two_steps}
-use Rattle.table_files.proofs.StagedFiles.{entries_are, read_ok, table_ok, told_ok}
+use Rattle.table_files.proofs.StagedFiles.{entries_are, read_ok, table_ok, ok_without_refusal}
 use Rattle.sql_meaning.specs.Tables.{Tables}
 use Rattle.reduced_scans.proofs.ByRounds.{reduced_scans_by_rounds}
 use Rattle.plans.specs.declared.left_deep.Plan.{Plan}
@@ -49,14 +49,14 @@ use Rattle.safebound_words.proofs.Readings.{asked_computed}
 use Rattle.prepared_runs.specs.AcceptedQuery.{BoundsHold, printed}
 use Rattle.safebound_words.specs.Commands.{over_query}
 use Rattle.safebound_words.specs.declared.command.Command.{Command}
-use Rattle.safebound_words.specs.declared.command.Aim.TheVariants as aims
-use Rattle.safebound_words.specs.declared.command.Work.TheVariants as works
+use Rattle.safebound_words.specs.declared.command.SchemaTask.TheVariants as aims
+use Rattle.safebound_words.specs.declared.command.QueryTask.TheVariants as works
 use Rattle.safebound_top.specs.Call.{Call, Grew}
 use Rattle.safebound_top.specs.Headline.{GrewWhole, Headline}
 use Rattle.prepared_runs.specs.Limits.{IsWithinLimit, within_limit}
 use Rattle.safebound_top.specs.Promise.{AreInFile, AreScans, AsksQuery, DeclaresSchema, HoldsAlong, HoldsOver, IsTheOne, PrintsOrder, PrintsPlan, PrintsTree, Promise, RanWhole, choices_over}
 use Rattle.prepared_runs.specs.Shapes.{answer_of, part_rows, planned_by, shape_bytes}
-use Rattle.prepared_runs.specs.Sources.{Sourced, lists_by, sourced}
+use Rattle.prepared_runs.specs.Sources.{BoundsAndLists, lists_by, bounds_and_lists_by}
 use Rattle.prepared_runs.specs.RunOutcome.{NoBoundIsTooLow, RunOutcome, Planned, PrintsTheAnswer}
 use Rattle.safebound_top.specs.OutcomeTexts.{notes_text, out_text}
 use Rattle.safebound_top.specs.Texts.{plan_text, plan_text_of, rows_text, text_for}
@@ -102,7 +102,7 @@ declares name files schema e =
     record {
       text = steps.0;
       there = read_ok file.Schema 1048576 name files steps.0 steps.1;
-      declares = the_schema steps.0 schema (told_ok schema_refusal (schema_answer steps.0) schema steps.2);
+      declares = the_schema steps.0 schema (ok_without_refusal schema_refusal (schema_answer steps.0) schema steps.2);
     }
 
 pub asks : (name : List ℕ) (files : Files) (schema : Schema) (query : Query) → query_stage name schema files ≡ Ok query → AsksQuery files name schema query
@@ -112,7 +112,7 @@ asks name files schema query e =
     record {
       text = steps.0;
       there = read_ok file.Query 1048576 name files steps.0 steps.1;
-      asks = the_query schema steps.0 query (told_ok query_refusal (query_answer schema steps.0) query steps.2);
+      asks = the_query schema steps.0 query (ok_without_refusal query_refusal (query_answer schema steps.0) query steps.2);
     }
 
 -- ---- the rows
@@ -121,7 +121,7 @@ pub query_of_schema : (name : List ℕ) (files : Files) (schema : Schema) (query
 unfolding query_stage
 query_of_schema name files schema query e =
     let steps = two_steps (read file.Query 1048576 name files) (query_of_text schema) query e in
-    queries.of_schema schema steps.0 query (told_ok query_refusal (query_answer schema steps.0) query steps.2)
+    queries.of_schema schema steps.0 query (ok_without_refusal query_refusal (query_answer schema steps.0) query steps.2)
 
 module _ (schema : Schema) (query : Query) (files : Files) (rows : List (List Row)) (of : IsOf schema query)
     (staged : tables_stage schema query.from files ≡ Ok rows) where
@@ -217,7 +217,7 @@ prints : (task : PlanWork) (schema : Schema) (query : Query) (rows : List (List 
     → PrintsPlan task.terms.shape task.terms.memory query (tables_in rows) (lists_by task.source query (tables_in rows)) (plan_text (run_asked task query rows plan))
 unfolding planned_by
 prints task schema query rows plan made h within =
-    let given : Sourced = sourced task.source schema query (tables_in rows) in
+    let given : BoundsAndLists = bounds_and_lists_by task.source schema query (tables_in rows) in
     text_prints task.terms.shape (given.sets task.accuracy) (given.scans task.accuracy) task.terms.budget task.terms.memory query (tables_in rows)
     (lists_by task.source query (tables_in rows)) plan made (record { plan = h.plan; scans = h.scans; parts = h.parts }) within
 
@@ -252,7 +252,7 @@ stages shop schema_file query_file task files outcome e =
       rows = third.0;
       rows_read = third.1;
       plan = last.0;
-      planned = told_ok plan_refusal (plan_asked task first.0 second.0 (tables_in third.0)) last.0 last.1;
+      planned = ok_without_refusal plan_refusal (plan_asked task first.0 second.0 (tables_in third.0)) last.0 last.1;
       within = kept.1;
       is_run = kept.0;
     }

@@ -1,10 +1,10 @@
--- Each command has a course: its schema is read; then either this reading ended early, or the command ran over the schema.
+-- Each command has a course. Its schema is read; then either this reading ended early, or the command ran over the schema.
 use Rattle.std.proofs.Common.{◌≡◌, ℕ, inl, inr, List, Option, None, Some, Result, Ok, Err, refl, ap, sym, ◌∙◌, subst}
 use Rattle.std.specs.Prelude.{IsOk, codes}
 use Rattle.base_io.specs.Files.{Files}
 use Rattle.schema_types.specs.declared.types.Schema.{Schema}
 use Rattle.base_io.specs.Devices.{Growth, Reading}
-use Rattle.outcomes.specs.Reads.{AtFile, Ends, Reads}
+use Rattle.outcomes.specs.Reads.{AtFile, EndsEarly, Reads}
 use Rattle.outcomes.specs.Statuses.{status_of_failure}
 use Rattle.outcomes.specs.declared.failure.Failure.{Failure}
 use Rattle.outcomes.specs.declared.failure.Failure.TheVariants as failure
@@ -18,12 +18,12 @@ use Rattle.outcomes.proofs.ReadFacts.{Meets, joined, reads_as, then_reads, then_
 use Rattle.printed_texts.specs.Faults.{error_line, fault_line}
 use Rattle.prepared_runs.specs.RunOutcome.{RunOutcome}
 use Rattle.safebound_top.specs.Call.{Call}
-use Rattle.safebound_top.specs.Course.{Asked, Course, StageRan, EndedEarly, StatusReported, Unasked, RanToEnd}
+use Rattle.safebound_top.specs.CallHistory.{Asked, CallHistory, StageRan, EndedEarly, StatusReported, Unasked, RanToEnd}
 use Rattle.safebound_top.specs.Faults.{fault_text, names_by, status_line, ok_value}
 use Rattle.safebound_top.specs.Headline.{DidNotGrow}
-use Rattle.safebound_words.specs.declared.command.Aim.{Aim}
+use Rattle.safebound_words.specs.declared.command.SchemaTask.{SchemaTask}
 use Rattle.safebound_words.specs.declared.command.Command.{Command}
-use Rattle.safebound_words.specs.declared.command.Aim.TheVariants as aims
+use Rattle.safebound_words.specs.declared.command.SchemaTask.TheVariants as aims
 use Rattle.prepared_runs.specs.Verdict.{IsAimFile, IsReached, aim_run, command_run, command_stage, schema_read, schema_stage, verdict}
 
 memory_line : (ask : Option Command) (schema : Option Schema) → status_line status.NoMemory ask schema ≡ codes "error memory\n"
@@ -31,7 +31,7 @@ unfolding error_line
 memory_line None schema = refl
 memory_line (Some ask) schema = refl
 
-schema_line : (name : List ℕ) (aim : Aim) (schema : Option Schema) → fault_line (status.ReadFault file.Schema) (names_by name aim None) ≡ fault_line (status.ReadFault file.Schema) (names_by name aim schema)
+schema_line : (name : List ℕ) (aim : SchemaTask) (schema : Option Schema) → fault_line (status.ReadFault file.Schema) (names_by name aim None) ≡ fault_line (status.ReadFault file.Schema) (names_by name aim schema)
 schema_line name (aims.Query query work) schema = refl
 schema_line name (aims.Append append) schema = refl
 
@@ -40,7 +40,7 @@ memory_told s ask schema is = ap (λ (x : Status). status_line x ask schema) is 
 
 -- the words of this call are no command
 pub course_unasked : (call : Call) → call.status ≡ status.Refused refusal.Usage → command_stage call.words ≡ Err refusal.Usage → call.store.misses_after ≡ call.store.misses_before → DidNotGrow call.out
-    → StatusReported call.notes (status_line call.status None None) → Course call
+    → StatusReported call.notes (status_line call.status None None) → CallHistory call
 course_unasked call is words misses out told = record {
   line = status_line call.status None None;
   is_line = λ files _. ap (λ (s : Status). status_line s None None) is ∙ same files ∙ ap (λ (s : Status). fault_text s call.words files) (sym is);
@@ -88,8 +88,8 @@ module _ (ask : Command) (words : List (List ℕ)) (command : command_stage word
     stopped_line : (files : Files) → store.files ≡ Some files → status_line s (Some ask) None ≡ fault_text s words files
     stopped_line files told = by e refl
       where
-        ends_as : (f : Failure) → e ≡ f → Ends store (schema_stage ask.schema_file) (AtFile file.Schema) f
-        ends_as f same = subst (Ends store (schema_stage ask.schema_file) (AtFile file.Schema)) same reads.gives
+        ends_as : (f : Failure) → e ≡ f → EndsEarly store (schema_stage ask.schema_file) (AtFile file.Schema) f
+        ends_as f same = subst (EndsEarly store (schema_stage ask.schema_file) (AtFile file.Schema)) same reads.gives
 
         any : (t : Status) → s ≡ t → ((r : Option Schema) → status_line t (Some ask) None ≡ status_line t (Some ask) r) → status_line s (Some ask) None ≡ fault_text s words files
         any t same_as none =
@@ -109,7 +109,7 @@ module _ (ask : Command) (words : List (List ℕ)) (command : command_stage word
         reads_as store (command_run ask) (verdict words) (IsReached words) (IsReached words) (Err e) verdict_of (λ files id at'. at')
         (then_stops (schema_stage ask.schema_file) (aim_run ask.aim) store (AtFile file.Schema) (IsReached words) e reached_schema reads)
 
-    pub course_stopped : DidNotGrow out → StatusReported notes (status_line s (Some ask) None) → Course (record { words = words; status = s; store = store; out = out; notes = notes })
+    pub course_stopped : DidNotGrow out → StatusReported notes (status_line s (Some ask) None) → CallHistory (record { words = words; status = s; store = store; out = out; notes = notes })
     course_stopped still told = record {
       line = status_line s (Some ask) None;
       is_line = stopped_line;
@@ -134,7 +134,7 @@ module _ (ask : Command) (words : List (List ℕ)) (command : command_stage word
     ran_so (RanToEnd outcome h written) = RanToEnd outcome (ran_reads (Ok outcome) h) written
 
     pub course_ran : StageRan s second out notes (aim_run ask.aim schema) (IsAimFile ask.aim schema) (status_line s (Some ask) (Some schema))
-        → Course (record { words = words; status = s; store = joined first second; out = out; notes = notes })
+        → CallHistory (record { words = words; status = s; store = joined first second; out = out; notes = notes })
     course_ran ran = record {
       line = status_line s (Some ask) (Some schema);
       is_line = λ files told. line_of s files (Ok schema) (reads.gives files told);

@@ -4,7 +4,7 @@ use Rattle.base_io.specs.Causes.{Rose}
 use Rattle.base_io.specs.Files.{Files}
 use Rattle.demo_files.specs.Files.{demo_files}
 use Rattle.base_io.specs.Devices.{Growth, Reading}
-use Rattle.outcomes.specs.Reads.{Ends, Gives, Reads}
+use Rattle.outcomes.specs.Reads.{EndsEarly, Gives, Reads}
 use Rattle.outcomes.specs.declared.failure.Failure.{Failure}
 use Rattle.outcomes.specs.declared.failure.Failure.TheVariants as failure
 use Rattle.outcomes.specs.declared.names.FileId.{FileId}
@@ -14,10 +14,10 @@ use Rattle.outcomes.specs.declared.status.Status.TheVariants as status
 use Rattle.prepared_runs.specs.RunOutcome.{RunOutcome}
 use Rattle.safebound_words.specs.declared.command.Command.{Command}
 use Rattle.safebound_top.specs.Call.{Call}
-use Rattle.safebound_top.specs.Course.{Asked, Course, RefusedOrRan, StageRan, EndedEarly, StatusReported, Unasked, RanToEnd}
+use Rattle.safebound_top.specs.CallHistory.{Asked, CallHistory, RefusedOrRan, StageRan, EndedEarly, StatusReported, Unasked, RanToEnd}
 use Rattle.safebound_top.specs.Faults.{status_line, ok_value}
 use Rattle.safebound_top.specs.Headline.{DidNotGrow}
-use Rattle.prepared_runs.specs.Shops.{shop_of, shop_store, store_read}
+use Rattle.prepared_runs.specs.Shops.{demo_number_of, shop_store, store_read}
 use Rattle.prepared_runs.specs.Verdict.{IsReached, command_stage, schema_read, verdict}
 use Rattle.safebound_top.proofs.RunCourses.{memory_told, no_usage}
 
@@ -34,7 +34,7 @@ module _ (number : ℕ) (store : Reading) (is : store.files ≡ Some (demo_files
     same = refl;
   }
     where
-      ends : (e : Failure) → Ends store stage C e → Ends (shop_store number) stage C e
+      ends : (e : Failure) → EndsEarly store stage C e → EndsEarly (shop_store number) stage C e
       ends (failure.Refused r) w = (
         (λ files told. w.0 files (is ∙ told)),
         (λ none. absurd (let no : ◌≡◌ {A = Option Files} (Some (demo_files number)) None = none in cc)),
@@ -53,8 +53,8 @@ module _ (number : ℕ) (store : Reading) (is : store.files ≡ Some (demo_files
   ran_shop s out notes stage C line (RanToEnd outcome reads written) = RanToEnd outcome (reads_shop stage C (Ok outcome) reads) written
 
   pub course_shop : (words : List (List ℕ)) (s : Status) (out notes : Growth)
-      → Course (record { words = words; status = s; store = store; out = out; notes = notes })
-      → Course (record { words = words; status = s; store = shop_store number; out = out; notes = notes })
+      → CallHistory (record { words = words; status = s; store = store; out = out; notes = notes })
+      → CallHistory (record { words = words; status = s; store = shop_store number; out = out; notes = notes })
   course_shop words s out notes h = record {
     line = h.line;
     is_line = λ files told. h.is_line files (is ∙ told);
@@ -71,7 +71,7 @@ module _ (number : ℕ) (store : Reading) (is : store.files ≡ Some (demo_files
 
 pub course_unmade : (ask : Command) (words : List (List ℕ)) → command_stage words ≡ Ok ask → (number : ℕ) (s : Status) (out notes : Growth)
     → s ≡ status.NoMemory → DidNotGrow out → StatusReported notes (status_line s (Some ask) None)
-    → Course (record { words = words; status = s; store = shop_store number; out = out; notes = notes })
+    → CallHistory (record { words = words; status = s; store = shop_store number; out = out; notes = notes })
 course_unmade ask words command number s out notes is still told = record {
   line = status_line s (Some ask) None;
   is_line = λ files _.
@@ -95,7 +95,7 @@ of_words words s handed_in out notes shop = record {
 }
 
 pub course_of_words : (words : List (List ℕ)) (s : Status) (handed_in : Reading) (out notes : Growth) (shop : Option ℕ)
-    → shop_of words ≡ shop → Course (of_words words s handed_in out notes shop)
-    → Course (of_words words s handed_in out notes (shop_of words))
+    → demo_number_of words ≡ shop → CallHistory (of_words words s handed_in out notes shop)
+    → CallHistory (of_words words s handed_in out notes (demo_number_of words))
 course_of_words words s handed_in out notes shop is h =
-    subst (λ (made : Option ℕ). Course (of_words words s handed_in out notes made)) (sym is) h
+    subst (λ (made : Option ℕ). CallHistory (of_words words s handed_in out notes made)) (sym is) h

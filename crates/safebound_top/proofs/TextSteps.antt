@@ -1,4 +1,4 @@
--- The texts are written one after another. The lemmas say what a call has written after each of them, and after a write that failed.
+-- The texts are written one after another. The lemmas say what a call has written after each text, and after a failed write.
 use Rattle.std.proofs.Common.{◌≡◌, ℕ, List, ◌++◌, Option, None, Some, Result, Ok, Err, refl, ap, sym, ◌∙◌, subst, arith}
 use Rattle.base_io.specs.Devices.{Growth}
 use Rattle.base_io.specs.Sinks.{GrewByPrefix, appended}
@@ -12,7 +12,7 @@ use Rattle.outcomes.specs.declared.names.SinkId.TheVariants as sink
 use Rattle.outcomes.specs.declared.status.Status.{Status}
 use Rattle.outcomes.specs.declared.status.Status.TheVariants as status
 use Rattle.prepared_runs.specs.AcceptedQuery.{AcceptedQuery}
-use Rattle.safebound_top.specs.Course.{CutInNotes, CutInOut, TextsEnded, StatusReported, TextsWritten, WroteIfAny}
+use Rattle.safebound_top.specs.CallHistory.{CutInNotes, CutInOut, TextsEnded, StatusReported, TextsWritten, WroteIfAny}
 use Rattle.safebound_top.specs.Headline.{DidNotGrow, GrewWhole, TookPrefix, TookPrefixThenLine, grown}
 use Rattle.prepared_runs.specs.RunOutcome.{PlanFromStatsFile, RunOutcome, Planned, PlannedFromStats}
 use Rattle.safebound_top.specs.OutcomeTexts.{stats_file_plan_text, notes_text, out_text}

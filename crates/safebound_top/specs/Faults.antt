@@ -4,21 +4,21 @@ use Rattle.base_io.specs.Files.{Files}
 use Rattle.schema_types.specs.declared.types.Schema.{Schema}
 use Rattle.outcomes.specs.declared.status.Status.{Status}
 use Rattle.printed_texts.specs.Faults.{NamesInLine, fault_line}
-use Rattle.safebound_words.specs.declared.command.Aim.{Aim}
+use Rattle.safebound_words.specs.declared.command.SchemaTask.{SchemaTask}
 use Rattle.safebound_words.specs.declared.command.Command.{Command}
-use Rattle.safebound_words.specs.declared.command.Work.{Work}
-use Rattle.safebound_words.specs.declared.command.Aim.TheVariants as aims
-use Rattle.safebound_words.specs.declared.command.Work.TheVariants as works
+use Rattle.safebound_words.specs.declared.command.QueryTask.{QueryTask}
+use Rattle.safebound_words.specs.declared.command.SchemaTask.TheVariants as aims
+use Rattle.safebound_words.specs.declared.command.QueryTask.TheVariants as works
 use Rattle.prepared_runs.specs.Verdict.{command_stage, schema_read}
 
 -- the name of the statistics file that is read. It is empty if no statistics file is read
-abbrev pub stats_file_of : Work → List ℕ
+abbrev pub stats_file_of : QueryTask → List ℕ
 stats_file_of (works.Plan task) = []
 stats_file_of (works.WriteStats accuracy) = []
 stats_file_of (works.PlanFromStats file terms) = file
 
 -- the names that a line may use: the names of the command's files, and the names in the schema. Only `append` names a file of new rows
-abbrev pub names_by : List ℕ → Aim → Option Schema → NamesInLine
+abbrev pub names_by : List ℕ → SchemaTask → Option Schema → NamesInLine
 names_by name (aims.Query query work) schema =
     record { schema_file = name; query_file = query; stats_file = stats_file_of work; rows_file = None; schema = schema }
 names_by name (aims.Append append) schema =

@@ -1,5 +1,5 @@
 pub mod Call
-pub mod Course
+pub mod CallHistory
 pub mod Faults
 pub mod Headline
 pub mod OutcomeTexts

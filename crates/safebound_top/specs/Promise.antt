@@ -47,7 +47,7 @@ use Rattle.join_steps.specs.Lists.{list_at, scans_of}
 use Rattle.reduced_scans.specs.Scans.{AreReducedScans}
 use Rattle.plans.specs.LeftDeep.{IsPlan}
 use Rattle.plans.specs.declared.left_deep.Plan.{Plan}
-use Rattle.reserve_plan.specs.Memory.{plan_bytes}
+use Rattle.tree_plans.specs.Orders.{tree_of_order}
 use Rattle.tree_plans.specs.TreePlans.{IsTreePlan}
 use Rattle.tree_plans.specs.declared.bushy.BushyPlan.{BushyPlan}
 use Rattle.tree_plans.specs.declared.bushy.Join.{Join}
@@ -65,12 +65,12 @@ use Rattle.safebound_words.specs.declared.command.OutText.TheVariants as out_tex
 use Rattle.safebound_words.specs.declared.command.PlanWork.{PlanWork}
 use Rattle.safebound_words.specs.declared.command.Shape.{Shape}
 use Rattle.safebound_words.specs.declared.command.Shape.TheVariants as shapes
-use Rattle.safebound_words.specs.declared.command.Work.TheVariants as works
+use Rattle.safebound_words.specs.declared.command.QueryTask.TheVariants as works
 use Rattle.outcomes.specs.declared.status.Status.TheVariants as status
 use Rattle.safebound_top.specs.Call.{Call, Grew}
 use Rattle.prepared_runs.specs.Limits.{IsWithinLimit}
 
--- ---- what the files say
+-- ---- the contents of the files
 
 -- `value` has the property IsSuch, and no other value has this property
 pub record IsTheOne {A : Type 0} (IsSuch : A → Type 0) (value : A) : Type 0 where
@@ -99,7 +99,7 @@ pub record AreInFile (files : Files) (schema : Schema) (query : Query) (entry : 
   pub there : file_of files (file_name table) ≡ Some bytes
   pub read : rows_of_file table bytes ≡ Ok rows
 
--- ---- what the plan text says
+-- ---- the contents of the plan text
 
 -- the rows that are joined. For each FROM entry these are the rows for which every conjunct that names only this entry holds. With `--reduce` or
 -- `--count` the lists are the largest lists of these rows in which each row has a match for each equality of its entry. A match is a row
@@ -110,7 +110,7 @@ AreScans sources.Keyed query tables scans = scans ≡ scans_of query tables
 AreScans sources.Reduced query tables scans = AreReducedScans query tables scans
 AreScans sources.Counted query tables scans = AreReducedScans query tables scans
 
--- the choices for these entries: each takes one row from the scan of each entry, and every conjunct that names only these entries holds
+-- the choices, of one row from the scan of each of these entries, that satisfy every conjunct which names only these entries
 abbrev pub choices_over : Query → Tables → List (List ℕ) → List ℕ → List (List ℕ)
 choices_over query tables scans entries = level_over (conjuncts_of query tables) (list_at scans) entries
 
@@ -134,14 +134,14 @@ pub record HoldsOver (query : Query) (tables : Tables) (scans : List (List ℕ))
   pub nodes_fit : (k : ℕ) (join : Join) → slice_get plan.joins k ≡ Some join
       → length (choices_over query tables scans (entries_at plan (length query.from + k))) ≤ join.bound
 
--- a plan with its text: an order, or with `--bushy` a join tree. With `--memory` a last line has the number that `plan_bytes` or `tree_bytes` counts
--- from the plan. That number is at most the limit. The clause `buffers` (`KeepsItsBuffers`, in Kept.antt) says that the buffers of the joins
+-- a plan with its text: an order, or with `--bushy` a join tree. With `--memory` a last line has the number that `tree_bytes` counts from the plan; an
+-- order takes the bytes of its join tree. That number is at most the limit. The clause `buffers` (`KeepsItsBuffers`, in Kept.antt) says that the buffers of the joins
 -- hold exactly this number of bytes. The number doesn't count memory for reading and planning
 pub record PrintsOrder (limit : Option ℕ) (query : Query) (tables : Tables) (scans : List (List ℕ)) (text : List ℕ) : Type 0 where
   pub plan : Plan
   pub holds : HoldsAlong query tables scans plan
-  pub within : IsWithinLimit limit (plan_bytes plan.order plan.scans plan.levels)
-  pub prints : text ≡ plan_lines query.from plan ++ memory_text limit (plan_bytes plan.order plan.scans plan.levels)
+  pub within : IsWithinLimit limit (tree_bytes (tree_of_order plan))
+  pub prints : text ≡ plan_lines query.from plan ++ memory_text limit (tree_bytes (tree_of_order plan))
 
 pub record PrintsTree (limit : Option ℕ) (query : Query) (tables : Tables) (scans : List (List ℕ)) (text : List ℕ) : Type 0 where
   pub plan : BushyPlan
@@ -153,7 +153,7 @@ abbrev pub PrintsPlan : Shape → Option ℕ → Query → Tables → List (List
 PrintsPlan shapes.Order limit query tables scans text = PrintsOrder limit query tables scans text
 PrintsPlan shapes.Tree limit query tables scans text = PrintsTree limit query tables scans text
 
--- ---- what the rows text says
+-- ---- the contents of the rows text
 
 -- a header, and then the rows of the answer, in any order, each as often as in the answer
 pub record PrintsAnswer (query : Query) (tables : Tables) (text : List ℕ) : Type 0 where

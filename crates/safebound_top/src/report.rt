@@ -2,39 +2,43 @@
 ghost use Rattle.std.specs.Prelude.{◌≡◌, ◌≢◌, option_copied};
 ghost use Rattle.base_io.specs.Devices.{growth};
 ghost use Rattle.base_io.specs.Writes.{Wrote};
-ghost use Rattle.safebound_top.specs.Course.{StatusReported};
+ghost use Rattle.safebound_top.specs.CallHistory.{StatusReported};
 ghost use Rattle.printed_texts.specs.Words.{names_of_line};
 ghost use Rattle.safebound_top.specs.Faults.{names_by as names_in, names_of as names_told, stats_file_of as stats_file_told, status_line};
 
 use base_io::{Failed, Sink};
 use outcomes::Status;
 use printed_texts::{LineNames, write_line};
-use safebound_words::{Aim, Command, Work};
+use safebound_words::{Command, QueryTask, SchemaTask};
 use schema_types::Schema;
 
 // The name of the statistics file that a command reads. The name is empty if the command reads no statistics file.
-fn stats_file_of<'a>(work: &'a Work<'a>) -> &'a str
+fn stats_file_of<'a>(work: &'a QueryTask<'a>) -> &'a str
     ensures { result.now ≡ stats_file_told work.now }
 {
     match work {
-        Work::PlanFromStats { file, .. } => file.get(),
-        Work::Plan(_) | Work::WriteStats { .. } => "",
+        QueryTask::PlanFromStats { file, .. } => file.get(),
+        QueryTask::Plan(_) | QueryTask::WriteStats { .. } => "",
     }
 }
 
 // The names that a line may use: the names of the command's files, and the names in the schema.
-fn names_by<'a>(schema_file: &'a str, aim: &'a Aim<'a>, schema: Option<&'a Schema>) -> LineNames<'a>
+fn names_by<'a>(
+    schema_file: &'a str,
+    aim: &'a SchemaTask<'a>,
+    schema: Option<&'a Schema>,
+) -> LineNames<'a>
     ensures { names_of_line result ≡ names_in schema_file.now aim.now (option_copied schema.entry) }
 {
     match aim {
-        Aim::Query { file, work } => LineNames {
+        SchemaTask::Query { file, work } => LineNames {
             schema_file,
             query_file: file.get(),
             stats_file: stats_file_of(work),
             rows_file: None,
             schema,
         },
-        Aim::Append(rows) => LineNames {
+        SchemaTask::Append(rows) => LineNames {
             schema_file,
             query_file: "",
             stats_file: rows.stats_file.get(),

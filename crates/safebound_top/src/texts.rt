@@ -8,7 +8,7 @@ ghost use Rattle.sql_meaning.specs.Databases.{IsDatabaseOf};
 ghost use Rattle.joined_texts.specs.Printed.{printed_rows};
 ghost use Rattle.stats_file.specs.FileText.{file_text};
 ghost use Rattle.stats_file.specs.Rules.{KeepsRules};
-ghost use Rattle.safebound_top.specs.Course.{TextsWritten, WroteIfAny};
+ghost use Rattle.safebound_top.specs.CallHistory.{TextsWritten, WroteIfAny};
 ghost use Rattle.safebound_top.specs.Headline.{DidNotGrow};
 ghost use Rattle.prepared_runs.specs.KeptBuffers.{HasParts, IsJoined, HasBuffersOf, KeepsPending, counts_in, plan_joined};
 ghost use Rattle.prepared_runs.specs.RunOutcome.{RunOutcome};
@@ -19,7 +19,7 @@ ghost use Rattle.prepared_runs.specs.Shapes.{IsShapedPlan, joined_entries, shape
 
 use base_io::{Failed, Sink};
 use csv_tables::Database;
-use joined_texts::{write_audit, write_rows, write_tree_audit, write_tree_rows};
+use joined_texts::{write_audit, write_rows, write_tree_audit};
 use outcomes::SinkId;
 use prepared_runs::{
     AnyPlan, Joined, PendingOutput, PreparedQuery, PreparedRun, PreparedStatsFilePlan, Room, join,
@@ -41,23 +41,24 @@ fn write_joined<O: Sink>(
     ensures { Wrote (growth O.taken O.faults out.old out.new)
         (rows_lines query.now.select (printed_rows query.now db.now (joined_entries (plan_joined joined.now)))) result }
 {
-    match joined {
-        Joined::Levels(plan, _, reserved) => {
-            write_rows(&reserved.levels, plan.order.as_slice(), query, db, out)
-        }
-        Joined::Nodes(_, done) => write_tree_rows(done, query, db, out),
-    }
+    write_rows(&joined.done, query, db, out)
 }
 
 // Writes the audit text of a plan that was joined: how many rows each level or inner node has.
-fn write_audit_text<O: Sink>(joined: &Joined, sources: &[Source], out: &mut O) -> Result<(), Failed>
-    requires { HasParts (length sources.now) joined.now }
+fn write_audit_text<O: Sink>(
+    joined: &Joined,
+    query: &Query,
+    db: &Database,
+    out: &mut O,
+) -> Result<(), Failed>
+    requires database { IsDatabaseOf query.now db.now }
+    requires parts { HasParts (length query.now.from) joined.now }
     ensures { Wrote (growth O.taken O.faults out.old out.new)
-        (shape_audits sources.now (plan_joined joined.now) (counts_in joined.now)) result }
+        (shape_audits query.now.from (plan_joined joined.now) (counts_in query.now db.now joined.now)) result }
 {
-    match joined {
-        Joined::Levels(plan, _, reserved) => write_audit(&reserved.levels, plan, sources, out),
-        Joined::Nodes(plan, done) => write_tree_audit(done, plan, out),
+    match &joined.order {
+        Some(plan) => write_audit(&joined.done, plan, query, db, out),
+        None => write_tree_audit(&joined.done, &joined.tree, out),
     }
 }
 
@@ -84,7 +85,7 @@ fn join_and_write<O: Sink>(
         }
         PendingOutput::Audit(joins) => {
             let joined = join(joins, query, db);
-            let result = write_audit_text(&joined, query.from.as_slice(), out);
+            let result = write_audit_text(&joined, query, db, out);
             *kept = Some(joined);
             result
         }
@@ -97,9 +98,9 @@ fn write_plan_of_room<N: Sink>(room: &Room, sources: &[Source], notes: &mut N) -
     requires { IsShapedPlan (length sources.now) (plan_in room.now) }
     ensures { Wrote (growth N.taken N.faults notes.old notes.new) (shape_lines sources.now (plan_in room.now)) result }
 {
-    match room {
-        Room::Levels(plan, _) => write_plan(plan, sources, notes),
-        Room::Nodes(plan, _) => write_tree(plan, sources, notes),
+    match &room.order {
+        Some(plan) => write_plan(plan, sources, notes),
+        None => write_tree(&room.tree, sources, notes),
     }
 }
 

@@ -5,13 +5,13 @@ ghost use Rattle.outcomes.specs.Statuses.{status_of_failure};
 ghost use Rattle.schema_types.specs.Validity.{IsValid};
 ghost use Rattle.stats_reading.specs.Names.{HasByteColumns};
 ghost use Rattle.safebound_words.specs.InRange.{HasRanges};
-ghost use Rattle.safebound_top.specs.Course.{Course, TextsEnded, StageRan, StatusReported};
+ghost use Rattle.safebound_top.specs.CallHistory.{CallHistory, TextsEnded, StageRan, StatusReported};
 ghost use Rattle.safebound_top.specs.Faults.{status_line};
 ghost use Rattle.safebound_top.specs.Headline.{Headline};
 ghost use Rattle.prepared_runs.specs.KeptBuffers.{HasBuffersOf, KeepsItsBuffers};
 ghost use Rattle.safebound_top.specs.Promise.{Promise};
 ghost use Rattle.prepared_runs.specs.PreparedRun.{CanBeWritten, outcome_of};
-ghost use Rattle.prepared_runs.specs.Shops.{shop_of, shop_store, store_read};
+ghost use Rattle.prepared_runs.specs.Shops.{demo_number_of, shop_store, store_read};
 ghost use Rattle.prepared_runs.specs.Verdict.{IsAimFile, aim_run, command_run, command_stage, verdict};
 
 use crate::report::report;
@@ -102,7 +102,7 @@ fn run<S: Store, O: Sink, N: Sink>(
 ) -> Status
     requires ranges { HasRanges command.now.aim }
     requires none { kept.old ≡ None }
-    ensures course { (words : List (List ℕ)) → command_stage words ≡ Ok command.now → Course (record {
+    ensures course { (words : List (List ℕ)) → command_stage words ≡ Ok command.now → CallHistory (record {
       words = words;
       status = result;
       store = reading S.files S.faults S.misses store.old store.new;
@@ -129,7 +129,7 @@ fn run_shop<O: Sink, N: Sink>(
 ) -> Status
     requires ranges { HasRanges command.now.aim }
     requires none { kept.old ≡ None }
-    ensures course { (words : List (List ℕ)) → command_stage words ≡ Ok command.now → Course (record {
+    ensures course { (words : List (List ℕ)) → command_stage words ≡ Ok command.now → CallHistory (record {
       words = words;
       status = result;
       store = shop_store number;
@@ -155,7 +155,7 @@ fn run_command<S: Store, O: Sink, N: Sink>(
 ) -> Status
     requires ranges { HasRanges command.now.aim }
     requires none { kept.old ≡ None }
-    ensures course { (words : List (List ℕ)) → command_stage words ≡ Ok command.now → Course (record {
+    ensures course { (words : List (List ℕ)) → command_stage words ≡ Ok command.now → CallHistory (record {
       words = words;
       status = result;
       store = store_read command.now.shop (reading S.files S.faults S.misses store.old store.new);
@@ -207,20 +207,20 @@ pub fn safebound<S: Store, O: Sink, N: Sink>(
     ensures promise { Promise (record {
       words = map (λ w. w.now) words.now;
       status = result;
-      store = store_read (shop_of (map (λ w. w.now) words.now)) (reading S.files S.faults S.misses store.old store.new);
+      store = store_read (demo_number_of (map (λ w. w.now) words.now)) (reading S.files S.faults S.misses store.old store.new);
       out = growth O.taken O.faults out.old out.new;
       notes = growth N.taken N.faults notes.old notes.new;
     }) }
     ensures headline { Headline (record {
       words = map (λ w. w.now) words.now;
       status = result;
-      store = store_read (shop_of (map (λ w. w.now) words.now)) (reading S.files S.faults S.misses store.old store.new);
+      store = store_read (demo_number_of (map (λ w. w.now) words.now)) (reading S.files S.faults S.misses store.old store.new);
       out = growth O.taken O.faults out.old out.new;
       notes = growth N.taken N.faults notes.old notes.new;
     }) }
-    ensures untouched { IfSome (shop_of (map (λ w. w.now) words.now)) (λ number. store.new ≡ store.old) }
+    ensures untouched { IfSome (demo_number_of (map (λ w. w.now) words.now)) (λ number. store.new ≡ store.old) }
     ensures buffers { result ≡ Status.Done → KeepsItsBuffers
-        (store_read (shop_of (map (λ w. w.now) words.now)) (reading S.files S.faults S.misses store.old store.new))
+        (store_read (demo_number_of (map (λ w. w.now) words.now)) (reading S.files S.faults S.misses store.old store.new))
         (verdict (map (λ w. w.now) words.now)) kept.new }
 {
     match read_words(words) {

@@ -1,4 +1,4 @@
--- The lemma says when `parse` reads a number from a word of digits, and which number this is.
+-- When `parse` reads a number from a word of digits, and which number it reads.
 use Rattle.std.proofs.Common.{◌≡◌, ℕ, ◌<◌, ◌^◌, true, List, length, Result, Ok, Err, rules}
 use Rattle.std.proofs.lemmas.Bool.{and_from, and_parts, lt-ltb, ltb-true}
 use Rattle.std.proofs.lemmas.Str.Parse.{IsNumeralModel, numerals_by_weight, parse_digits}

@@ -5,7 +5,7 @@ use Rattle.std.proofs.lemmas.Bool.{cases_Bool}
 use Rattle.std.proofs.lemmas.Bool.Decides.{nat_tests}
 use Rattle.safebound_words.specs.Answer.{command_of, reading_of}
 use Rattle.safebound_words.specs.CommandLines.{CommandReading, requested}
-use Rattle.safebound_words.specs.Commands.{demo_of, most_budget_of, over_query, shape_by, source_by, terms_by, with_rows}
+use Rattle.safebound_words.specs.Commands.{demo_of, most_budget_of, over_query, shape_by, source_by, terms_by, append_command}
 use Rattle.safebound_words.specs.InRange.{HasRanges, WorkHasRanges}
 use Rattle.safebound_words.specs.Numbers.{is_number, number_of, number_within}
 use Rattle.safebound_words.specs.Table.{Given, command_row, count_alone, file_alone, from_file_or_tables, is_set, limit_of, of_append, of_number, of_stats, option_file, over_files, over_tables, terms_given, value_of, work_given, ◌>>=◌}
@@ -15,8 +15,8 @@ use Rattle.safebound_words.specs.declared.command.OutText.{OutText}
 use Rattle.safebound_words.specs.declared.command.OutText.TheVariants as out_text
 use Rattle.safebound_words.specs.declared.command.PlanTerms.{PlanTerms}
 use Rattle.safebound_words.specs.declared.command.PlanWork.{PlanWork}
-use Rattle.safebound_words.specs.declared.command.Work.{Work}
-use Rattle.safebound_words.specs.declared.command.Work.TheVariants as works
+use Rattle.safebound_words.specs.declared.command.QueryTask.{QueryTask}
+use Rattle.safebound_words.specs.declared.command.QueryTask.TheVariants as works
 use Rattle.safebound_words.specs.declared.table.CommandName.{CommandName}
 use Rattle.safebound_words.specs.declared.table.CommandName.TheVariants as command
 use Rattle.safebound_words.specs.declared.table.FlagName.TheVariants as flag
@@ -33,7 +33,7 @@ of_store asked none ranges = record {
   shop = λ number is. absurd (let no : ◌≡◌ {A = Option ℕ} None (Some number) = sym none ∙ is in cc);
 }
 
--- ---- one value is in its range
+-- ---- ranges of single values
 
 number_if : (test : Bool) (least most number n : ℕ) → (test ≡ true → (least ≤ number) × (number ≤ most)) → (if test then Some number else None) ≡ Some n → (least ≤ n) × (n ≤ most)
 number_if true least most number n in_range is = let same : number ≡ n = cc in (omega (arith, same, (in_range refl).0), omega (arith, same, (in_range refl).1))
@@ -58,13 +58,13 @@ accuracy_in [] n is = let same : 1 ≡ n = cc in (omega arith, omega arith)
 accuracy_in (word ∷ []) n is = number_in 1 64 word n is
 accuracy_in (word ∷ another ∷ words) n is = absurd (cc)
 
--- ---- one command
+-- ---- ranges of the values of each command
 
 request_if : {A : Type 0} (test : Bool) (made r : A) → (if test then Some made else None) ≡ Some r → (test ≡ true) × (made ≡ r)
 request_if true made r is = (refl, cc)
 request_if false made r is = absurd (cc)
 
--- if `beside` is true, an option or flag is given that this command can't be combined with
+-- `beside` says whether an option or flag is given that excludes this command
 alone_asks : {A : Type 0} (beside : Bool) (asked : Option A) (r : A) → (if beside then None else asked) ≡ Some r → asked ≡ Some r
 alone_asks true asked r is = absurd (cc)
 alone_asks false asked r is = is
@@ -83,7 +83,7 @@ terms_in given terms is =
     let made = request_if (nat_le budget.0 (most_budget_of (shape_by bushy.0))) (terms_by budget.0 bushy.0 (limit_of bytes.0)) terms bushy.2 in
     subst IsSmall made.1 (most_if (most_budget_of (shape_by bushy.0)) budget.0 made.0)
 
-module _ (out : OutText) (terms : PlanTerms) (small : terms.budget ≤ most_budget_of terms.shape) (given : Given) (work : Work) where
+module _ (out : OutText) (terms : PlanTerms) (small : terms.budget ≤ most_budget_of terms.shape) (given : Given) (work : QueryTask) where
   tables_in : over_tables out terms given ≡ Some work → WorkHasRanges work
   tables_in is =
       let accuracy = bind_so (value_of option.Accuracy (given.values option.Accuracy)) _ work is in
@@ -91,7 +91,7 @@ module _ (out : OutText) (terms : PlanTerms) (small : terms.budget ≤ most_budg
       let keys = bind_so (is_set (given.times flag.Keys)) _ work reduce.2 in
       let count = bind_so (is_set (given.times flag.Count)) _ work keys.2 in
       let task : PlanWork = record { terms = terms; accuracy = accuracy.0; source = source_by reduce.0 keys.0 count.0; out = out } in
-      let late : Option Work = if count.0 && not (count_alone given reduce.0 keys.0) then None else Some (works.Plan task) in
+      let late : Option QueryTask = if count.0 && not (count_alone given reduce.0 keys.0) then None else Some (works.Plan task) in
       let alone = alone_asks (count.0 && not (count_alone given reduce.0 keys.0)) (Some (works.Plan task)) work (alone_asks (keys.0 && reduce.0) late work count.2) in
       let same : works.Plan task ≡ work = cc in
       let close = accuracy_in (given.values option.Accuracy) accuracy.0 accuracy.1 in
@@ -133,8 +133,8 @@ append_in (schema ∷ []) given r is = absurd (cc)
 append_in (schema ∷ file ∷ []) given r is = absurd (cc)
 append_in (schema ∷ file ∷ table ∷ []) given r is = absurd (cc)
 append_in (schema ∷ file ∷ table ∷ rows ∷ []) given r is =
-    let same : with_rows schema (record { stats_file = file; table = table; rows_file = rows }) ≡ r = cc in
-    subst IsAsked same (of_store (with_rows schema (record { stats_file = file; table = table; rows_file = rows })) refl tt)
+    let same : append_command schema (record { stats_file = file; table = table; rows_file = rows }) ≡ r = cc in
+    subst IsAsked same (of_store (append_command schema (record { stats_file = file; table = table; rows_file = rows })) refl tt)
 append_in (schema ∷ file ∷ table ∷ rows ∷ more ∷ positionals) given r is = absurd (cc)
 
 number_has : (number : Option ℕ) (r : Command) → option_map demo_of number ≡ Some r → IsAsked r
@@ -159,7 +159,7 @@ asks_in command.Stats positionals given r is = stats_in positionals given r is
 asks_in command.Append positionals given r is = append_in positionals given r is
 asks_in command.Demo positionals given r is = demo_in positionals given r is
 
--- ---- all words of a line
+-- ---- ranges of the command that words ask for
 
 read_in : (reading : Option CommandReading) (r : Command) → (reading >>= requested) ≡ Some r → IsAsked r
 read_in None r is = absurd (cc)

@@ -2,7 +2,7 @@
 use Rattle.std.proofs.Common.{◌≡◌, List, [], ◌∷◌, ◌++◌, Option, Some, None, sym, refl, ap, ◌∙◌, inl, inr, append_assoc}
 use Rattle.std.specs.Bool.{IsTrue}
 use Rattle.std.specs.List.{AllByRecursion, flat_map}
-use Rattle.safebound_words.specs.Answer.{Kind, Ends, IsPositional, Sets, Wants, Gives, Unknown, Parts, command_named, command_of, in_front, kind_of, parts_from, read_by, reading_of}
+use Rattle.safebound_words.specs.Answer.{WordKind, Ends, IsPositional, Sets, Wants, Gives, Unknown, ItemsAndAfterDashes, command_named, command_of, in_front, kind_of_word, parts_from, read_by, reading_of}
 use Rattle.safebound_words.specs.CommandLines.{Flag, AskFor, WithNextWord, IsEnd, IsItemOf, Item, WithEquals, Positional, CommandReading, AreReadAs, has_option, requested, spelling}
 use Rattle.safebound_words.specs.declared.command.Command.{Command}
 use Rattle.safebound_words.specs.Table.{command_row, option_row, ◌>>=◌}
@@ -11,7 +11,7 @@ use Rattle.safebound_words.specs.declared.table.CommandName.{CommandName}
 use Rattle.safebound_words.specs.declared.table.OptionName.{OptionName}
 use Rattle.safebound_words.proofs.WordKinds.{KindSpells, kind_spells, kind-ends, kind-gives, kind-place, kind-sets, kind-wants, named_so, names_itself}
 
--- ---- if words spell items and an end, `parts_from` reads these items and this end
+-- ---- `parts_from` reads the items and the end that words spell
 
 spelled_read : (name : CommandName) (items : List Item) (rest after_dashes : List Word)
     → AllByRecursion (IsItemOf name) items → IsEnd rest after_dashes → parts_from name None (flat_map spelling items ++ rest) ≡ Some (items, after_dashes)
@@ -34,26 +34,26 @@ unfolding reading_of
 reads_computed words reading is =
     rw (is.spelled, names_itself reading.command, spelled_read reading.command reading.items is.rest reading.after_dashes is.items is.end) refl
 
--- ---- if `parts_from` reads items and an end from words, the words spell these items and this end
+-- ---- words spell the items and the end that `parts_from` reads
 
-pub record IsSpelled (name : CommandName) (words : List Word) (parts : Parts) : Type 0 where
+pub record IsSpelled (name : CommandName) (words : List Word) (parts : ItemsAndAfterDashes) : Type 0 where
   pub rest : List Word
   pub spelled : words ≡ flat_map spelling parts.0 ++ rest
   pub end : IsEnd rest parts.1
   pub items : AllByRecursion (IsItemOf name) parts.0
 
-pub record InFront (item : Item) (from : Option Parts) (parts : Parts) : Type 0 where
-  pub inner : Parts
+pub record InFront (item : Item) (from : Option ItemsAndAfterDashes) (parts : ItemsAndAfterDashes) : Type 0 where
+  pub inner : ItemsAndAfterDashes
   pub from_is : from ≡ Some inner
   pub parts_are : parts ≡ (item ∷ inner.0, inner.1)
 
-front_so : (item : Item) (from : Option Parts) (parts : Parts) → in_front item from ≡ Some parts → InFront item from parts
+front_so : (item : Item) (from : Option ItemsAndAfterDashes) (parts : ItemsAndAfterDashes) → in_front item from ≡ Some parts → InFront item from parts
 front_so item None parts e = cc
 front_so item (Some inner) parts e = record { inner = inner; from_is = refl; parts_are = cc }
 
-one_more_item : (name : CommandName) (item : Item) (words inner_words : List Word) (from : Option Parts) (parts : Parts)
+one_more_item : (name : CommandName) (item : Item) (words inner_words : List Word) (from : Option ItemsAndAfterDashes) (parts : ItemsAndAfterDashes)
     → words ≡ spelling item ++ inner_words → IsItemOf name item
-    → ((inner : Parts) → from ≡ Some inner → IsSpelled name inner_words inner)
+    → ((inner : ItemsAndAfterDashes) → from ≡ Some inner → IsSpelled name inner_words inner)
     → in_front item from ≡ Some parts → IsSpelled name words parts
 one_more_item name item words inner_words from parts spelled of read_on e =
     let front = front_so item from parts e in
@@ -66,9 +66,9 @@ one_more_item name item words inner_words from parts spelled of read_on e =
     }
 
 -- `kind` says what the word is: `--`, an item or an option's word
-kind_spelled : (name : CommandName) (word : Word) (words : List Word) (kind : Kind) (parts : Parts) → KindSpells name word kind
-    → ((inner : Parts) → parts_from name None words ≡ Some inner → IsSpelled name words inner)
-    → ((o : OptionName) (inner : Parts) → IsTrue (has_option name o) → parts_from name (Some o) words ≡ Some inner → IsSpelled name ((option_row o).word ∷ words) inner)
+kind_spelled : (name : CommandName) (word : Word) (words : List Word) (kind : WordKind) (parts : ItemsAndAfterDashes) → KindSpells name word kind
+    → ((inner : ItemsAndAfterDashes) → parts_from name None words ≡ Some inner → IsSpelled name words inner)
+    → ((o : OptionName) (inner : ItemsAndAfterDashes) → IsTrue (has_option name o) → parts_from name (Some o) words ≡ Some inner → IsSpelled name ((option_row o).word ∷ words) inner)
     → read_by kind word words (λ wanted. parts_from name wanted words) ≡ Some parts
     → IsSpelled name (word ∷ words) parts
 kind_spelled name word words Ends parts is read_on value e =
@@ -85,8 +85,8 @@ kind_spelled name word words (Gives o given) parts is read_on value e =
     one_more_item name (WithEquals o given) (word ∷ words) words (parts_from name None words) parts (ap (λ w. w ∷ words) is.0) is.1 read_on e
 kind_spelled name word words Unknown parts is read_on value e = cc
 
-value_spelled : (name : CommandName) (o : OptionName) (value : Word) (words : List Word) (parts : Parts) → IsTrue (has_option name o)
-    → ((inner : Parts) → parts_from name None words ≡ Some inner → IsSpelled name words inner)
+value_spelled : (name : CommandName) (o : OptionName) (value : Word) (words : List Word) (parts : ItemsAndAfterDashes) → IsTrue (has_option name o)
+    → ((inner : ItemsAndAfterDashes) → parts_from name None words ≡ Some inner → IsSpelled name words inner)
     → in_front (WithNextWord o value) (parts_from name None words) ≡ Some parts → IsSpelled name ((option_row o).word ∷ value ∷ words) parts
 value_spelled name o value words parts has read_on e =
     one_more_item name (WithNextWord o value) ((option_row o).word ∷ value ∷ words) words (parts_from name None words) parts refl has read_on e
@@ -100,7 +100,7 @@ Has : CommandName → Option OptionName → Type 0
 Has name None = Unit {0}
 Has name (Some o) = IsTrue (has_option name o)
 
-spelled_from : (name : CommandName) (wanting : Option OptionName) (words : List Word) (parts : Parts) → Has name wanting
+spelled_from : (name : CommandName) (wanting : Option OptionName) (words : List Word) (parts : ItemsAndAfterDashes) → Has name wanting
     → parts_from name wanting words ≡ Some parts → IsSpelled name (with_option_word wanting words) parts
 unfolding parts_from with_option_word Has
 spelled_from name None [] parts has e =
@@ -111,15 +111,15 @@ spelled_from name (Some o) [] parts has e = cc
 spelled_from name (Some o) (value ∷ words) parts has e =
     value_spelled name o value words parts has (λ inner is. spelled_from name None words inner tt is) e
 spelled_from name None (word ∷ words) parts has e =
-    kind_spelled name word words (kind_of name word) parts (kind_spells name word)
+    kind_spelled name word words (kind_of_word name word) parts (kind_spells name word)
     (λ inner is. spelled_from name None words inner tt is)
     (λ o inner h is. spelled_from name (Some o) words inner h is) e
 
-pub read_spelled : (name : CommandName) (words : List Word) (parts : Parts) → parts_from name None words ≡ Some parts → IsSpelled name words parts
+pub read_spelled : (name : CommandName) (words : List Word) (parts : ItemsAndAfterDashes) → parts_from name None words ≡ Some parts → IsSpelled name words parts
 unfolding with_option_word Has
 read_spelled name words parts e = spelled_from name None words parts tt e
 
--- ---- whole lines
+-- ---- `reading_of` computes the only reading
 
 pub bind_so : {A B : Type 0} (from : Option A) (rest : A → Option B) (b : B) → from >>= rest ≡ Some b → (a : A) × (from ≡ Some a) × (rest a ≡ Some b)
 bind_so None rest b e = cc

@@ -1,5 +1,5 @@
--- The walk over a command line takes one more word. Then the collected and the remaining words together ask for the same as before; or the
--- line is refused, and it asks for nothing.
+-- One step of the walk over a command line. If the step takes a word, the collected and the remaining words ask for the same command as before. If
+-- the step refuses the word, they ask for no command.
 use Rattle.std.proofs.Common.{◌≡◌, ℕ, ◌+◌, ◌<◌, ◌≤◌, ◌==◌, ◌&&◌, not, nat_le, Bool, true, false, if◌then◌else◌, option_map, List, [], ◌∷◌, ◌++◌, length, map, drop, Option, Some, None, Result, Ok, Err, Bor, sym, refl, ap, ◌∙◌, append_assoc, append-nil, length-append, suc, zero, arith}
 use Rattle.std.proofs.Math.Path.{fun_ext}
 use Rattle.std.proofs.lemmas.Bool.{false≢true, ne_eqb}
@@ -9,7 +9,7 @@ use Rattle.std.proofs.lemmas.Slice.Eq.{bytes_eq-Decides}
 use Rattle.std.specs.Bool.{IsTrue}
 use Rattle.std.specs.List.{flat_map}
 use Rattle.std.specs.Result.{OnErr}
-use Rattle.safebound_words.specs.Answer.{Kind, Ends, IsPositional, Sets, Wants, Gives, Unknown, Parts, in_front, kind_of, parts_from, read_by}
+use Rattle.safebound_words.specs.Answer.{WordKind, Ends, IsPositional, Sets, Wants, Gives, Unknown, ItemsAndAfterDashes, in_front, kind_of_word, parts_from, read_by}
 use Rattle.safebound_words.specs.Collected.{asked_by, asked_from, asked_with, collected, given_of, given_to, given_with, times_of, words_of}
 use Rattle.safebound_words.specs.CommandLines.{Flag, WithNextWord, Item, WithEquals, Positional, given_by, given_in, has_flag, has_option, positional_words, same_flag, same_option, set_by}
 use Rattle.safebound_words.specs.Commands.{most_budget_of, over_query, shape_by, source_by, terms_by}
@@ -19,8 +19,8 @@ use Rattle.safebound_words.specs.declared.command.Command.{Command}
 use Rattle.safebound_words.specs.declared.command.OutText.{OutText}
 use Rattle.safebound_words.specs.declared.command.OutText.TheVariants as out_text
 use Rattle.safebound_words.specs.declared.command.PlanTerms.{PlanTerms}
-use Rattle.safebound_words.specs.declared.command.Work.{Work}
-use Rattle.safebound_words.specs.declared.command.Work.TheVariants as works
+use Rattle.safebound_words.specs.declared.command.QueryTask.{QueryTask}
+use Rattle.safebound_words.specs.declared.command.QueryTask.TheVariants as works
 use Rattle.safebound_words.specs.declared.table.CommandName.{CommandName}
 use Rattle.safebound_words.specs.declared.table.CommandName.TheVariants as command
 use Rattle.safebound_words.specs.declared.table.FlagName.{FlagName}
@@ -32,7 +32,7 @@ use Rattle.safebound_words.specs.declared.line.Next.TheVariants as next
 use Rattle.safebound_words.specs.declared.line.Positionals.TheVariants as positionals
 use Rattle.safebound_words.proofs.WordKinds.{kind_spells}
 
--- ---- what a command asks for depends on its positional words, on what is given to each option and on how often each flag is given
+-- ---- a command depends only on positional words, on the values of each option, and on how often each flag is given
 
 same_asks : (name : CommandName) (positionals positionals' : List Word) (given given' : Given)
     → positionals ≡ positionals' → ((o : OptionName) → given.values o ≡ given'.values o) → ((f : FlagName) → given.times f ≡ given'.times f)
@@ -51,7 +51,7 @@ no_more_times : (new old : Line) (item : Item) (items : List Item) → ((f : Fla
     → ((f : FlagName) → set_by f item ≡ 0) → (f : FlagName) → (given_with new items).times f ≡ (given_with old (item ∷ items)).times f
 no_more_times new old item items same none f = rw (same f) (omega (arith, sum_by-cons (set_by f) item items, none f))
 
-pub one_more_place : (name : CommandName) (new old : Line) (word : Word) (parts : Parts)
+pub one_more_place : (name : CommandName) (new old : Line) (word : Word) (parts : ItemsAndAfterDashes)
     → words_of new.positionals ≡ words_of old.positionals ++ word ∷ [] → IsSameBeside new old
     → asked_with name new parts ≡ asked_with name old (Positional word ∷ parts.0, parts.1)
 unfolding asked_with
@@ -82,7 +82,7 @@ one_more_behind name new old word words positionals same =
 SetsMore : Line → Line → FlagName → Type 0
 SetsMore new old f = (other : FlagName) → times_of new other ≡ times_of old other + (if same_flag other f then 1 else 0)
 
-one_more_flag : (name : CommandName) (new old : Line) (f : FlagName) (parts : Parts)
+one_more_flag : (name : CommandName) (new old : Line) (f : FlagName) (parts : ItemsAndAfterDashes)
     → new.positionals ≡ old.positionals → ((o : OptionName) → given_to new o ≡ given_to old o) → SetsMore new old f
     → asked_with name new parts ≡ asked_with name old (Flag f ∷ parts.0, parts.1)
 unfolding asked_with SetsMore
@@ -99,7 +99,7 @@ one_more_flag name new old f parts positionals values more =
 GivesMore : Line → Line → OptionName → Word → Type 0
 GivesMore new old o value = (other : OptionName) → given_to new other ≡ given_to old other ++ (if same_option other o then value ∷ [] else [])
 
-one_more_value : (name : CommandName) (new old : Line) (item : Item) (o : OptionName) (value : Word) (parts : Parts)
+one_more_value : (name : CommandName) (new old : Line) (item : Item) (o : OptionName) (value : Word) (parts : ItemsAndAfterDashes)
     → positional_words item ≡ [] → ((f : FlagName) → set_by f item ≡ 0)
     → ((other : OptionName) → given_by other item ≡ (if same_option other o then value ∷ [] else []))
     → new.positionals ≡ old.positionals → ((f : FlagName) → times_of new f ≡ times_of old f) → GivesMore new old o value
@@ -123,7 +123,7 @@ none_behind : {A B : Type 0} (first : Option A) (rest : A → Option B) → ((a 
 none_behind None rest all = refl
 none_behind (Some a) rest all = all a
 
--- ---- if too many words are collected, nothing is asked for
+-- ---- no command has more than four positional words, or an option or flag twice
 
 files_of_two : (out : OutText) (positionals : List Word) (given : Given) → 4 < length positionals → over_files out positionals given ≡ None
 unfolding over_files
@@ -169,7 +169,7 @@ no_file [] many = absurd (omega arith)
 no_file (a ∷ []) many = absurd (omega arith)
 no_file (a ∷ b ∷ rest) many = refl
 
--- these flags name a source of bounds
+-- whether a flag names a source of bounds
 abbrev IsSource : FlagName → Type 0
 IsSource flag.Bushy = ⊥
 IsSource flag.Reduce = Unit {0}
@@ -181,7 +181,7 @@ none_if_set_twice zero many = absurd (omega arith)
 none_if_set_twice (suc zero) many = absurd (omega arith)
 none_if_set_twice (suc (suc more)) many = refl
 
--- ---- the stages of `terms_given`
+-- ---- `terms_given` is None if `--memory`, `--budget` or `--bushy` is given twice
 module _ (given : Given) where
   abbrev by_bushy : ℕ → ℕ → Bool → Option PlanTerms
   by_bushy bytes budget bushy = if nat_le budget (most_budget_of (shape_by bushy)) then Some (terms_by budget bushy (limit_of bytes)) else None
@@ -206,20 +206,20 @@ module _ (given : Given) where
       (λ bytes. none_behind (value_of option.Budget (given.values option.Budget)) (λ budget. by_budget bytes budget)
       (λ budget. none_first (is_set (given.times flag.Bushy)) (λ bushy. by_bushy bytes budget bushy) (none_if_set_twice (given.times flag.Bushy) many)))
 
--- ---- the stages of `over_tables`
+-- ---- `over_tables` is None if `--accuracy` or a flag for a source of bounds is given twice
 module _ (out : OutText) (terms : PlanTerms) (given : Given) where
-  abbrev by_count : ℕ → Bool → Bool → Bool → Option Work
+  abbrev by_count : ℕ → Bool → Bool → Bool → Option QueryTask
   by_count accuracy reduce keys count = if keys && reduce then None
       else if count && not (count_alone given reduce keys) then None
       else Some (works.Plan (record { terms = terms; accuracy = accuracy; source = source_by reduce keys count; out = out }))
 
-  abbrev by_keys : ℕ → Bool → Bool → Option Work
+  abbrev by_keys : ℕ → Bool → Bool → Option QueryTask
   by_keys accuracy reduce keys = is_set (given.times flag.Count) >>= λ count. by_count accuracy reduce keys count
 
-  abbrev by_reduce : ℕ → Bool → Option Work
+  abbrev by_reduce : ℕ → Bool → Option QueryTask
   by_reduce accuracy reduce = is_set (given.times flag.Keys) >>= λ keys. by_keys accuracy reduce keys
 
-  abbrev by_accuracy : ℕ → Option Work
+  abbrev by_accuracy : ℕ → Option QueryTask
   by_accuracy accuracy = is_set (given.times flag.Reduce) >>= λ reduce. by_reduce accuracy reduce
 
   tables_without_accuracy : 1 < length (given.values option.Accuracy) → over_tables out terms given ≡ None
@@ -246,7 +246,7 @@ module _ (out : OutText) (terms : PlanTerms) (given : Given) where
   tables_without_flag f is many =
       none_behind (value_of option.Accuracy (given.values option.Accuracy)) (λ accuracy. by_accuracy accuracy) (λ accuracy. many_sources accuracy f is many)
 
--- ---- a plan from a statistics file allows no flag for another source of bounds, so it is refused if such a flag is given twice
+-- ---- `from_file` is None if a flag for a source of bounds is given twice, since it excludes these flags
 
 nowhere : (b : Bool) → (b && false) ≡ false
 nowhere true = refl
@@ -271,7 +271,7 @@ words_twice words b many = let some : (length words == 0) ≡ false = ne_eqb (le
 not_alone : (file : Word) (terms : PlanTerms) (given : Given) → file_alone given ≡ false → from_file file terms given ≡ None
 not_alone file terms given beside = rw beside refl
 
--- ---- a plan over tables or from a statistics file
+-- ---- `over_files` is None if an option or flag is given twice, with a statistics file or without
 
 module _ (out : OutText) (terms : PlanTerms) (given : Given) where
   either_without_accuracy : (file : Option Word) → 1 < length (given.values option.Accuracy) → from_file_or_tables out file terms given ≡ None
@@ -348,7 +348,7 @@ refused command.Stats option.Stats positionals given has many = absurd (false≢
 refused command.Append o positionals given has many = absurd (false≢true has)
 refused command.Demo o positionals given has many = absurd (false≢true has)
 
-full_place : (name : CommandName) (line : Line) (word : Word) (parts : Parts) → length (words_of line.positionals) ≡ 4
+full_place : (name : CommandName) (line : Line) (word : Word) (parts : ItemsAndAfterDashes) → length (words_of line.positionals) ≡ 4
     → asked_with name line (Positional word ∷ parts.0, parts.1) ≡ None
 unfolding asked_with
 full_place name line word parts full =
@@ -363,7 +363,7 @@ full_after_dashes name line word words full =
 same_itself : (o : OptionName) → same_option o o ≡ true
 same_itself o = (bytes_eq-Decides (option_row o).word (option_row o).word).1 refl
 
-twice : (name : CommandName) (line : Line) (item : Item) (o : OptionName) (value : Word) (parts : Parts) → IsTrue (has_option name o)
+twice : (name : CommandName) (line : Line) (item : Item) (o : OptionName) (value : Word) (parts : ItemsAndAfterDashes) → IsTrue (has_option name o)
     → given_by o item ≡ (if same_option o o then value ∷ [] else [])
     → length (given_to line o) ≡ 1 → asked_with name line (item ∷ parts.0, parts.1) ≡ None
 unfolding asked_with
@@ -376,56 +376,56 @@ twice name line item o value parts has by again =
 flag_itself : (f : FlagName) → same_flag f f ≡ true
 flag_itself f = (bytes_eq-Decides (flag_word f) (flag_word f)).1 refl
 
-twice_set : (name : CommandName) (line : Line) (f : FlagName) (parts : Parts) → IsTrue (has_flag name f)
+twice_set : (name : CommandName) (line : Line) (f : FlagName) (parts : ItemsAndAfterDashes) → IsTrue (has_flag name f)
     → times_of line f ≡ 1 → asked_with name line (Flag f ∷ parts.0, parts.1) ≡ None
 unfolding asked_with
 twice_set name line f parts has again =
     let one : set_by f (Flag f) ≡ 1 = rw (flag_itself f) refl in
     flag_refused name f _ (given_with line (Flag f ∷ parts.0)) has (omega (arith, again, one, sum_by-cons (set_by f) (Flag f) parts.0))
 
--- ---- steps of the walk
+-- ---- steps of the walk, by the kind of the word
 
-front_asked : (name : CommandName) (new old : Line) (item : Item) (parts : Option Parts)
-    → ((p : Parts) → asked_with name new p ≡ asked_with name old (item ∷ p.0, p.1))
+front_asked : (name : CommandName) (new old : Line) (item : Item) (parts : Option ItemsAndAfterDashes)
+    → ((p : ItemsAndAfterDashes) → asked_with name new p ≡ asked_with name old (item ∷ p.0, p.1))
     → parts >>= asked_with name new ≡ in_front item parts >>= asked_with name old
 front_asked name new old item None same = refl
 front_asked name new old item (Some p) same = same p
 
-front_refused : (name : CommandName) (line : Line) (item : Item) (parts : Option Parts)
-    → ((p : Parts) → asked_with name line (item ∷ p.0, p.1) ≡ None) → in_front item parts >>= asked_with name line ≡ None
+front_refused : (name : CommandName) (line : Line) (item : Item) (parts : Option ItemsAndAfterDashes)
+    → ((p : ItemsAndAfterDashes) → asked_with name line (item ∷ p.0, p.1) ≡ None) → in_front item parts >>= asked_with name line ≡ None
 front_refused name line item None none = refl
 front_refused name line item (Some p) none = none p
 
-read_so : (name : CommandName) (word : Word) (words : List Word) (kind : Kind) → kind ≡ kind_of name word
+read_so : (name : CommandName) (word : Word) (words : List Word) (kind : WordKind) → kind ≡ kind_of_word name word
     → parts_from name None (word ∷ words) ≡ read_by kind word words (λ wanted. parts_from name wanted words)
 unfolding parts_from
 read_so name word words kind is = ap (λ k. read_by k word words (λ wanted. parts_from name wanted words)) (sym is)
 
-pub wanted : (name : CommandName) (word : Word) (o : OptionName) → Wants o ≡ kind_of name word → IsTrue (has_option name o)
+pub wanted : (name : CommandName) (word : Word) (o : OptionName) → Wants o ≡ kind_of_word name word → IsTrue (has_option name o)
 wanted name word o is = let so = kind_spells name word in (rw (← is) at so).1
 
-pub gives_own : (name : CommandName) (word : Word) (o : OptionName) (value : Word) → Gives o value ≡ kind_of name word → IsTrue (has_option name o)
+pub gives_own : (name : CommandName) (word : Word) (o : OptionName) (value : Word) → Gives o value ≡ kind_of_word name word → IsTrue (has_option name o)
 gives_own name word o value is = let so = kind_spells name word in (rw (← is) at so).1
 
-sets_own : (name : CommandName) (word : Word) (f : FlagName) → Sets f ≡ kind_of name word → IsTrue (has_flag name f)
+sets_own : (name : CommandName) (word : Word) (f : FlagName) → Sets f ≡ kind_of_word name word → IsTrue (has_flag name f)
 sets_own name word f is = let so = kind_spells name word in (rw (← is) at so).1
 
-pub end_step : (name : CommandName) (line : Line) (word : Word) → Ends ≡ kind_of name word → (words : List Word)
+pub end_step : (name : CommandName) (line : Line) (word : Word) → Ends ≡ kind_of_word name word → (words : List Word)
     → asked_from name line next.Positional words ≡ asked_from name line next.Item (word ∷ words)
 unfolding asked_from
 end_step name line word is words = rw (read_so name word words Ends is) refl
 
-pub option_step : (name : CommandName) (line : Line) (word : Word) (o : OptionName) → Wants o ≡ kind_of name word → (words : List Word)
+pub option_step : (name : CommandName) (line : Line) (word : Word) (o : OptionName) → Wants o ≡ kind_of_word name word → (words : List Word)
     → asked_from name line (next.Value o) words ≡ asked_from name line next.Item (word ∷ words)
 unfolding asked_from
 option_step name line word o is words = rw (read_so name word words (Wants o) is) refl
 
-pub unknown_refused : (name : CommandName) (line : Line) (word : Word) → Unknown ≡ kind_of name word → (words : List Word)
+pub unknown_refused : (name : CommandName) (line : Line) (word : Word) → Unknown ≡ kind_of_word name word → (words : List Word)
     → asked_from name line next.Item (word ∷ words) ≡ None
 unfolding asked_from
 unknown_refused name line word is words = rw (read_so name word words Unknown is) refl
 
-pub place_step : (name : CommandName) (new old : Line) (word : Word) → IsPositional ≡ kind_of name word
+pub place_step : (name : CommandName) (new old : Line) (word : Word) → IsPositional ≡ kind_of_word name word
     → words_of new.positionals ≡ words_of old.positionals ++ word ∷ [] → IsSameBeside new old → (words : List Word)
     → asked_from name new next.Item words ≡ asked_from name old next.Item (word ∷ words)
 unfolding asked_from
@@ -433,14 +433,14 @@ place_step name new old word is positionals same words =
     rw (read_so name word words IsPositional is)
     (front_asked name new old (Positional word) (parts_from name None words) (λ p. one_more_place name new old word p positionals same))
 
-pub place_refused : (name : CommandName) (line : Line) (word : Word) → IsPositional ≡ kind_of name word → length (words_of line.positionals) ≡ 4
+pub place_refused : (name : CommandName) (line : Line) (word : Word) → IsPositional ≡ kind_of_word name word → length (words_of line.positionals) ≡ 4
     → (words : List Word) → asked_from name line next.Item (word ∷ words) ≡ None
 unfolding asked_from
 place_refused name line word is full words =
     rw (read_so name word words IsPositional is)
     (front_refused name line (Positional word) (parts_from name None words) (λ p. full_place name line word p full))
 
-pub flag_step : (name : CommandName) (new old : Line) (word : Word) (f : FlagName) → Sets f ≡ kind_of name word
+pub flag_step : (name : CommandName) (new old : Line) (word : Word) (f : FlagName) → Sets f ≡ kind_of_word name word
     → new.positionals ≡ old.positionals → ((o : OptionName) → given_to new o ≡ given_to old o)
     → ((other : FlagName) → times_of new other ≡ times_of old other + (if same_flag other f then 1 else 0))
     → (words : List Word) → asked_from name new next.Item words ≡ asked_from name old next.Item (word ∷ words)
@@ -449,14 +449,14 @@ flag_step name new old word f is positionals values more words =
     rw (read_so name word words (Sets f) is)
     (front_asked name new old (Flag f) (parts_from name None words) (λ p. one_more_flag name new old f p positionals values more))
 
-pub flag_again : (name : CommandName) (line : Line) (word : Word) (f : FlagName) → Sets f ≡ kind_of name word → times_of line f ≡ 1
+pub flag_again : (name : CommandName) (line : Line) (word : Word) (f : FlagName) → Sets f ≡ kind_of_word name word → times_of line f ≡ 1
     → (words : List Word) → asked_from name line next.Item (word ∷ words) ≡ None
 unfolding asked_from
 flag_again name line word f is again words =
     rw (read_so name word words (Sets f) is)
     (front_refused name line (Flag f) (parts_from name None words) (λ p. twice_set name line f p (sets_own name word f is) again))
 
-pub joined_step : (name : CommandName) (new old : Line) (word : Word) (o : OptionName) (value : Word) → Gives o value ≡ kind_of name word
+pub joined_step : (name : CommandName) (new old : Line) (word : Word) (o : OptionName) (value : Word) → Gives o value ≡ kind_of_word name word
     → new.positionals ≡ old.positionals → ((f : FlagName) → times_of new f ≡ times_of old f)
     → ((other : OptionName) → given_to new other ≡ given_to old other ++ (if same_option other o then value ∷ [] else []))
     → (words : List Word) → asked_from name new next.Item words ≡ asked_from name old next.Item (word ∷ words)
@@ -466,7 +466,7 @@ joined_step name new old word o value is positionals times given words =
     (front_asked name new old (WithEquals o value) (parts_from name None words)
     (λ p. one_more_value name new old (WithEquals o value) o value p refl (λ f. refl) (λ other. refl) positionals times given))
 
-pub joined_refused : (name : CommandName) (line : Line) (word : Word) (o : OptionName) (value : Word) → Gives o value ≡ kind_of name word
+pub joined_refused : (name : CommandName) (line : Line) (word : Word) (o : OptionName) (value : Word) → Gives o value ≡ kind_of_word name word
     → length (given_to line o) ≡ 1 → (words : List Word) → asked_from name line next.Item (word ∷ words) ≡ None
 unfolding asked_from
 joined_refused name line word o value is again words =
@@ -505,7 +505,7 @@ pub anyway : {T E P : Type 0} (r : Result T E) → P → OnErr r P
 anyway (Ok value) holds = tt
 anyway (Err error) holds = holds
 
--- ---- the loop
+-- ---- the start and the end of the walk
 
 pub nothing_given : (line : Line) → line.budget ≡ None → line.accuracy ≡ None → line.memory ≡ None → line.stats ≡ None → (o : OptionName) → given_to line o ≡ []
 nothing_given line budget accuracy memory stats option.Budget = rw budget refl
@@ -517,7 +517,7 @@ pub start_asked : (name : CommandName) (line : Line) (words : List Word) → wor
     → ((f : FlagName) → times_of line f ≡ 0) → asked_from name line next.Item words ≡ asked_by name words
 unfolding asked_from asked_by asked_with
 start_asked name line words positionals given times =
-    ap (λ (f : Parts → Option Command). parts_from name None words >>= f) (fun_ext (λ (parts : Parts).
+    ap (λ (f : ItemsAndAfterDashes → Option Command). parts_from name None words >>= f) (fun_ext (λ (parts : ItemsAndAfterDashes).
     same_asks name
     (words_of line.positionals ++ (flat_map positional_words parts.0 ++ parts.1))
     (flat_map positional_words parts.0 ++ parts.1)

@@ -1,6 +1,6 @@
--- The lemmas say what a whole line asks for, as the specification has it and as the code computes it.
+-- The command that a whole line asks for: the definition agrees with what the code computes.
 use Rattle.std.proofs.Common.{◌≡◌, ℕ, List, [], ◌∷◌, Bor, Option, Some, None, arith, length, map, refl, sym}
-use Rattle.safebound_words.specs.Answer.{Parts, command_named, command_of, parts_from, reading_of}
+use Rattle.safebound_words.specs.Answer.{ItemsAndAfterDashes, command_named, command_of, parts_from, reading_of}
 use Rattle.safebound_words.specs.Collected.{asked_by}
 use Rattle.safebound_words.specs.CommandLines.{AskFor, requested}
 use Rattle.safebound_words.specs.declared.command.Command.{Command}
@@ -9,7 +9,7 @@ use Rattle.safebound_words.specs.Words.{Word}
 use Rattle.safebound_words.specs.declared.table.CommandName.{CommandName}
 use Rattle.safebound_words.proofs.Readings.{asked_computed, computed_asked}
 
-regrouped : (name : CommandName) (parts : Option Parts)
+regrouped : (name : CommandName) (parts : Option ItemsAndAfterDashes)
     → (parts >>= λ p. Some (record { command = name; items = p.0; after_dashes = p.1 })) >>= requested
     ≡ parts >>= λ p. requested (record { command = name; items = p.0; after_dashes = p.1 })
 regrouped name None = refl
@@ -34,7 +34,7 @@ asks words request is = computed_asked words request (sym is)
 pub asks_nothing : (words : List Word) → None ≡ command_of words → (request : Command) → AskFor words request → ⊥
 asks_nothing words is request asked = let some = asked_computed words request asked in cc
 
--- these lemmas are about the words in a slice, as the code has them
+-- These lemmas are about the words in a slice, as the code has them.
 
 pub no_words : (words : List (Bor (List ℕ))) → length words ≡ 0 → command_of (map (λ w. w.now) words) ≡ None
 no_words [] none = no_line

@@ -1,5 +1,5 @@
--- A command line has at most 16 words: its positional words, one word for each flag, two words for each option, the command's word and `--`.
--- So the code refuses longer lines.
+-- A command line has at most 16 words: positional words, one word for each flag, two words for each option, the command's name and `--`. So the code
+-- may refuse longer lines.
 use Rattle.std.proofs.Common.{◌≡◌, ◌+◌, ◌*◌, ◌≤◌, ◌<◌, ◌&&◌, ◌++◌, ℕ, Bool, true, false, suc, zero, inl, inr, List, [], ◌∷◌, length, Option, None, Some, ap, sym, refl, ◌∙◌, arith}
 use Rattle.std.specs.Prelude.{if◌then◌else◌, option_map, ◌==◌}
 use Rattle.std.specs.List.{AllByRecursion, flat_map, list_any, sum_by}
@@ -16,8 +16,8 @@ use Rattle.safebound_words.specs.declared.command.Command.{Command}
 use Rattle.safebound_words.specs.declared.command.OutText.{OutText}
 use Rattle.safebound_words.specs.declared.command.OutText.TheVariants as out_text
 use Rattle.safebound_words.specs.declared.command.PlanTerms.{PlanTerms}
-use Rattle.safebound_words.specs.declared.command.Work.{Work}
-use Rattle.safebound_words.specs.declared.command.Work.TheVariants as works
+use Rattle.safebound_words.specs.declared.command.QueryTask.{QueryTask}
+use Rattle.safebound_words.specs.declared.command.QueryTask.TheVariants as works
 use Rattle.safebound_words.specs.declared.table.CommandName.{CommandName}
 use Rattle.safebound_words.specs.declared.table.CommandName.TheVariants as command
 use Rattle.safebound_words.specs.declared.table.FlagName.{FlagName}
@@ -26,7 +26,7 @@ use Rattle.safebound_words.specs.declared.table.OptionName.{OptionName}
 use Rattle.safebound_words.specs.declared.table.OptionName.TheVariants as option
 use Rattle.safebound_words.proofs.Readings.{bind_so, computed_asked}
 
--- ---- an item's words are at most its positional words, two words for each value that it gives, and one for each flag that it sets
+-- ---- number of words of an item: at most one for a positional word, two for a value that it gives, and one for a flag
 
 option_given : (option : OptionName) (item : Item) (value : Word) (options : List OptionName)
     → ((other : OptionName) → given_by other item ≡ (if same_option other option then value ∷ [] else []))
@@ -109,7 +109,7 @@ all_words name (item ∷ items) all =
       all_words name items all.1,
     )
 
--- ---- a command takes each option and each flag at most once
+-- ---- each option and each flag is given at most once
 
 one_value : (option : OptionName) (given : List Word) (n : ℕ) → value_of option given ≡ Some n → length given ≤ 1
 one_value option [] n is = omega arith
@@ -160,7 +160,7 @@ terms_few given terms is =
       bushy = once (given.times flag.Bushy) bushy.0 bushy.1;
     }
 
-module _ (out : OutText) (terms : PlanTerms) (given : Given) (work : Work) where
+module _ (out : OutText) (terms : PlanTerms) (given : Given) (work : QueryTask) where
   tables_few : over_tables out terms given ≡ Some work → AreSourcesFew given
   tables_few is =
       let accuracy = bind_so (value_of option.Accuracy (given.values option.Accuracy)) _ work is in
@@ -250,7 +250,7 @@ asks_few command.Stats positionals given r is = let few = stats_few positionals 
 asks_few command.Append positionals given r is = omega (arith, append_few positionals given r is)
 asks_few command.Demo positionals given r is = omega (arith, demo_few positionals given r is)
 
--- ---- the words of a line
+-- ---- number of words of a line
 
 behind_words : (rest after_dashes : List Word) → IsEnd rest after_dashes → length rest ≤ length after_dashes + 1
 behind_words rest after_dashes end = elim end [
@@ -275,7 +275,7 @@ few_words words r is =
       takes,
     )
 
--- more than 16 words ask for nothing
+-- more than 16 words ask for no command
 pub too_many : (words : List Word) → 16 < length words → command_of words ≡ None
 too_many words many = by (command_of words) refl
   where

@@ -1,11 +1,11 @@
--- `kind_of` gives a word its kind. The lemmas say which kinds the words of the table's rows have, and what a word is if it has a kind.
+-- Kinds of words (`kind_of_word`). The lemmas give the kind of each word in the table of commands. Conversely, they say what a word of each kind is.
 use Rattle.std.proofs.Common.{◌≡◌, ◌⊎◌, ℕ, ◌==◌, Bool, true, false, cond, if◌then◌else◌, List, [], ◌∷◌, ◌++◌, Option, Some, None, MatchOption, sym, refl, ap, ◌∙◌, codes, inl, inr, append_assoc}
 use Rattle.std.proofs.lemmas.Bool.{eqb-true, false≢true, or_left, or_right}
 use Rattle.std.proofs.lemmas.Slice.Eq.{bytes_eq-Decides}
 use Rattle.std.specs.Bool.{IsTrue}
 use Rattle.std.specs.List.{find, list_any}
 use Rattle.std.specs.Str.{bytes_eq}
-use Rattle.safebound_words.specs.Answer.{Kind, Ends, IsPositional, Sets, Wants, Gives, Unknown, command_named, dashed_kind, flag_named, kind_of, option_kind, option_named, split_value}
+use Rattle.safebound_words.specs.Answer.{WordKind, Ends, IsPositional, Sets, Wants, Gives, Unknown, command_named, dashed_kind, flag_named, kind_of_word, option_kind, option_named, split_value}
 use Rattle.safebound_words.specs.CommandLines.{has_flag, has_option, same_flag, same_option}
 use Rattle.safebound_words.specs.Table.{command_row, flag_word, option_row}
 use Rattle.safebound_words.specs.Words.{Word, is_dashed}
@@ -16,7 +16,7 @@ use Rattle.safebound_words.specs.declared.table.FlagName.TheVariants as flag
 use Rattle.safebound_words.specs.declared.table.OptionName.{OptionName}
 use Rattle.safebound_words.specs.declared.table.OptionName.TheVariants as option
 
--- ---- from a row of the table to its word: a new command, option or flag takes a line in each of these lemmas
+-- ---- the kind of a word in the table. A new command, option or flag takes a line in each of these lemmas
 
 pub names_itself : (name : CommandName) → command_named (command_row name).word ≡ Some name
 names_itself command.Run = refl
@@ -26,8 +26,8 @@ names_itself command.Stats = refl
 names_itself command.Append = refl
 names_itself command.Demo = refl
 
-pub kind-sets : (name : CommandName) (f : FlagName) → IsTrue (has_flag name f) → kind_of name (flag_word f) ≡ Sets f
-unfolding kind_of
+pub kind-sets : (name : CommandName) (f : FlagName) → IsTrue (has_flag name f) → kind_of_word name (flag_word f) ≡ Sets f
+unfolding kind_of_word
 kind-sets command.Run flag.Reduce has = refl
 kind-sets command.Run flag.Bushy has = refl
 kind-sets command.Run flag.Keys has = refl
@@ -53,8 +53,8 @@ kind-sets command.Demo flag.Bushy has = absurd (false≢true has)
 kind-sets command.Demo flag.Keys has = absurd (false≢true has)
 kind-sets command.Demo flag.Count has = absurd (false≢true has)
 
-pub kind-wants : (name : CommandName) (o : OptionName) → IsTrue (has_option name o) → kind_of name (option_row o).word ≡ Wants o
-unfolding kind_of
+pub kind-wants : (name : CommandName) (o : OptionName) → IsTrue (has_option name o) → kind_of_word name (option_row o).word ≡ Wants o
+unfolding kind_of_word
 kind-wants command.Run option.Budget has = refl
 kind-wants command.Run option.Accuracy has = refl
 kind-wants command.Run option.Memory has = refl
@@ -81,8 +81,8 @@ kind-wants command.Demo option.Memory has = absurd (false≢true has)
 kind-wants command.Demo option.Stats has = absurd (false≢true has)
 
 pub kind-gives : (name : CommandName) (o : OptionName) (value : Word) → IsTrue (has_option name o)
-    → kind_of name ((option_row o).word ++ codes "=" ++ value) ≡ Gives o value
-unfolding kind_of
+    → kind_of_word name ((option_row o).word ++ codes "=" ++ value) ≡ Gives o value
+unfolding kind_of_word
 kind-gives command.Run option.Budget value has = refl
 kind-gives command.Run option.Accuracy value has = refl
 kind-gives command.Run option.Memory value has = refl
@@ -108,8 +108,8 @@ kind-gives command.Demo option.Accuracy value has = absurd (false≢true has)
 kind-gives command.Demo option.Memory value has = absurd (false≢true has)
 kind-gives command.Demo option.Stats value has = absurd (false≢true has)
 
-pub kind-ends : (name : CommandName) → kind_of name (codes "--") ≡ Ends
-unfolding kind_of
+pub kind-ends : (name : CommandName) → kind_of_word name (codes "--") ≡ Ends
+unfolding kind_of_word
 kind-ends name = refl
 
 place_of_two : (name : CommandName) (word : Word) (same : Bool) → (same ≡ true → word ≡ codes "--") → is_dashed word ≡ false
@@ -118,11 +118,11 @@ place_of_two : (name : CommandName) (word : Word) (same : Bool) → (same ≡ tr
 place_of_two name word true two place = absurd (false≢true (sym place ∙ ap is_dashed (two refl)))
 place_of_two name word false two place = rw place refl
 
-pub kind-place : (name : CommandName) (word : Word) → is_dashed word ≡ false → kind_of name word ≡ IsPositional
-unfolding kind_of
+pub kind-place : (name : CommandName) (word : Word) → is_dashed word ≡ false → kind_of_word name word ≡ IsPositional
+unfolding kind_of_word
 kind-place name word place = place_of_two name word (bytes_eq word (codes "--")) (bytes_eq-Decides word (codes "--")).0 place
 
--- ---- from a word to the row of the table
+-- ---- the row of the table for a word of a given kind
 
 chosen : {X : Type 0} (b : Bool) (x y : X) (rest : Option X) → cond b (Some x) rest ≡ Some y → ((b ≡ true) × (x ≡ y)) ⊎ ((b ≡ false) × (rest ≡ Some y))
 chosen true x y rest e = inl (refl, cc)
@@ -169,7 +169,7 @@ unfolding IsOfParts
 are_parts [] = refl
 are_parts (first ∷ rest) = parts_step (first == 61) first rest (eqb-true first 61) (are_parts rest)
 
-abbrev pub KindSpells : CommandName → Word → Kind → Type 0
+abbrev pub KindSpells : CommandName → Word → WordKind → Type 0
 KindSpells name word Ends = word ≡ codes "--"
 KindSpells name word IsPositional = is_dashed word ≡ false
 KindSpells name word (Sets f) = (word ≡ flag_word f) × IsTrue (has_flag name f)
@@ -197,6 +197,6 @@ told_branch name word true dashed two is = two refl
 told_branch name word false true two is = told_dashed name word (flag_named name word) refl
 told_branch name word false false two is = sym is
 
-pub kind_spells : (name : CommandName) (word : Word) → KindSpells name word (kind_of name word)
-unfolding kind_of
+pub kind_spells : (name : CommandName) (word : Word) → KindSpells name word (kind_of_word name word)
+unfolding kind_of_word
 kind_spells name word = told_branch name word (bytes_eq word (codes "--")) (is_dashed word) (bytes_eq-Decides word (codes "--")).0 refl

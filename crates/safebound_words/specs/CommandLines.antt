@@ -1,4 +1,4 @@
--- Command lines: a command's word, items that its row of the table allows, and maybe `--` with further positional words after it.
+-- Command lines: a command's name, items that its row of the table allows, and maybe `--` with further positional words.
 use Rattle.std.specs.Prelude.{ℕ, ◌≡◌, ◌⊎◌, Bool, false, if◌then◌else◌, List, [], ◌∷◌, ◌++◌, Option, Some, codes}
 use Rattle.std.specs.List.{AllByRecursion, flat_map, list_any, sum_by}
 use Rattle.std.specs.Str.{bytes_eq}
@@ -10,7 +10,7 @@ use Rattle.safebound_words.specs.declared.table.CommandName.{CommandName}
 use Rattle.safebound_words.specs.declared.table.FlagName.{FlagName}
 use Rattle.safebound_words.specs.declared.table.OptionName.{OptionName}
 
--- an item comes before `--`. It is a positional word, a flag, an option and its value in two words, or an option and its value in one word
+-- an item comes before `--`. It is a positional word, a flag, or an option and its value. These two are two words, or one word with =
 pub data Item : Type 0 where
   Positional : Word → Item
   Flag : FlagName → Item
@@ -40,31 +40,31 @@ same_flag one other = bytes_eq (flag_word one) (flag_word other)
 abbrev pub has_flag : CommandName → FlagName → Bool
 has_flag command flag = list_any (same_flag flag) (command_row command).flags
 
--- the command's line may have this item; a positional word isn't dashed
+-- whether a line of the command may have this item. A positional word before `--` isn't dashed
 abbrev pub IsItemOf : CommandName → Item → Type 0
 IsItemOf command (Positional word) = is_dashed word ≡ false
 IsItemOf command (Flag flag) = IsTrue (has_flag command flag)
 IsItemOf command (WithNextWord option value) = IsTrue (has_option command option)
 IsItemOf command (WithEquals option value) = IsTrue (has_option command option)
 
--- how a list of words is read: a command, items, and the words after `--`
+-- a reading of a list of words: a command, its items, and the words after `--`
 pub record CommandReading : Type 0 where
   pub command : CommandName
   pub items : List Item
   pub after_dashes : List Word
 
--- what follows the items is nothing, or `--` and any words
+-- after the items comes nothing, or `--` and any words
 abbrev pub IsEnd : List Word → List Word → Type 0
 IsEnd rest after_dashes = ((rest ≡ []) × (after_dashes ≡ [])) ⊎ (rest ≡ codes "--" ∷ after_dashes)
 
--- the words are read as the command's word, these items, and the end
+-- the words are the command's name, then the spelled items, then the end
 pub record AreReadAs (words : List Word) (reading : CommandReading) : Type 0 where
   pub rest : List Word
   pub spelled : words ≡ (command_row reading.command).word ∷ (flat_map spelling reading.items ++ rest)
   pub end : IsEnd rest reading.after_dashes
   pub items : AllByRecursion (IsItemOf reading.command) reading.items
 
--- the positional words of an item, the words that it gives to an option, and how often it has a flag
+-- the positional words of an item, the values that it gives to an option, and how often it has a flag
 abbrev pub positional_words : Item → List Word
 positional_words (Positional word) = word ∷ []
 positional_words (Flag flag) = []
@@ -83,17 +83,17 @@ set_by flag (Flag other) = if same_flag flag other then 1 else 0
 set_by flag (WithNextWord option value) = 0
 set_by flag (WithEquals option value) = 0
 
--- what items give to each option, and how often they have each flag
+-- the values that items give to each option, and how often they have each flag
 abbrev pub given_in : List Item → Given
 given_in items = record {
   values = λ option. flat_map (given_by option) items;
   times = λ flag. sum_by (set_by flag) items;
 }
 
--- what a reading asks for, if anything
+-- the command that a reading asks for, if any
 abbrev pub requested : CommandReading → Option Command
 requested reading = (command_row reading.command).asks (flat_map positional_words reading.items ++ reading.after_dashes) (given_in reading.items)
 
--- the words ask for this command: they are read in a way that requests it
+-- the words ask for this command: some reading of them requests it
 abbrev pub AskFor : List Word → Command → Type 0
 AskFor words command = (reading : CommandReading) × AreReadAs words reading × (requested reading ≡ Some command)

@@ -1,24 +1,24 @@
--- Which values a command may have.
+-- The ranges of a command's values.
 use Rattle.std.specs.Prelude.{◌<◌, ◌≤◌, ⊤}
 use Rattle.limits.specs.Profile.{most_accuracy}
 use Rattle.safebound_words.specs.Commands.{most_budget_of}
-use Rattle.safebound_words.specs.declared.command.Aim.{Aim}
-use Rattle.safebound_words.specs.declared.command.Aim.TheVariants as aims
+use Rattle.safebound_words.specs.declared.command.SchemaTask.{SchemaTask}
+use Rattle.safebound_words.specs.declared.command.SchemaTask.TheVariants as aims
 use Rattle.safebound_words.specs.declared.command.PlanWork.{PlanWork}
-use Rattle.safebound_words.specs.declared.command.Work.{Work}
-use Rattle.safebound_words.specs.declared.command.Work.TheVariants as works
+use Rattle.safebound_words.specs.declared.command.QueryTask.{QueryTask}
+use Rattle.safebound_words.specs.declared.command.QueryTask.TheVariants as works
 
--- the values of a plan are in their ranges
+-- the accuracy and the budget of a plan are in their ranges
 pub record IsInRange (plan : PlanWork) : Type 0 where
   pub accuracy_least : 0 < plan.accuracy
   pub accuracy_most : plan.accuracy ≤ most_accuracy
   pub budget : plan.terms.budget ≤ most_budget_of plan.terms.shape
 
-abbrev pub WorkHasRanges : Work → Type 0
+abbrev pub WorkHasRanges : QueryTask → Type 0
 WorkHasRanges (works.Plan plan) = IsInRange plan
 WorkHasRanges (works.WriteStats accuracy) = (0 < accuracy) × (accuracy ≤ most_accuracy)
 WorkHasRanges (works.PlanFromStats file terms) = terms.budget ≤ most_budget_of terms.shape
 
-abbrev pub HasRanges : Aim → Type 0
+abbrev pub HasRanges : SchemaTask → Type 0
 HasRanges (aims.Query file work) = WorkHasRanges work
 HasRanges (aims.Append rows) = ⊤

@@ -1,9 +1,9 @@
--- The code's kind of a word, as the kind that the definitions have.
-use Rattle.safebound_words.specs.Answer.{Kind, Ends, IsPositional, Sets, Wants, Gives, Unknown}
-use Rattle.safebound_words.specs.declared.kind.Kind.{Kind as CodeKind}
-use Rattle.safebound_words.specs.declared.kind.Kind.TheVariants as code
+-- Maps the code's kind of a word to the definitions' kind.
+use Rattle.safebound_words.specs.Answer.{WordKind, Ends, IsPositional, Sets, Wants, Gives, Unknown}
+use Rattle.safebound_words.specs.declared.kind.WordKind.{WordKind as CodeKind}
+use Rattle.safebound_words.specs.declared.kind.WordKind.TheVariants as code
 
-abbrev pub kind_seen : CodeKind → Kind
+abbrev pub kind_seen : CodeKind → WordKind
 kind_seen code.End = Ends
 kind_seen code.Positional = IsPositional
 kind_seen (code.Flag flag) = Sets flag

@@ -1,17 +1,17 @@
--- The table of commands, options and flags, one line for each. A positional word (in names: `place`) is an argument that isn't an option, an
+-- The table of commands, options and flags, with one row for each. A positional word (in names: `place`) is an argument that isn't an option, an
 -- option's value, or a flag.
 use Rattle.std.specs.Prelude.{ℕ, ◌^◌, ◌-◌, ◌==◌, ◌&&◌, ◌||◌, not, nat_le, if◌then◌else◌, suc, zero, Bool, true, false, List, [], ◌∷◌, length, Option, Some, None, codes}
 use Rattle.std.specs.Option.{option_map}
-use Rattle.limits.specs.Profile.{least_accuracy, least_budget, most_accuracy, most_budget, default_accuracy, default_budget}
-use Rattle.safebound_words.specs.Commands.{demo_of, most_budget_of, over_query, shape_by, source_by, terms_by, with_rows}
+use Rattle.limits.specs.Profile.{least_accuracy, least_budget, most_accuracy, most_budget, most_memory, default_accuracy, default_budget}
+use Rattle.safebound_words.specs.Commands.{demo_of, most_budget_of, over_query, shape_by, source_by, terms_by, append_command}
 use Rattle.safebound_words.specs.Numbers.{number_within}
 use Rattle.safebound_words.specs.Words.{Word}
 use Rattle.safebound_words.specs.declared.command.Command.{Command}
 use Rattle.safebound_words.specs.declared.command.OutText.{OutText}
 use Rattle.safebound_words.specs.declared.command.OutText.TheVariants as out_text
 use Rattle.safebound_words.specs.declared.command.PlanTerms.{PlanTerms}
-use Rattle.safebound_words.specs.declared.command.Work.{Work}
-use Rattle.safebound_words.specs.declared.command.Work.TheVariants as works
+use Rattle.safebound_words.specs.declared.command.QueryTask.{QueryTask}
+use Rattle.safebound_words.specs.declared.command.QueryTask.TheVariants as works
 use Rattle.safebound_words.specs.declared.table.CommandName.{CommandName}
 use Rattle.safebound_words.specs.declared.table.CommandName.TheVariants as command
 use Rattle.safebound_words.specs.declared.table.FlagName.{FlagName}
@@ -19,7 +19,7 @@ use Rattle.safebound_words.specs.declared.table.FlagName.TheVariants as flag
 use Rattle.safebound_words.specs.declared.table.OptionName.{OptionName}
 use Rattle.safebound_words.specs.declared.table.OptionName.TheVariants as option
 
--- an option: its word, its least and its greatest value, and its default
+-- an option: its word, its least and greatest value, and its default
 pub record OptionRow : Type 0 where
   pub word : Word
   pub least : ℕ
@@ -29,65 +29,62 @@ pub record OptionRow : Type 0 where
 abbrev pub number_option : Word → ℕ → ℕ → ℕ → OptionRow
 number_option word least most default_value = record { word = word; least = least; most = most; default_value = default_value }
 
--- an option whose value is a file's name: the numbers aren't used
+-- an option whose value is a file's name. Its numbers aren't used
 abbrev pub file_option : Word → OptionRow
 file_option word = number_option word 0 0 0
 
--- the range of a limit of memory, in bytes
+-- the least limit of memory, in bytes
 abbrev pub least_memory : ℕ
 least_memory = 1
 
-abbrev pub most_memory : ℕ
-most_memory = 2 ^ 40
-
--- one line for each option
+-- one row for each option
 abbrev pub option_row : OptionName → OptionRow
 option_row option.Budget = number_option (codes "--budget") least_budget most_budget default_budget
 option_row option.Accuracy = number_option (codes "--accuracy") least_accuracy most_accuracy default_accuracy
 option_row option.Memory = number_option (codes "--memory") least_memory most_memory 0
 option_row option.Stats = file_option (codes "--stats")
 
--- one line for each flag: its word
+-- one row for each flag: its word
 abbrev pub flag_word : FlagName → Word
 flag_word flag.Reduce = codes "--reduce"
 flag_word flag.Bushy = codes "--bushy"
 flag_word flag.Keys = codes "--keys"
 flag_word flag.Count = codes "--count"
 
--- what a command line gives: for each option its values, in the order of the line, and for each flag how often it is given
+-- what a command line gives: the values of each option, in the order of the line, and how often each flag is given
 pub record Given : Type 0 where
   pub values : OptionName → List Word
   pub times : FlagName → ℕ
 
--- the value of an option. Without a word it is the default. With one word it is the number in this word, which has to be in the option's
--- range. With more words there is no value
+-- The value of an option. Without a word it is the default. A single word has to spell a number in the option's range. Two words or more have no
+-- value
 abbrev pub value_of : OptionName → List Word → Option ℕ
 value_of option [] = Some (option_row option).default_value
 value_of option (word ∷ []) = number_within (option_row option).least (option_row option).most word
 value_of option (word ∷ another ∷ words) = None
 
--- the limit of memory, if there is a limit: 0 is the default, and says that there is no limit
+-- the limit of memory, if there is one. The default is 0, which means no limit
 abbrev pub limit_of : ℕ → Option ℕ
 limit_of bytes = if bytes == 0 then None else Some bytes
 
--- a file's name as a value isn't empty, and doesn't begin with a dash
+-- whether a word may be a file's name: it isn't empty, and doesn't begin with a dash
 abbrev pub is_file : Word → Bool
 is_file [] = false
 is_file (first ∷ rest) = not (first == 45)
 
--- the file that an option names, if the option is given. There is no result if the option is given twice
+-- the file that an option names: Some None without the option. It is None if the option is given twice or its word can't be a file's name
 abbrev pub option_file : List Word → Option (Option Word)
 option_file [] = Some None
 option_file (word ∷ []) = if is_file word then Some (Some word) else None
 option_file (word ∷ another ∷ words) = None
 
--- whether a flag is given. There is no result if the flag is given twice
+-- whether a flag is given. There is no result if it is given twice or more
 abbrev pub is_set : ℕ → Option Bool
 is_set zero = Some false
 is_set (suc zero) = Some true
 is_set (suc (suc more)) = None
 
--- a command: its word, its options, its flags, and what it asks for, if anything, with these positional words and what is given
+-- a command: its word, its options and its flags. `asks` is the command that it asks for, from the positional words, values and flags of the line
 pub record CommandRow : Type 0 where
   pub word : Word
   pub options : List OptionName
@@ -97,13 +94,13 @@ pub record CommandRow : Type 0 where
 abbrev pub table_row : Word → List OptionName → List FlagName → (List Word → Given → Option Command) → CommandRow
 table_row word options flags asks = record { word = word; options = options; flags = flags; asks = asks }
 
--- if there is a value, gives it to `rest`; otherwise there is no result
+-- gives a value to `rest`, if there is a value; otherwise there is no result
 infixl 10 ◌>>=◌
 abbrev pub ◌>>=◌ : {A B : Type 0} → Option A → (A → Option B) → Option B
 None >>= rest = None
 (Some value) >>= rest = rest value
 
--- what is asked of a plan: a budget, a shape and a limit of memory. The budget is at most the greatest budget of the shape
+-- the budget, shape and limit of memory of a plan. The budget is at most the greatest budget of the shape
 abbrev pub terms_given : Given → Option PlanTerms
 terms_given given = do
   bytes ← value_of option.Memory (given.values option.Memory)
@@ -111,12 +108,12 @@ terms_given given = do
   bushy ← is_set (given.times flag.Bushy)
   if nat_le budget (most_budget_of (shape_by bushy)) then Some (terms_by budget bushy (limit_of bytes)) else None
 
--- whether neither another source of bounds nor an accuracy is given. `--count` requires this; an accuracy makes no sense, since nothing is compressed
+-- whether neither another source of bounds nor an accuracy is given. `--count` requires this. It compresses nothing, so an accuracy makes no sense
 abbrev pub count_alone : Given → Bool → Bool → Bool
 count_alone given reduce keys = not (reduce || (keys || not (length (given.values option.Accuracy) == 0)))
 
--- a plan over tables. At most one of `--reduce`, `--keys` and `--count` is given, and `--count` without an accuracy
-abbrev pub over_tables : OutText → PlanTerms → Given → Option Work
+-- a plan over tables. At most one of `--reduce`, `--keys` and `--count` may be given, and `--count` only without an accuracy
+abbrev pub over_tables : OutText → PlanTerms → Given → Option QueryTask
 over_tables out terms given = do
   accuracy ← value_of option.Accuracy (given.values option.Accuracy)
   reduce ← is_set (given.times flag.Reduce)
@@ -132,15 +129,15 @@ file_alone given =
     length (given.values option.Accuracy) == 0 && (given.times flag.Reduce == 0 && (given.times flag.Keys == 0 && given.times flag.Count == 0))
 
 -- a plan from a statistics file
-abbrev pub from_file : Word → PlanTerms → Given → Option Work
+abbrev pub from_file : Word → PlanTerms → Given → Option QueryTask
 from_file file terms given = if file_alone given then Some (works.PlanFromStats file terms) else None
 
--- a plan from a statistics file, if such a file is given, otherwise a plan over the tables
-abbrev pub from_file_or_tables : OutText → Option Word → PlanTerms → Given → Option Work
+-- a plan from a statistics file if one is given, otherwise a plan over tables
+abbrev pub from_file_or_tables : OutText → Option Word → PlanTerms → Given → Option QueryTask
 from_file_or_tables out None terms given = over_tables out terms given
 from_file_or_tables out (Some file) terms given = from_file file terms given
 
-abbrev pub work_given : OutText → PlanTerms → Given → Option Work
+abbrev pub work_given : OutText → PlanTerms → Given → Option QueryTask
 work_given out terms given = option_file (given.values option.Stats) >>= λ file. from_file_or_tables out file terms given
 
 -- a plan takes exactly two positional words, SCHEMA and QUERY
@@ -151,14 +148,14 @@ over_files out (schema ∷ query ∷ []) given = do
   Some (over_query None schema query work)
 over_files out positionals given = None
 
--- `stats` takes exactly two positional words, SCHEMA and QUERY, and the accuracy
+-- `stats` takes exactly two positional words, SCHEMA and QUERY. It may have an accuracy
 abbrev pub of_stats : List Word → Given → Option Command
 of_stats (schema ∷ query ∷ []) given = option_map (λ accuracy. over_query None schema query (works.WriteStats accuracy)) (value_of option.Accuracy (given.values option.Accuracy))
 of_stats positionals given = None
 
 -- `append` takes exactly four positional words: SCHEMA, STATS, TABLE and ROWS
 abbrev pub of_append : List Word → Given → Option Command
-of_append (schema ∷ file ∷ table ∷ rows ∷ []) given = Some (with_rows schema (record { stats_file = file; table = table; rows_file = rows }))
+of_append (schema ∷ file ∷ table ∷ rows ∷ []) given = Some (append_command schema (record { stats_file = file; table = table; rows_file = rows }))
 of_append positionals given = None
 
 -- `demo` takes exactly one positional word, NUMBER
@@ -166,7 +163,7 @@ abbrev pub of_number : List Word → Given → Option Command
 of_number (number ∷ []) given = option_map demo_of (number_within 0 (2 ^ 32 - 1) number)
 of_number positionals given = None
 
--- one line for each command
+-- one row for each command
 abbrev pub command_row : CommandName → CommandRow
 command_row command.Run = table_row (codes "run") (option.Budget ∷ option.Accuracy ∷ option.Memory ∷ []) (flag.Reduce ∷ flag.Bushy ∷ flag.Keys ∷ flag.Count ∷ []) (over_files out_text.Rows)
 command_row command.Plan = table_row (codes "plan") (option.Budget ∷ option.Accuracy ∷ option.Memory ∷ option.Stats ∷ []) (flag.Reduce ∷ flag.Bushy ∷ flag.Keys ∷ flag.Count ∷ []) (over_files out_text.Nothing)

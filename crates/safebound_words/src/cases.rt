@@ -1,12 +1,12 @@
-//! What small command lines ask for.
+//! Examples of command lines, with the command that each asks for.
 ghost use Rattle.std.specs.Prelude.{◌≡◌, Some, None, [], ◌∷◌, codes, false, true};
 ghost use Rattle.safebound_words.specs.Answer.{command_of};
-ghost use Rattle.safebound_words.specs.Commands.{demo_of, over_query, plan_by, plan_work, terms_by, with_rows};
+ghost use Rattle.safebound_words.specs.Commands.{demo_of, over_query, plan_by, plan_work, terms_by, append_command};
 ghost use Rattle.safebound_words.specs.declared.command.ListSource.TheVariants as sources;
 ghost use Rattle.safebound_words.specs.declared.command.OutText.TheVariants as out_text;
-ghost use Rattle.safebound_words.specs.declared.command.Work.TheVariants as works;
+ghost use Rattle.safebound_words.specs.declared.command.QueryTask.TheVariants as works;
 
-/// Commands and their positional words: arguments that are no options, no values of options and no flags. This function does nothing.
+/// Command lines with positional words: arguments that aren't options, values of options or flags. This function does nothing.
 pub fn small_commands()
     ensures run { command_of (codes "run" ∷ codes "s" ∷ codes "q" ∷ []) ≡ Some (over_query None (codes "s") (codes "q") (plan_by out_text.Rows 1000000 1 false false false None)) }
     ensures audit { command_of (codes "audit" ∷ codes "s" ∷ codes "q" ∷ []) ≡ Some (over_query None (codes "s") (codes "q") (plan_by out_text.Audit 1000000 1 false false false None)) }
@@ -16,7 +16,7 @@ pub fn small_commands()
     ensures zeros { command_of (codes "demo" ∷ codes "007" ∷ []) ≡ Some (demo_of 7) }
     ensures last_number { command_of (codes "demo" ∷ codes "4294967295" ∷ []) ≡ Some (demo_of 4294967295) }
 
-    // After `--` every word is a positional word, also a second `--`.
+    // After `--` every word is a positional word, even a second `--`.
     ensures behind { command_of (codes "run" ∷ codes "--" ∷ codes "--budget" ∷ codes "--" ∷ [])
         ≡ Some (over_query None (codes "--budget") (codes "--") (plan_by out_text.Rows 1000000 1 false false false None)) }
     ensures value_behind { command_of (codes "run" ∷ codes "--budget" ∷ codes "5" ∷ codes "--" ∷ codes "--budget" ∷ codes "6" ∷ [])
@@ -24,7 +24,7 @@ pub fn small_commands()
     ensures number_behind { command_of (codes "demo" ∷ codes "--" ∷ codes "7" ∷ []) ≡ Some (demo_of 7) }
 {}
 
-/// Options and their values. This function does nothing.
+/// Command lines with options. This function does nothing.
 pub fn small_options()
     ensures joined { command_of (codes "run" ∷ codes "--budget=12" ∷ codes "--" ∷ codes "s" ∷ codes "q" ∷ [])
         ≡ Some (over_query None (codes "s") (codes "q") (plan_by out_text.Rows 12 1 false false false None)) }
@@ -47,7 +47,7 @@ pub fn small_options()
     ensures sign { command_of (codes "run" ∷ codes "s" ∷ codes "q" ∷ codes "--budget=+5" ∷ []) ≡ None }
 {}
 
-/// Words that are no command. This function does nothing.
+/// Command lines that are refused. This function does nothing.
 pub fn small_refusals()
     ensures no_words { command_of [] ≡ None }
     ensures help { command_of (codes "--help" ∷ []) ≡ None }
@@ -64,7 +64,7 @@ pub fn small_refusals()
     ensures no_option { command_of (codes "demo" ∷ codes "7" ∷ codes "--budget" ∷ codes "12" ∷ []) ≡ None }
 {}
 
-/// Words with `--reduce`. This function does nothing.
+/// Command lines with `--reduce`. This function does nothing.
 pub fn small_flags()
     ensures behind { command_of (codes "run" ∷ codes "s" ∷ codes "q" ∷ codes "--reduce" ∷ [])
         ≡ Some (over_query None (codes "s") (codes "q") (plan_by out_text.Rows 1000000 1 true false false None)) }
@@ -82,7 +82,7 @@ pub fn small_flags()
     ensures letter_case { command_of (codes "run" ∷ codes "s" ∷ codes "q" ∷ codes "--Reduce" ∷ []) ≡ None }
 {}
 
-/// Words with `--bushy`. This function does nothing.
+/// Command lines with `--bushy`. This function does nothing.
 pub fn small_trees()
     ensures behind { command_of (codes "run" ∷ codes "s" ∷ codes "q" ∷ codes "--bushy" ∷ [])
         ≡ Some (over_query None (codes "s") (codes "q") (plan_by out_text.Rows 1000000 1 false true false None)) }
@@ -98,7 +98,7 @@ pub fn small_trees()
     ensures of_demo { command_of (codes "demo" ∷ codes "7" ∷ codes "--bushy" ∷ []) ≡ None }
 {}
 
-/// Words with `--keys`. This function does nothing.
+/// Command lines with `--keys`. This function does nothing.
 pub fn small_keys()
     ensures behind { command_of (codes "run" ∷ codes "s" ∷ codes "q" ∷ codes "--keys" ∷ [])
         ≡ Some (over_query None (codes "s") (codes "q") (plan_by out_text.Rows 1000000 1 false false true None)) }
@@ -119,7 +119,7 @@ pub fn small_keys()
     ensures of_a_file { command_of (codes "plan" ∷ codes "s" ∷ codes "q" ∷ codes "--stats=f" ∷ codes "--keys" ∷ []) ≡ None }
 {}
 
-/// Words with `--count`. This function does nothing.
+/// Command lines with `--count`. This function does nothing.
 pub fn small_counts()
     ensures behind { command_of (codes "run" ∷ codes "s" ∷ codes "q" ∷ codes "--count" ∷ [])
         ≡ Some (over_query None (codes "s") (codes "q") (plan_work out_text.Rows 1000000 1 sources.Counted false None)) }
@@ -133,14 +133,14 @@ pub fn small_counts()
     ensures of_demo { command_of (codes "demo" ∷ codes "7" ∷ codes "--count" ∷ []) ≡ None }
     ensures of_stats { command_of (codes "stats" ∷ codes "s" ∷ codes "q" ∷ codes "--count" ∷ []) ≡ None }
 
-    // `--count` can't be combined with `--reduce`, `--keys` or `--stats`, and not with `--accuracy`, since `--count` compresses nothing.
+    // `--count` can't be combined with `--reduce`, `--keys` or `--stats`. It can't be combined with `--accuracy` either, since it compresses nothing.
     ensures reduced { command_of (codes "run" ∷ codes "--count" ∷ codes "s" ∷ codes "q" ∷ codes "--reduce" ∷ []) ≡ None }
     ensures keyed { command_of (codes "plan" ∷ codes "--keys" ∷ codes "s" ∷ codes "q" ∷ codes "--count" ∷ []) ≡ None }
     ensures of_a_file { command_of (codes "plan" ∷ codes "s" ∷ codes "q" ∷ codes "--stats=f" ∷ codes "--count" ∷ []) ≡ None }
     ensures accuracy { command_of (codes "audit" ∷ codes "s" ∷ codes "q" ∷ codes "--count" ∷ codes "--accuracy" ∷ codes "1" ∷ []) ≡ None }
 {}
 
-/// Words with the command `stats`, and words with `plan` and `--stats`. This function does nothing.
+/// Command lines with the command `stats`, and those with `plan` and `--stats`. This function does nothing.
 pub fn small_statistics()
     ensures stats { command_of (codes "stats" ∷ codes "s" ∷ codes "q" ∷ codes "--accuracy" ∷ codes "8" ∷ []) ≡ Some (over_query None (codes "s") (codes "q") (works.WriteStats 8)) }
     ensures usual { command_of (codes "stats" ∷ codes "s" ∷ codes "q" ∷ []) ≡ Some (over_query None (codes "s") (codes "q") (works.WriteStats 1)) }
@@ -173,7 +173,7 @@ pub fn small_statistics()
     ensures a_third { command_of (codes "stats" ∷ codes "s" ∷ codes "q" ∷ codes "f" ∷ []) ≡ None }
 {}
 
-/// Words with `--memory`. This function does nothing.
+/// Command lines with `--memory`. This function does nothing.
 pub fn small_limits()
     ensures run { command_of (codes "run" ∷ codes "s" ∷ codes "q" ∷ codes "--memory" ∷ codes "556" ∷ [])
         ≡ Some (over_query None (codes "s") (codes "q") (plan_by out_text.Rows 1000000 1 false false false (Some 556))) }
@@ -193,13 +193,13 @@ pub fn small_limits()
     ensures of_demo { command_of (codes "demo" ∷ codes "7" ∷ codes "--memory=5" ∷ []) ≡ None }
 {}
 
-/// Words with the command `append`. This function does nothing.
+/// Command lines with the command `append`. This function does nothing.
 pub fn small_appends()
     ensures append { command_of (codes "append" ∷ codes "s" ∷ codes "f" ∷ codes "T" ∷ codes "n" ∷ [])
-        ≡ Some (with_rows (codes "s") (record { stats_file = (codes "f"); table = (codes "T"); rows_file = (codes "n") })) }
-    ensures empty { command_of (codes "append" ∷ codes "s" ∷ codes "-" ∷ [] ∷ codes "n" ∷ []) ≡ Some (with_rows (codes "s") (record { stats_file = (codes "-"); table = []; rows_file = (codes "n") })) }
+        ≡ Some (append_command (codes "s") (record { stats_file = (codes "f"); table = (codes "T"); rows_file = (codes "n") })) }
+    ensures empty { command_of (codes "append" ∷ codes "s" ∷ codes "-" ∷ [] ∷ codes "n" ∷ []) ≡ Some (append_command (codes "s") (record { stats_file = (codes "-"); table = []; rows_file = (codes "n") })) }
     ensures behind { command_of (codes "append" ∷ codes "s" ∷ codes "--" ∷ codes "-f" ∷ codes "--" ∷ codes "n" ∷ [])
-        ≡ Some (with_rows (codes "s") (record { stats_file = (codes "-f"); table = (codes "--"); rows_file = (codes "n") })) }
+        ≡ Some (append_command (codes "s") (record { stats_file = (codes "-f"); table = (codes "--"); rows_file = (codes "n") })) }
 
     // `append` takes four positional words, and nothing else.
     ensures of_three { command_of (codes "append" ∷ codes "s" ∷ codes "f" ∷ codes "T" ∷ []) ≡ None }

@@ -1,4 +1,4 @@
-//! What the words of a command line ask for: which text is written to `out`, what bounds are made from, and whether a plan is an order or a tree.
+//! The values of a command: which text is written to `out`, what bounds are made from, and whether a plan is an order or a tree.
 
 use crate::word::Word;
 
@@ -7,7 +7,7 @@ use crate::word::Word;
 pub enum OutText {
     /// The rows of the query.
     Rows,
-    /// For each level of the plan's order, or each inner node of its tree, its bound and its number of rows.
+    /// Each level's bound and number of rows. If the plan is a tree, those of each inner node.
     Audit,
     /// No text: `out` isn't written.
     Nothing,
@@ -35,8 +35,8 @@ pub enum Shape {
     Tree,
 }
 
-/// What is asked of a plan, whatever its bounds are made from. `budget` is the greatest cost that the plan may have, in rows, and `shape` says
-/// how entries are joined. `memory` is the most bytes that the plan's buffers may take, if there is a limit.
+/// What a command says of any plan, whatever bounds are made from. `budget` is the greatest cost that the plan may have, in rows. `shape` says how
+/// entries are joined. `memory` is the most bytes that the plan's buffers may take, if there is a limit.
 #[derive(Clone, Copy, Debug)]
 pub struct PlanTerms {
     pub budget: u64,
@@ -44,8 +44,8 @@ pub struct PlanTerms {
     pub memory: Option<u64>,
 }
 
-/// How a query is planned over its tables. `terms` is what is asked of any plan, and `accuracy` is the accuracy of compression. `source` says what
-/// bounds are made from, and `out` says which text goes to `out`.
+/// How a query is planned over its tables. `terms` are those of any plan, and `accuracy` is the accuracy of compression. `source` says what bounds
+/// are made from, and `out` says which text is written.
 #[derive(Clone, Copy, Debug)]
 pub struct PlanWork {
     pub terms: PlanTerms,
@@ -56,7 +56,7 @@ pub struct PlanWork {
 
 /// What is done with a query.
 #[derive(Debug, Drop)]
-pub enum Work<'a> {
+pub enum QueryTask<'a> {
     /// The query is planned over its tables, and joined if a text goes to `out`.
     Plan(PlanWork),
     /// The statistics file of the query's tables is written, at an accuracy of compression from 1 to 64.
@@ -65,7 +65,7 @@ pub enum Work<'a> {
     PlanFromStats { file: Word<'a>, terms: PlanTerms },
 }
 
-/// The name of a statistics file, the name of a table, and the name of a file with new rows of this table.
+/// Names of three things: a statistics file, a table, and a file with new rows of this table.
 #[derive(Debug, Drop)]
 pub struct NewRows<'a> {
     pub stats_file: Word<'a>,
@@ -73,26 +73,26 @@ pub struct NewRows<'a> {
     pub rows_file: Word<'a>,
 }
 
-/// What is done over a schema.
+/// What is done with a schema.
 #[derive(Debug, Drop)]
-pub enum Aim<'a> {
-    /// This work is done with the query in the file of this name.
-    Query { file: Word<'a>, work: Work<'a> },
-    /// The statistics file is written with the new rows.
+pub enum SchemaTask<'a> {
+    /// The query in the file of this name is planned or run, or its statistics are written.
+    Query { file: Word<'a>, work: QueryTask<'a> },
+    /// New rows of a table are added to a statistics file.
     Append(NewRows<'a>),
 }
 
-/// The name of the schema's file, what is done over the schema, and for `demo` the number of the shop whose files are made and read.
+/// The name of the schema file, and what is done. For `demo`, `shop` is the number of the generated example shop whose files are read.
 #[derive(Debug, Drop)]
 pub struct Command<'a> {
     pub schema_file: Word<'a>,
-    pub aim: Aim<'a>,
+    pub aim: SchemaTask<'a>,
     pub shop: Option<u32>,
 }
 
-/// Why the words are no command.
+/// Why the words of a command line are refused.
 #[derive(Clone, Copy, Debug, PartialEq, Eq)]
 pub enum WordsError {
-    /// The words ask for nothing that the table of commands has.
+    /// The words fit no row of the table of commands (`specs/Table.antt`).
     Usage,
 }

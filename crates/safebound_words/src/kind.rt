@@ -1,16 +1,16 @@
-//! What a word before `--` is.
+//! Finds the kind of a word before `--`.
 ghost use Rattle.std.specs.Prelude.{◌≡◌};
 ghost use Rattle.std.specs.Option.{option_map};
-ghost use Rattle.safebound_words.specs.Answer.{kind_of as told_kind, option_kind as told_option, option_named as option_of, split_value as told_parts};
+ghost use Rattle.safebound_words.specs.Answer.{kind_of_word as spec_kind, option_kind as spec_option, option_named as option_of, split_value as spec_parts};
 ghost use Rattle.safebound_words.specs.Kinds.{kind_seen};
 ghost use Rattle.safebound_words.specs.Words.{is_dashed as dashed};
 
 use crate::table::{CommandName, FlagName, OptionName, flag_named, option_named};
 
-/// What a word before `--` is.
+/// The kind of a word before `--`.
 #[derive(Clone, Copy)]
-pub(crate) enum Kind<'a> {
-    /// `--` itself.
+pub(crate) enum WordKind<'a> {
+    /// The word `--`.
     End,
     Positional,
     Flag(FlagName),
@@ -18,7 +18,7 @@ pub(crate) enum Kind<'a> {
     Option(OptionName),
     /// An option and its value.
     Value(OptionName, &'a str),
-    /// A word that begins with a dash and is no option and no flag of the command.
+    /// A word that begins with a dash, but is neither an option nor a flag of the command.
     Unknown,
 }
 
@@ -31,8 +31,8 @@ fn is_dashed(word: &str) -> bool
 
 // A word up to its first `=`, and what comes after the `=`, if there is one.
 fn split_value(word: &str) -> (&str, Option<&str>)
-    ensures front { result.0.now ≡ (told_parts word.now).0 }
-    ensures value { option_map (λ v. v.now) result.1 ≡ (told_parts word.now).1 }
+    ensures front { result.0.now ≡ (spec_parts word.now).0 }
+    ensures value { option_map (λ v. v.now) result.1 ≡ (spec_parts word.now).1 }
 {
     match word.split_once('=') {
         None => (word, None),
@@ -40,33 +40,33 @@ fn split_value(word: &str) -> (&str, Option<&str>)
     }
 }
 
-// What a word with a dash is, if it isn't a flag of the command.
-fn option_kind(name: CommandName, word: &str) -> Kind<'_>
-    ensures { kind_seen result ≡ told_option (option_of name (told_parts word.now).0) (told_parts word.now).1 }
+// The kind of a word that begins with a dash and isn't a flag of the command.
+fn option_kind(name: CommandName, word: &str) -> WordKind<'_>
+    ensures { kind_seen result ≡ spec_option (option_of name (spec_parts word.now).0) (spec_parts word.now).1 }
 {
     let (front, value) = split_value(word);
     match option_named(name, front) {
-        None => Kind::Unknown,
+        None => WordKind::Unknown,
         Some(option) => match value {
-            None => Kind::Option(option),
-            Some(value) => Kind::Value(option, value),
+            None => WordKind::Option(option),
+            Some(value) => WordKind::Value(option, value),
         },
     }
 }
 
-/// What a word before `--` is in a line of this command.
-#[tactic(auto, unfolding(crate::specs::Answer::kind_of))]
-pub(crate) fn kind_of(name: CommandName, word: &str) -> Kind<'_>
-    ensures { kind_seen result ≡ told_kind name word.now }
+/// The kind of a word before `--`, in a line of this command.
+#[tactic(auto, unfolding(crate::specs::Answer::kind_of_word))]
+pub(crate) fn kind_of_word(name: CommandName, word: &str) -> WordKind<'_>
+    ensures { kind_seen result ≡ spec_kind name word.now }
 {
     if word == "--" {
-        return Kind::End;
+        return WordKind::End;
     }
     if !is_dashed(word) {
-        return Kind::Positional;
+        return WordKind::Positional;
     }
     match flag_named(name, word) {
         None => option_kind(name, word),
-        Some(flag) => Kind::Flag(flag),
+        Some(flag) => WordKind::Flag(flag),
     }
 }

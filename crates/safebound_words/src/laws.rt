@@ -5,12 +5,12 @@ ghost use Rattle.safebound_words.specs.CommandLines.{AskFor, CommandReading, Are
 ghost use Rattle.safebound_words.specs.declared.command.Command.{Command};
 ghost use Rattle.safebound_words.specs.Words.{Word};
 
-/// Words are read in one way at most.
+/// A command line has at most one reading.
 pub fn one_reading()
     ensures { (words : List Word) (one other : CommandReading) → AreReadAs words one → AreReadAs words other → one ≡ other }
 {}
 
-/// Words ask for one thing at most, and `command_of` computes it.
+/// A command line asks for at most one command, and `command_of` computes it.
 pub fn one_command()
     ensures one { (words : List Word) (one other : Command) → AskFor words one → AskFor words other → one ≡ other }
     ensures computed { (words : List Word) (command : Command) → AskFor words command ↔ (command_of words ≡ Some command) }

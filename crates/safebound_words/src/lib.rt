@@ -1,10 +1,11 @@
-//! The words of a command line: the first stage of a run.
+//! Reads the words of a command line into a command: the first stage of a run.
 //!
-//! `read_words` takes the words after the program's own name and gives a `Command`, or `Usage`. The call allocates no memory. A command says
-//! what is asked of a run: which text is written to `out`, what bounds are made from, and whether the plan is an order or a tree. In contracts
-//! the words of a command are their bytes (`Word`), so contracts speak of the command itself. For what words ask for, callers cite `AskFor`
-//! (in `specs/CommandLines.antt`), or `command_of`, which computes from the words what they ask for. For the values that a command may have,
-//! callers cite `HasRanges` (in `specs/InRange.antt`). The commands, options and flags are in one table, `specs/Table.antt`.
+//! `read_words` takes the words after the program's own name. It returns a `Command`, or `Usage` if the words ask for no command. It allocates no
+//! memory. A command says which text is written to `out` and what bounds are made from. It also says whether the plan is an order or a tree.
+//!
+//! Contracts see a word as its bytes. `AskFor` (in `specs/CommandLines.antt`) says which command words ask for, and `command_of` computes it.
+//! `HasRanges` (in `specs/InRange.antt`) gives the ranges of a command's values. All commands, options and flags are in one table,
+//! `specs/Table.antt`.
 #![tactic(auto)]
 
 mod cases;
@@ -23,7 +24,8 @@ pub use cases::{
     small_refusals, small_statistics, small_trees,
 };
 pub use command::{
-    Aim, Command, ListSource, NewRows, OutText, PlanTerms, PlanWork, Shape, WordsError, Work,
+    Command, ListSource, NewRows, OutText, PlanTerms, PlanWork, QueryTask, SchemaTask, Shape,
+    WordsError,
 };
 pub use laws::{one_command, one_reading};
 pub use table::{CommandName, FlagName, OptionName};

@@ -1,14 +1,14 @@
-//! Reads the words after a command's word, from left to right.
+//! Reads the words after the command's name (`run`, `plan`, ..), from left to right.
 ghost use Rattle.std.specs.Prelude.{◌≡◌, ◌+◌, ◌∷◌, ◌++◌, ℕ, [], length, List, map, if◌then◌else◌, IfOk, IfErr, IsTrue, None, false, true, OnErr, OnOk};
 ghost use Rattle.safebound_words.specs.Collected.{asked_by, asked_from, collected, FitsNext, given_to, option_words, times_of, words_of};
 ghost use Rattle.safebound_words.specs.CommandLines.{has_option, same_flag, same_option};
 ghost use Rattle.safebound_words.specs.Words.{Word};
 
 use crate::command::WordsError;
-use crate::kind::{Kind, kind_of};
+use crate::kind::{WordKind, kind_of_word};
 use crate::table::{CommandName, FlagName, OptionName};
 
-/// The positional words so far: arguments that are no options, no values of options and no flags. No command has more than four positional words.
+/// The positional words so far: arguments that aren't options, values of options or flags. No command takes more than four.
 #[derive(Clone, Copy)]
 pub(crate) enum Positionals<'a> {
     Nothing,
@@ -18,7 +18,7 @@ pub(crate) enum Positionals<'a> {
     Four(&'a str, &'a str, &'a str, &'a str),
 }
 
-/// What the next word is: an item (a positional word, a flag or an option), an option's value, or, after `--`, a positional word.
+/// What the next word may be: an item (a positional word, a flag or an option), or the value of an option. After `--` it may only be positional.
 #[derive(Clone, Copy)]
 pub(crate) enum Next {
     Item,
@@ -26,7 +26,7 @@ pub(crate) enum Next {
     Positional,
 }
 
-/// The positional words so far, the word that was given to each option, and whether each flag was given.
+/// The positional words so far, the value of each option that was given, and whether each flag was given.
 #[derive(Clone, Copy)]
 pub(crate) struct Line<'a> {
     pub positionals: Positionals<'a>,
@@ -40,7 +40,7 @@ pub(crate) struct Line<'a> {
     pub count: bool,
 }
 
-// Sets `given` to the word. If `given` is set already, the answer is `Usage`.
+// Sets `given` to the word. If `given` is set already, the result is `Usage`.
 fn put<'a>(given: &mut Option<&'a str>, word: &'a str) -> Result<(), WordsError>
     ensures ok { OnOk result (option_words given.new ≡ option_words given.old ++ word.now ∷ []) }
     ensures again { OnErr result (length (option_words given.old) ≡ 1) }
@@ -52,7 +52,7 @@ fn put<'a>(given: &mut Option<&'a str>, word: &'a str) -> Result<(), WordsError>
     Ok(())
 }
 
-// Sets `marked`. If it is set already, the answer is `Usage`.
+// Sets `marked`. If it is set already, the result is `Usage`.
 fn mark(marked: &mut bool) -> Result<(), WordsError>
     ensures ok { OnOk result ((marked.old ≡ false) × (marked.new ≡ true)) }
     ensures again { OnErr result (marked.old ≡ true) }
@@ -66,7 +66,7 @@ fn mark(marked: &mut bool) -> Result<(), WordsError>
 
 impl<'a> Line<'a> {
     // Adds a positional word, if there are fewer than four.
-    fn add_place(&mut self, word: &'a str) -> Result<(), WordsError>
+    fn add_positional(&mut self, word: &'a str) -> Result<(), WordsError>
         ensures ok { OnOk result (words_of self.new.positionals ≡ words_of self.old.positionals ++ word.now ∷ []) }
         ensures given { (option : OptionName) → given_to self.new option ≡ given_to self.old option }
         ensures times { (flag : FlagName) → times_of self.new flag ≡ times_of self.old flag }
@@ -84,7 +84,7 @@ impl<'a> Line<'a> {
         Ok(())
     }
 
-    // Adds the word of an option that has no word yet.
+    // Adds the value of an option, if the option has no value yet.
     fn add_value(&mut self, option: OptionName, word: &'a str) -> Result<(), WordsError>
         ensures ok { OnOk result ((other : OptionName) → given_to self.new other
             ≡ given_to self.old other ++ (if same_option other option then word.now ∷ [] else [])) }
@@ -100,7 +100,7 @@ impl<'a> Line<'a> {
         }
     }
 
-    // Adds a flag that wasn't given yet.
+    // Adds a flag, if it wasn't given before.
     fn add_flag(&mut self, flag: FlagName) -> Result<(), WordsError>
         ensures ok { OnOk result ((other : FlagName) → times_of self.new other
             ≡ times_of self.old other + (if same_flag other flag then 1 else 0)) }
@@ -116,7 +116,7 @@ impl<'a> Line<'a> {
         }
     }
 
-    // Takes the next word, and says what kind of word comes after it.
+    // Takes the next word, and returns what the word after it may be.
     fn take(&mut self, name: CommandName, next: Next, word: &'a str) -> Result<Next, WordsError>
         requires { FitsNext name next }
         ensures ok { IfOk result (λ after. (words : List Word) →
@@ -126,7 +126,7 @@ impl<'a> Line<'a> {
     {
         match next {
             Next::Positional => {
-                self.add_place(word)?;
+                self.add_positional(word)?;
                 Ok(Next::Positional)
             }
             Next::Value(option) => {
@@ -137,34 +137,34 @@ impl<'a> Line<'a> {
         }
     }
 
-    // Takes the next word, if it comes before `--` and no option waits for its value.
+    // Takes the next word before `--`, when no option waits for its value.
     fn take_item(&mut self, name: CommandName, word: &'a str) -> Result<Next, WordsError>
         ensures ok { IfOk result (λ after. (words : List Word) →
             asked_from name self.new after words ≡ asked_from name self.old Next.Item (word.now ∷ words)) }
         ensures fits { IfOk result (FitsNext name) }
         ensures err { OnErr result ((words : List Word) → asked_from name self.old Next.Item (word.now ∷ words) ≡ None) }
     {
-        match kind_of(name, word) {
-            Kind::End => Ok(Next::Positional),
-            Kind::Positional => {
-                self.add_place(word)?;
+        match kind_of_word(name, word) {
+            WordKind::End => Ok(Next::Positional),
+            WordKind::Positional => {
+                self.add_positional(word)?;
                 Ok(Next::Item)
             }
-            Kind::Flag(flag) => {
+            WordKind::Flag(flag) => {
                 self.add_flag(flag)?;
                 Ok(Next::Item)
             }
-            Kind::Option(option) => Ok(Next::Value(option)),
-            Kind::Value(option, value) => {
+            WordKind::Option(option) => Ok(Next::Value(option)),
+            WordKind::Value(option, value) => {
                 self.add_value(option, value)?;
                 Ok(Next::Item)
             }
-            Kind::Unknown => Err(WordsError::Usage),
+            WordKind::Unknown => Err(WordsError::Usage),
         }
     }
 }
 
-/// Reads the words after a command's word.
+/// Reads the words after the command's name.
 pub(crate) fn read_line<'a>(name: CommandName, words: &[&'a str]) -> Result<Line<'a>, WordsError>
     ensures ok { IfOk result (λ line. collected name line ≡ asked_by name (map (λ w. w.now) words.now)) }
     ensures err { OnErr result (asked_by name (map (λ w. w.now) words.now) ≡ None) }

@@ -1,4 +1,4 @@
-//! What a whole line asks for.
+//! The command that a line of words asks for.
 ghost use Rattle.std.specs.Prelude.{◌≡◌, ◌≤◌, IfSome, None, Some};
 ghost use Rattle.std.specs.Option.{option_map};
 ghost use Rattle.safebound_words.specs.Collected.{collected, given_of, option_words, words_of};
@@ -7,7 +7,7 @@ ghost use Rattle.safebound_words.specs.Table.{from_file as plan_from_file, is_fi
 ghost use Rattle.safebound_words.specs.declared.table.OptionName.TheVariants as option;
 
 use crate::command::{
-    Aim, Command, ListSource, NewRows, OutText, PlanTerms, PlanWork, Shape, Work,
+    Command, ListSource, NewRows, OutText, PlanTerms, PlanWork, QueryTask, SchemaTask, Shape,
 };
 use crate::line::{Line, Positionals};
 use crate::number::number_within;
@@ -15,7 +15,7 @@ use crate::table::{CommandName, OptionName};
 use crate::word::Word;
 use limits::{DEFAULT_ACCURACY, DEFAULT_BUDGET, MOST_BUDGET, MOST_ROWS};
 
-// The value of an option, from the word that was given for it. If no word was given, it is the usual value.
+// The value of an option, from the word that was given for it. If no word was given, the value is the default.
 fn value_of(option: OptionName, given: Option<&str>) -> Option<u64>
     ensures value { result ≡ option_value option (option_words given.entry) }
     ensures most { IfSome result (λ value. value ≤ (option_row option).most) }
@@ -27,7 +27,7 @@ fn value_of(option: OptionName, given: Option<&str>) -> Option<u64>
     }
 }
 
-// The limit of memory of a line. There is no limit if the option isn't given.
+// The limit of memory that a line gives, in bytes. The result is `Some(None)` if the option isn't given, and `None` if its value is refused.
 fn limit_in(line: &Line) -> Option<Option<u64>>
     ensures { result ≡ option_map limit_of (option_value option.Memory (option_words line.now.memory)) }
 {
@@ -58,7 +58,7 @@ fn shape_of(bushy: bool) -> Shape
     if bushy { Shape::Tree } else { Shape::Order }
 }
 
-// The greatest budget. A node of a join tree may have no more rows than a table.
+// The greatest budget of a plan of this shape. A node of a join tree may have no more rows than a table.
 fn most_budget(shape: Shape) -> u64
     ensures { result ≡ most_budget_of shape }
 {
@@ -68,13 +68,13 @@ fn most_budget(shape: Shape) -> u64
     }
 }
 
-// Work over a schema and a query in files of the store.
-fn over<'a>(schema: &'a str, query: &'a str, work: Work<'a>) -> Command<'a>
+// The command to do this work with the query file and the schema file.
+fn over<'a>(schema: &'a str, query: &'a str, work: QueryTask<'a>) -> Command<'a>
     ensures { result ≡ over_query None schema.now query.now work.entry }
 {
     Command {
         schema_file: Word::new(schema),
-        aim: Aim::Query {
+        aim: SchemaTask::Query {
             file: Word::new(query),
             work,
         },
@@ -82,7 +82,7 @@ fn over<'a>(schema: &'a str, query: &'a str, work: Work<'a>) -> Command<'a>
     }
 }
 
-// What is asked of a plan, if the budget and the limit of memory have right values, and the budget is at most the greatest budget of the shape.
+// The budget, shape and limit of memory of a line. The result is `None` if a value is refused, or if the budget is too large for the shape.
 fn terms_in(line: &Line) -> Option<PlanTerms>
     ensures { result ≡ terms_given (given_of line.now) }
 {
@@ -99,8 +99,8 @@ fn terms_in(line: &Line) -> Option<PlanTerms>
     })
 }
 
-// A plan over tables, if at most one source of bounds is given and each option has a right value.
-fn over_tables<'a>(out: OutText, terms: PlanTerms, line: &Line<'a>) -> Option<Work<'a>>
+// A plan over tables. The result is `None` if the accuracy is refused, or if the options and flags exclude each other.
+fn over_tables<'a>(out: OutText, terms: PlanTerms, line: &Line<'a>) -> Option<QueryTask<'a>>
     ensures { result ≡ plan_over_tables out terms (given_of line.now) }
 {
     let accuracy = value_of(OptionName::Accuracy, line.accuracy)?;
@@ -110,7 +110,7 @@ fn over_tables<'a>(out: OutText, terms: PlanTerms, line: &Line<'a>) -> Option<Wo
     if line.count && (line.reduce || line.keys || line.accuracy.is_some()) {
         return None;
     }
-    Some(Work::Plan(PlanWork {
+    Some(QueryTask::Plan(PlanWork {
         terms,
         accuracy: accuracy as u8,
         source: source_of(line.reduce, line.keys, line.count),
@@ -129,20 +129,20 @@ fn is_file(word: &str) -> bool
 }
 
 // A plan from a statistics file, if neither an accuracy nor another source is given.
-fn from_file<'a>(file: &'a str, terms: PlanTerms, line: &Line<'a>) -> Option<Work<'a>>
+fn from_file<'a>(file: &'a str, terms: PlanTerms, line: &Line<'a>) -> Option<QueryTask<'a>>
     ensures { result ≡ plan_from_file file.now terms (given_of line.now) }
 {
     if line.accuracy.is_some() || line.reduce || line.keys || line.count {
         return None;
     }
-    Some(Work::PlanFromStats {
+    Some(QueryTask::PlanFromStats {
         file: Word::new(file),
         terms,
     })
 }
 
-// A plan from a statistics file, if such a file is given, otherwise a plan over tables.
-fn work_in<'a>(out: OutText, terms: PlanTerms, line: &Line<'a>) -> Option<Work<'a>>
+// A plan from a statistics file if the line names one, otherwise a plan over tables.
+fn work_in<'a>(out: OutText, terms: PlanTerms, line: &Line<'a>) -> Option<QueryTask<'a>>
     ensures { result ≡ work_given out terms (given_of line.now) }
 {
     let Some(stats) = line.stats else {
@@ -154,7 +154,7 @@ fn work_in<'a>(out: OutText, terms: PlanTerms, line: &Line<'a>) -> Option<Work<'
     None
 }
 
-// A plan over SCHEMA and QUERY, if these are the positional words, each option has a right value, and the options and flags may be combined.
+// A plan for SCHEMA and QUERY. The result is `None` if these aren't all positional words, or if options or flags are refused.
 #[tactic(auto, unfolding(crate::specs::Table::over_files))]
 fn over_files<'a>(out: OutText, line: &Line<'a>) -> Option<Command<'a>>
     ensures { result ≡ asked_over_files out (words_of line.now.positionals) (given_of line.now) }
@@ -167,7 +167,7 @@ fn over_files<'a>(out: OutText, line: &Line<'a>) -> Option<Command<'a>>
     Some(over(schema, query, work))
 }
 
-// The statistics of a query, if the positional words are SCHEMA and QUERY, at the accuracy of the line.
+// The command `stats`. The result is `None` if the positional words aren't SCHEMA and QUERY, or if the accuracy is refused.
 fn stats_of<'a>(line: &Line<'a>) -> Option<Command<'a>>
     ensures { result ≡ of_stats (words_of line.now.positionals) (given_of line.now) }
 {
@@ -178,13 +178,13 @@ fn stats_of<'a>(line: &Line<'a>) -> Option<Command<'a>>
     Some(over(
         schema,
         query,
-        Work::WriteStats {
+        QueryTask::WriteStats {
             accuracy: accuracy as u8,
         },
     ))
 }
 
-// The append of new rows to a table, if the positional words are SCHEMA, STATS, TABLE and ROWS.
+// The command `append`. The result is `None` if the positional words aren't SCHEMA, STATS, TABLE and ROWS.
 fn append_of<'a>(line: &Line<'a>) -> Option<Command<'a>>
     ensures { result ≡ asked_of_append (words_of line.now.positionals) (given_of line.now) }
 {
@@ -193,7 +193,7 @@ fn append_of<'a>(line: &Line<'a>) -> Option<Command<'a>>
     };
     Some(Command {
         schema_file: Word::new(schema),
-        aim: Aim::Append(NewRows {
+        aim: SchemaTask::Append(NewRows {
             stats_file: Word::new(stats),
             table: Word::new(table),
             rows_file: Word::new(rows),
@@ -202,7 +202,7 @@ fn append_of<'a>(line: &Line<'a>) -> Option<Command<'a>>
     })
 }
 
-// The audit of the query of a shop.
+// The command `demo`: an audit of the query over the generated shop with this number.
 fn demo<'a>(number: u32) -> Command<'a>
     ensures { result ≡ demo_of number }
 {
@@ -218,11 +218,11 @@ fn demo<'a>(number: u32) -> Command<'a>
     };
     Command {
         shop: Some(number),
-        ..over("schema.sql", "query.sql", Work::Plan(plan))
+        ..over("schema.sql", "query.sql", QueryTask::Plan(plan))
     }
 }
 
-// The audit of the shop NUMBER, if this is the only positional word.
+// The command `demo`. The result is `None` if the positional words aren't NUMBER alone, or if the number needs more than 32 bits.
 fn demo_of_number<'a>(line: &Line<'a>) -> Option<Command<'a>>
     ensures { result ≡ asked_of_number (words_of line.now.positionals) (given_of line.now) }
 {
@@ -233,7 +233,7 @@ fn demo_of_number<'a>(line: &Line<'a>) -> Option<Command<'a>>
     Some(demo(number as u32))
 }
 
-/// The command of this name that a line asks for, if it asks for any.
+/// The command that a line asks for, if any. `name` is the command's name.
 pub(crate) fn command_of<'a>(name: CommandName, line: &Line<'a>) -> Option<Command<'a>>
     ensures { result ≡ collected name line.now }
 {

@@ -5,12 +5,11 @@ ghost use Rattle.safebound_words.specs.Table.{option_row};
 
 use limits::{
     DEFAULT_ACCURACY, DEFAULT_BUDGET, LEAST_ACCURACY, LEAST_BUDGET, MOST_ACCURACY, MOST_BUDGET,
+    MOST_MEMORY,
 };
 
-// The least and the greatest limit of memory, in bytes.
+// The least limit of memory, in bytes.
 const LEAST_MEMORY: u64 = 1;
-
-const MOST_MEMORY: u64 = 1 << 40;
 
 /// The name of a command.
 #[derive(Clone, Copy, Debug, PartialEq, Eq)]
@@ -102,7 +101,7 @@ pub(crate) fn command_named(word: &str) -> Option<CommandName>
     }
 }
 
-// The option for accuracy, if a word names it.
+// The option `--accuracy`, if a word names it.
 fn accuracy_named(word: &str) -> Option<OptionName>
     ensures { result ≡ named_option CommandName.Stats word.now }
 {
@@ -113,7 +112,7 @@ fn accuracy_named(word: &str) -> Option<OptionName>
     }
 }
 
-// The option with a number that a word names.
+// The option of `run` or `audit` that a word names.
 fn run_option_named(word: &str) -> Option<OptionName>
     ensures { result ≡ named_option CommandName.Run word.now }
 {
@@ -128,7 +127,7 @@ fn run_option_named(word: &str) -> Option<OptionName>
     }
 }
 
-// The option that a word names.
+// The option of `plan` that a word names.
 fn plan_option_named(word: &str) -> Option<OptionName>
     ensures { result ≡ named_option CommandName.Plan word.now }
 {
@@ -162,7 +161,7 @@ fn any_flag_named(word: &str) -> Option<FlagName>
     }
 }
 
-// The option of a command that a word names.
+// The option that a word names, if the command has this option.
 pub(crate) fn option_named(name: CommandName, word: &str) -> Option<OptionName>
     ensures option { result ≡ named_option name word.now }
 {
@@ -174,7 +173,7 @@ pub(crate) fn option_named(name: CommandName, word: &str) -> Option<OptionName>
     }
 }
 
-// The flag of a command that a word names.
+// The flag that a word names, if the command has this flag.
 pub(crate) fn flag_named(name: CommandName, word: &str) -> Option<FlagName>
     ensures flag { result ≡ named_flag name word.now }
 {

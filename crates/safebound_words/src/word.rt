@@ -3,7 +3,7 @@ ghost use Rattle.std.specs.Prelude.{◌≡◌};
 
 use std::marker::Model;
 
-/// A word as it was given. In contracts a word is its bytes.
+/// A word of a command line. Contracts see it as its bytes.
 #[derive(Debug, Drop)]
 pub struct Word<'a> {
     text: &'a str,
@@ -18,7 +18,7 @@ impl<'a> Model for Word<'a> {
 }
 
 impl<'a> Word<'a> {
-    /// The word that is this text.
+    /// Makes a word of a text.
     pub fn new(text: &'a str) -> Word<'a>
         ensures { result ≡ text.now }
     {

@@ -1,4 +1,4 @@
-//! From the words of a command line to a command.
+//! Reads the words of a command line.
 ghost use Rattle.std.specs.Prelude.{◌≡◌, ◌≤◌, IfOk, OnOk, length, map, OnErr};
 ghost use Rattle.std.specs.Result.{result_ok};
 ghost use Rattle.safebound_words.specs.Answer.{command_of as asked_by};
@@ -28,13 +28,13 @@ fn command_in<'a>(words: &[&'a str]) -> Option<Command<'a>>
 
 /// Reads the words of a command line, without the program's own name, in one walk from left to right. The call allocates no memory.
 ///
-/// The answer is `Usage` exactly if the words ask for nothing. For example they name no command, an option is given twice, two flags exclude
-/// each other, or a value is outside its range.
+/// The result is `Usage` exactly if the words ask for no command. They may name no command, or give an option twice. Two flags may exclude each
+/// other, or a value may be outside its range.
 pub fn read_words<'a>(words: &[&'a str]) -> Result<Command<'a>, WordsError>
     ensures command { IfOk result (AskFor (map (λ w. w.now) words.now)) }
     ensures usage { OnErr result ((command : Command) → AskFor (map (λ w. w.now) words.now) command → ⊥) }
 
-    // The answer is what `asked_by` computes from the words.
+    // The result is what `asked_by` computes from the words.
     ensures answer { result_ok result ≡ asked_by (map (λ w. w.now) words.now) }
     ensures ranges { IfOk result (λ command. HasRanges command.aim) }
     ensures few { OnOk result (length words.now ≤ MOST_WORDS) }

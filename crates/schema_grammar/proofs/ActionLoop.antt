@@ -1,4 +1,4 @@
--- The loop reads the actions of a reference. The tree doesn't keep these actions.
+-- Steps of the loop that reads the actions of a reference (ON DELETE, ON UPDATE). The tree doesn't keep these actions.
 use Rattle.std.proofs.Common.{◌≡◌, ◌<◌, true, false, List, [], ◌∷◌, length, Option, Some, None, Err, refl, sym, ap, ◌∙◌}
 use Rattle.ll_grammars.specs.declared.lexeme.Lexeme.{Lexeme}
 use Rattle.ll_grammars.specs.declared.terminal.Terminal.TheVariants as terminal

@@ -1,4 +1,4 @@
--- Each reader reads exactly its rule of the grammar. Each `refl` proves a condition of an LL(1) grammar by computation.
+-- Each parser reads exactly its rule of the grammar. Each `refl` proves a condition of an LL(1) grammar by computation.
 use Rattle.std.proofs.Common.{◌≡◌, true, [], ◌∷◌, List, refl}
 use Rattle.ll_grammars.specs.declared.lexeme.Lexeme.{Lexeme}
 use Rattle.ll_grammars.specs.declared.terminal.Terminal.{Terminal}
@@ -6,7 +6,7 @@ use Rattle.ll_grammars.specs.declared.terminal.Terminal.TheVariants as terminal
 use Rattle.ll_grammars.specs.Terminals.{among}
 use Rattle.ll_grammars.specs.Language.{one, ◌▸◌, mapped, many}
 use Rattle.ll_grammars.specs.Reading.{read_one}
-use Rattle.ll_grammars.specs.Reads.{FirstAndFollow, Reads}
+use Rattle.ll_grammars.specs.Parses.{FirstAndFollow, Parses}
 use Rattle.ll_grammars.specs.Rules.{first_and_others, second, word, listed, in_parentheses}
 use Rattle.ll_grammars.proofs.Steps.{one_shape, then_shape, either_shape, maybe_shape, reads_one}
 use Rattle.ll_grammars.proofs.Repeats.{many_shape}
@@ -16,7 +16,7 @@ use Rattle.schema_grammar.specs.declared.tree.TableNode.{TableNode}
 use Rattle.schema_grammar.specs.Grammar.{drop_value, target, number_type, text_type, varying_type, not_null, primary_key, unique, references, column, primary_key_over, unique_over, foreign_key, of_column, of_rule, table, name_terminals, number_types, Name, Names, Length, DataType, ReferentialAction, TriggeredAction, Target, ConstraintName, with_constraint_name, ColumnConstraint, TableConstraint, ColumnDefinition, TableElement, TableDefinition, SchemaText}
 use Rattle.schema_grammar.specs.Readers.{read_name, read_next_name, read_names, read_name_list, read_length, read_type, read_action, read_triggered_action, read_triggered_actions, read_target, read_constraint_name, read_column_constraint, read_column_rule, read_column_rules, read_foreign_key, read_table_constraint, read_table_rule, read_column, read_element, read_next_element, read_elements, read_element_list, read_table, read_other_tables, read_all_tables}
 
-a_token : (terminals : List Terminal) (t : Terminal) → among terminals t ≡ true → Reads (one terminals) (one_shape terminals) (read_one terminals)
+a_token : (terminals : List Terminal) (t : Terminal) → among terminals t ≡ true → Parses (one terminals) (one_shape terminals) (read_one terminals)
 a_token terminals t e = reads_one terminals (some_token t) e
 
 -- ---- names
@@ -24,22 +24,22 @@ a_token terminals t e = reads_one terminals (some_token t) e
 abbrev pub name_shape : FirstAndFollow
 name_shape = one_shape name_terminals
 
-pub reads_name : Reads Name name_shape read_name
+pub reads_name : Parses Name name_shape read_name
 unfolding read_name
 reads_name = a_token name_terminals terminal.Name refl
 
-pub reads_next_name : Reads (mapped second (word terminal.Comma ▸ Name)) (next_shape terminal.Comma name_shape) read_next_name
+pub reads_next_name : Parses (mapped second (word terminal.Comma ▸ Name)) (next_shape terminal.Comma name_shape) read_next_name
 unfolding read_next_name
 reads_next_name = value second (row (a_word terminal.Comma refl) reads_name refl)
 
-pub reads_names : Reads Names (listed_shape terminal.Comma name_shape) read_names
+pub reads_names : Parses Names (listed_shape terminal.Comma name_shape) read_names
 unfolding read_names
 reads_names = value first_and_others (row reads_name (repeat reads_next_name refl refl) refl)
 
 abbrev pub name_list_shape : FirstAndFollow
 name_list_shape = parentheses_shape (listed_shape terminal.Comma name_shape)
 
-pub reads_name_list : Reads (in_parentheses Names) name_list_shape read_name_list
+pub reads_name_list : Parses (in_parentheses Names) name_list_shape read_name_list
 unfolding read_name_list
 reads_name_list = inside reads_names refl
 
@@ -48,7 +48,7 @@ reads_name_list = inside reads_names refl
 abbrev pub length_shape : FirstAndFollow
 length_shape = parentheses_shape (word_shape terminal.Number)
 
-pub reads_length : Reads Length length_shape read_length
+pub reads_length : Parses Length length_shape read_length
 unfolding read_length
 reads_length = inside (a_word terminal.Number refl) refl
 
@@ -58,7 +58,7 @@ varying_shape = then_shape (one_shape (terminal.Char ∷ terminal.Character ∷ 
 abbrev pub type_shape : FirstAndFollow
 type_shape = either_shape (one_shape number_types) (either_shape (then_shape (word_shape terminal.Varchar) length_shape) varying_shape)
 
-pub reads_type : Reads DataType type_shape read_type
+pub reads_type : Parses DataType type_shape read_type
 unfolding read_type
 reads_type =
     choice (value number_type (a_token number_types terminal.Int refl))
@@ -72,7 +72,7 @@ abbrev pub action_shape : FirstAndFollow
 action_shape = either_shape (then_shape (word_shape terminal.No) (word_shape terminal.Action))
     (either_shape (word_shape terminal.Cascade) (then_shape (word_shape terminal.Set) (one_shape (terminal.Null ∷ terminal.Default ∷ []))))
 
-pub reads_action : Reads ReferentialAction action_shape read_action
+pub reads_action : Parses ReferentialAction action_shape read_action
 unfolding read_action
 reads_action =
     choice (value drop_value (row (a_word terminal.No refl) (a_word terminal.Action refl) refl))
@@ -82,27 +82,27 @@ reads_action =
 abbrev pub triggered_action_shape : FirstAndFollow
 triggered_action_shape = then_shape (word_shape terminal.On) (then_shape (one_shape (terminal.Delete ∷ terminal.Update ∷ [])) action_shape)
 
-pub reads_triggered_action : Reads TriggeredAction triggered_action_shape read_triggered_action
+pub reads_triggered_action : Parses TriggeredAction triggered_action_shape read_triggered_action
 unfolding read_triggered_action
 reads_triggered_action = value drop_value (row (a_word terminal.On refl) (row (a_token (terminal.Delete ∷ terminal.Update ∷ []) terminal.Delete refl) reads_action refl) refl)
 
-pub reads_triggered_actions : Reads (mapped drop_value (many TriggeredAction)) (many_shape triggered_action_shape) read_triggered_actions
+pub reads_triggered_actions : Parses (mapped drop_value (many TriggeredAction)) (many_shape triggered_action_shape) read_triggered_actions
 unfolding read_triggered_actions
 reads_triggered_actions = value drop_value (repeat reads_triggered_action refl refl)
 
 abbrev pub target_shape : FirstAndFollow
 target_shape = then_shape name_shape (then_shape (maybe_shape name_list_shape) (many_shape triggered_action_shape))
 
-pub reads_target : Reads Target target_shape read_target
+pub reads_target : Parses Target target_shape read_target
 unfolding read_target
 reads_target = value target (row reads_name (row (option reads_name_list refl) reads_triggered_actions refl) refl)
 
--- ---- rules of columns and of tables
+-- ---- constraints of columns and of tables
 
 abbrev pub constraint_name_shape : FirstAndFollow
 constraint_name_shape = maybe_shape (then_shape (word_shape terminal.Constraint) name_shape)
 
-pub reads_constraint_name : Reads ConstraintName constraint_name_shape read_constraint_name
+pub reads_constraint_name : Parses ConstraintName constraint_name_shape read_constraint_name
 unfolding read_constraint_name
 reads_constraint_name = value drop_value (option (row (a_word terminal.Constraint refl) reads_name refl) refl)
 
@@ -115,7 +115,7 @@ column_constraint_shape = either_shape (then_shape (word_shape terminal.Not) (wo
     (either_shape (word_shape terminal.Unique)
     (then_shape (word_shape terminal.References) target_shape)))
 
-pub reads_column_constraint : Reads ColumnConstraint column_constraint_shape read_column_constraint
+pub reads_column_constraint : Parses ColumnConstraint column_constraint_shape read_column_constraint
 unfolding read_column_constraint
 reads_column_constraint =
     choice (value not_null (row (a_word terminal.Not refl) (a_word terminal.Null refl) refl))
@@ -124,18 +124,18 @@ reads_column_constraint =
     (value references (row (a_word terminal.References refl) reads_target refl)) refl refl refl) refl refl refl)
     refl refl refl
 
-pub reads_column_rule : Reads (with_constraint_name ColumnConstraint) (named_shape column_constraint_shape) read_column_rule
+pub reads_column_rule : Parses (with_constraint_name ColumnConstraint) (named_shape column_constraint_shape) read_column_rule
 unfolding read_column_rule
 reads_column_rule = value second (row reads_constraint_name reads_column_constraint refl)
 
-pub reads_column_rules : Reads (many (with_constraint_name ColumnConstraint)) (many_shape (named_shape column_constraint_shape)) read_column_rules
+pub reads_column_rules : Parses (many (with_constraint_name ColumnConstraint)) (many_shape (named_shape column_constraint_shape)) read_column_rules
 unfolding read_column_rules
 reads_column_rules = repeat reads_column_rule refl refl
 
 abbrev pub foreign_key_shape : FirstAndFollow
 foreign_key_shape = then_shape (word_shape terminal.Foreign) (then_shape (word_shape terminal.Key) (then_shape name_list_shape (then_shape (word_shape terminal.References) target_shape)))
 
-pub reads_foreign_key : Reads (mapped foreign_key (word terminal.Foreign ▸ word terminal.Key ▸ in_parentheses Names ▸ word terminal.References ▸ Target)) foreign_key_shape read_foreign_key
+pub reads_foreign_key : Parses (mapped foreign_key (word terminal.Foreign ▸ word terminal.Key ▸ in_parentheses Names ▸ word terminal.References ▸ Target)) foreign_key_shape read_foreign_key
 unfolding read_foreign_key
 reads_foreign_key = value foreign_key (row (a_word terminal.Foreign refl) (row (a_word terminal.Key refl) (row reads_name_list (row (a_word terminal.References refl) reads_target refl) refl) refl) refl)
 
@@ -143,14 +143,14 @@ abbrev pub table_constraint_shape : FirstAndFollow
 table_constraint_shape = either_shape (then_shape (word_shape terminal.Primary) (then_shape (word_shape terminal.Key) name_list_shape))
     (either_shape (then_shape (word_shape terminal.Unique) name_list_shape) foreign_key_shape)
 
-pub reads_table_constraint : Reads TableConstraint table_constraint_shape read_table_constraint
+pub reads_table_constraint : Parses TableConstraint table_constraint_shape read_table_constraint
 unfolding read_table_constraint
 reads_table_constraint =
     choice (value primary_key_over (row (a_word terminal.Primary refl) (row (a_word terminal.Key refl) reads_name_list refl) refl))
     (choice (value unique_over (row (a_word terminal.Unique refl) reads_name_list refl)) reads_foreign_key refl refl refl)
     refl refl refl
 
-pub reads_table_rule : Reads (with_constraint_name TableConstraint) (named_shape table_constraint_shape) read_table_rule
+pub reads_table_rule : Parses (with_constraint_name TableConstraint) (named_shape table_constraint_shape) read_table_rule
 unfolding read_table_rule
 reads_table_rule = value second (row reads_constraint_name reads_table_constraint refl)
 
@@ -159,41 +159,41 @@ reads_table_rule = value second (row reads_constraint_name reads_table_constrain
 abbrev pub column_shape : FirstAndFollow
 column_shape = then_shape name_shape (then_shape type_shape (many_shape (named_shape column_constraint_shape)))
 
-pub reads_column : Reads ColumnDefinition column_shape read_column
+pub reads_column : Parses ColumnDefinition column_shape read_column
 unfolding read_column
 reads_column = value column (row reads_name (row reads_type reads_column_rules refl) refl)
 
 abbrev pub element_shape : FirstAndFollow
 element_shape = either_shape column_shape (named_shape table_constraint_shape)
 
-pub reads_element : Reads TableElement element_shape read_element
+pub reads_element : Parses TableElement element_shape read_element
 unfolding read_element
 reads_element = choice (value of_column reads_column) (value of_rule reads_table_rule) refl refl refl
 
-pub reads_next_element : Reads (mapped second (word terminal.Comma ▸ TableElement)) (next_shape terminal.Comma element_shape) read_next_element
+pub reads_next_element : Parses (mapped second (word terminal.Comma ▸ TableElement)) (next_shape terminal.Comma element_shape) read_next_element
 unfolding read_next_element
 reads_next_element = value second (row (a_word terminal.Comma refl) reads_element refl)
 
-pub reads_elements : Reads (listed terminal.Comma TableElement) (listed_shape terminal.Comma element_shape) read_elements
+pub reads_elements : Parses (listed terminal.Comma TableElement) (listed_shape terminal.Comma element_shape) read_elements
 unfolding read_elements
 reads_elements = value first_and_others (row reads_element (repeat reads_next_element refl refl) refl)
 
 abbrev pub element_list_shape : FirstAndFollow
 element_list_shape = parentheses_shape (listed_shape terminal.Comma element_shape)
 
-pub reads_element_list : Reads (in_parentheses (listed terminal.Comma TableElement)) element_list_shape read_element_list
+pub reads_element_list : Parses (in_parentheses (listed terminal.Comma TableElement)) element_list_shape read_element_list
 unfolding read_element_list
 reads_element_list = inside reads_elements refl
 
 abbrev pub table_shape : FirstAndFollow
 table_shape = then_shape (word_shape terminal.Create) (then_shape (word_shape terminal.Table) (then_shape name_shape element_list_shape))
 
-pub reads_table : Reads TableDefinition table_shape read_table
+pub reads_table : Parses TableDefinition table_shape read_table
 unfolding read_table
 reads_table = value table (row (a_word terminal.Create refl) (row (a_word terminal.Table refl) (row reads_name reads_element_list refl) refl) refl)
 
 -- a semicolon is read, and the token after the semicolon says whether another table follows
-pub reads_other_tables : Reads (tails (terminal.Semicolon ∷ []) TableDefinition) (tails_shape (terminal.Semicolon ∷ []) table_shape) read_other_tables
+pub reads_other_tables : Parses (tails (terminal.Semicolon ∷ []) TableDefinition) (tails_shape (terminal.Semicolon ∷ []) table_shape) read_other_tables
 unfolding read_other_tables
 reads_other_tables = reads_tails (terminal.Semicolon ∷ []) reads_table refl refl
 
@@ -213,6 +213,6 @@ from_schema text v l =
     let t = l.2 in
     ((l.0.0, l.0.1.0), l.1, record { front = t.front; rest = t.rest; whole = t.whole; first = t.first; second = tails_are (terminal.Semicolon ∷ []) TableDefinition l.0.1.0 l.0.1.1 t.rest t.second })
 
-pub reads_all_tables : Reads SchemaText schema_shape read_all_tables
+pub reads_all_tables : Parses SchemaText schema_shape read_all_tables
 unfolding read_all_tables
 reads_all_tables = reads_same to_schema from_schema (value first_and_others (row reads_table reads_other_tables refl))

@@ -1,4 +1,4 @@
--- The readers' answers for small texts are computed.
+-- The parser's answers for small texts, by computation.
 use Rattle.std.proofs.Common.{◌≡◌, [], ◌∷◌, Some, None, refl}
 use Rattle.ll_grammars.specs.declared.terminal.Terminal.TheVariants as terminal
 use Rattle.ll_grammars.specs.Reading.{read_many, read_tails}

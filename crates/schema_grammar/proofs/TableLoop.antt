@@ -1,4 +1,4 @@
--- The loop reads the tables of a schema. After each table it looks for a semicolon and for another table after this semicolon.
+-- Steps of the loop that reads the tables of a schema. After each table it looks for a semicolon, and for another table after the semicolon.
 use Rattle.std.proofs.Common.{◌≡◌, ◌<◌, Bool, true, false, List, [], ◌∷◌, ◌++◌, length, Some, None, Err, refl, sym, ap, ◌∙◌, arith}
 use Rattle.std.proofs.lemmas.List.{append-nil}
 use Rattle.ll_grammars.specs.declared.lexeme.Lexeme.{Lexeme}

@@ -4,7 +4,7 @@ use Rattle.ll_grammars.specs.declared.lexeme.Lexeme.{Lexeme}
 use Rattle.ll_grammars.specs.declared.terminal.Terminal.{Terminal}
 use Rattle.ll_grammars.specs.declared.terminal.Terminal.TheVariants as terminal
 use Rattle.schema_grammar.specs.declared.tree.TypeNode.TheVariants as type
-use Rattle.schema_grammar.specs.declared.tree.ColumnRule.TheVariants as column_rule
+use Rattle.schema_grammar.specs.declared.tree.ColumnConstraintNode.TheVariants as column_rule
 use Rattle.schema_grammar.specs.declared.tree.Element.TheVariants as element
 use Rattle.schema_grammar.specs.declared.tree.TableNode.{TableNode}
 

@@ -9,18 +9,18 @@ use Rattle.ll_grammars.specs.Rules.{second, word, listed, in_parentheses}
 use Rattle.schema_grammar.specs.declared.tree.TargetNode.{TargetNode}
 use Rattle.schema_grammar.specs.declared.tree.TypeNode.{TypeNode}
 use Rattle.schema_grammar.specs.declared.tree.TypeNode.TheVariants as type
-use Rattle.schema_grammar.specs.declared.tree.ColumnRule.{ColumnRule}
-use Rattle.schema_grammar.specs.declared.tree.ColumnRule.TheVariants as column_rule
+use Rattle.schema_grammar.specs.declared.tree.ColumnConstraintNode.{ColumnConstraintNode}
+use Rattle.schema_grammar.specs.declared.tree.ColumnConstraintNode.TheVariants as column_rule
 use Rattle.schema_grammar.specs.declared.tree.ColumnNode.{ColumnNode}
-use Rattle.schema_grammar.specs.declared.tree.TableRule.{TableRule}
-use Rattle.schema_grammar.specs.declared.tree.TableRule.TheVariants as table_rule
+use Rattle.schema_grammar.specs.declared.tree.TableConstraintNode.{TableConstraintNode}
+use Rattle.schema_grammar.specs.declared.tree.TableConstraintNode.TheVariants as table_rule
 use Rattle.schema_grammar.specs.declared.tree.Element.{Element}
 use Rattle.schema_grammar.specs.declared.tree.Element.TheVariants as element
 use Rattle.schema_grammar.specs.declared.tree.TableNode.{TableNode}
 
--- ---- how the values of parts are put together
+-- ---- the value of a rule, from the values of its parts
 
--- a part that is read, and whose value isn't kept
+-- a part whose value isn't kept
 abbrev pub drop_value : {A : Type 0} → A → Unit {0}
 drop_value value = tt
 
@@ -36,34 +36,34 @@ text_type parts = type.Text parts.1
 abbrev pub varying_type : Lexeme × (Lexeme × Lexeme) → TypeNode
 varying_type parts = type.Text parts.1.1
 
-abbrev pub not_null : Lexeme × Lexeme → ColumnRule
+abbrev pub not_null : Lexeme × Lexeme → ColumnConstraintNode
 not_null words = column_rule.NotNull
 
-abbrev pub primary_key : Lexeme × Lexeme → ColumnRule
+abbrev pub primary_key : Lexeme × Lexeme → ColumnConstraintNode
 primary_key words = column_rule.PrimaryKey words.0
 
-abbrev pub unique : Lexeme → ColumnRule
+abbrev pub unique : Lexeme → ColumnConstraintNode
 unique word = column_rule.Unique
 
-abbrev pub references : Lexeme × TargetNode → ColumnRule
+abbrev pub references : Lexeme × TargetNode → ColumnConstraintNode
 references parts = column_rule.References parts.1
 
-abbrev pub column : Lexeme × (TypeNode × List ColumnRule) → ColumnNode
+abbrev pub column : Lexeme × (TypeNode × List ColumnConstraintNode) → ColumnNode
 column parts = record { name = parts.0; kind = parts.1.0; rules = parts.1.1 }
 
-abbrev pub primary_key_over : Lexeme × (Lexeme × List Lexeme) → TableRule
+abbrev pub primary_key_over : Lexeme × (Lexeme × List Lexeme) → TableConstraintNode
 primary_key_over parts = table_rule.PrimaryKey parts.0 parts.1.1
 
-abbrev pub unique_over : Lexeme × List Lexeme → TableRule
+abbrev pub unique_over : Lexeme × List Lexeme → TableConstraintNode
 unique_over parts = table_rule.Unique parts.1
 
-abbrev pub foreign_key : Lexeme × (Lexeme × (List Lexeme × (Lexeme × TargetNode))) → TableRule
+abbrev pub foreign_key : Lexeme × (Lexeme × (List Lexeme × (Lexeme × TargetNode))) → TableConstraintNode
 foreign_key parts = table_rule.ForeignKey parts.1.1.0 parts.1.1.1.1
 
 abbrev pub of_column : ColumnNode → Element
 of_column c = element.Column c
 
-abbrev pub of_rule : TableRule → Element
+abbrev pub of_rule : TableConstraintNode → Element
 of_rule rule = element.Rule rule
 
 abbrev pub table : Lexeme × (Lexeme × (Lexeme × List Element)) → TableNode
@@ -74,7 +74,7 @@ tables parts = parts.0 ∷ parts.1.0
 
 -- ---- names
 
--- KEY, NO, ACTION and CASCADE are keywords only where a rule has them as words, and names elsewhere
+-- KEY, NO, ACTION and CASCADE are keywords only where the grammar expects them; elsewhere they are names
 abbrev pub name_terminals : List Terminal
 name_terminals = terminal.Name ∷ terminal.Key ∷ terminal.No ∷ terminal.Action ∷ terminal.Cascade ∷ []
 
@@ -116,7 +116,7 @@ TriggeredAction = mapped drop_value (word terminal.On ▸ one (terminal.Delete �
 abbrev pub Target : Language TargetNode
 Target = mapped target (Name ▸ maybe (in_parentheses Names) ▸ mapped drop_value (many TriggeredAction))
 
--- ---- rules of columns and of tables
+-- ---- constraints of columns and of tables
 
 -- [ CONSTRAINT name ]
 abbrev pub ConstraintName : Language (Unit {0})
@@ -125,24 +125,24 @@ ConstraintName = mapped drop_value (maybe (word terminal.Constraint ▸ Name))
 abbrev pub with_constraint_name : {A : Type 0} → Language A → Language A
 with_constraint_name L = mapped second (ConstraintName ▸ L)
 
-abbrev pub ColumnConstraint : Language ColumnRule
+abbrev pub ColumnConstraint : Language ColumnConstraintNode
 ColumnConstraint = mapped not_null (word terminal.Not ▸ word terminal.Null)
     ∪ mapped primary_key (word terminal.Primary ▸ word terminal.Key)
     ∪ mapped unique (word terminal.Unique)
     ∪ mapped references (word terminal.References ▸ Target)
 
-abbrev pub TableConstraint : Language TableRule
+abbrev pub TableConstraint : Language TableConstraintNode
 TableConstraint = mapped primary_key_over (word terminal.Primary ▸ word terminal.Key ▸ in_parentheses Names)
     ∪ mapped unique_over (word terminal.Unique ▸ in_parentheses Names)
     ∪ mapped foreign_key (word terminal.Foreign ▸ word terminal.Key ▸ in_parentheses Names ▸ word terminal.References ▸ Target)
 
 -- ---- tables
 
--- name type { [ CONSTRAINT name ] rule }
+-- name type { [ CONSTRAINT name ] constraint }
 abbrev pub ColumnDefinition : Language ColumnNode
 ColumnDefinition = mapped column (Name ▸ DataType ▸ many (with_constraint_name ColumnConstraint))
 
--- column | [ CONSTRAINT name ] rule
+-- column | [ CONSTRAINT name ] constraint
 abbrev pub TableElement : Language Element
 TableElement = mapped of_column ColumnDefinition ∪ mapped of_rule (with_constraint_name TableConstraint)
 

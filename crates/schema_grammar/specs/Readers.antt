@@ -1,4 +1,4 @@
--- The rules of the grammar, each as a reader from left to right.
+-- A parser for each rule of the grammar.
 use Rattle.std.specs.Prelude.{◌≡◌, ◌<◌, length, Bool, true, false, List, [], ◌∷◌, Some}
 use Rattle.ll_grammars.specs.declared.lexeme.Lexeme.{Lexeme}
 use Rattle.ll_grammars.specs.declared.terminal.Terminal.{Terminal}
@@ -7,9 +7,9 @@ use Rattle.ll_grammars.specs.Reading.{◌>>=◌, Parser, read_one, read_then, re
 use Rattle.ll_grammars.specs.Rules.{first_and_others, second, read_word, read_in_parentheses}
 use Rattle.schema_grammar.specs.declared.tree.TargetNode.{TargetNode}
 use Rattle.schema_grammar.specs.declared.tree.TypeNode.{TypeNode}
-use Rattle.schema_grammar.specs.declared.tree.ColumnRule.{ColumnRule}
+use Rattle.schema_grammar.specs.declared.tree.ColumnConstraintNode.{ColumnConstraintNode}
 use Rattle.schema_grammar.specs.declared.tree.ColumnNode.{ColumnNode}
-use Rattle.schema_grammar.specs.declared.tree.TableRule.{TableRule}
+use Rattle.schema_grammar.specs.declared.tree.TableConstraintNode.{TableConstraintNode}
 use Rattle.schema_grammar.specs.declared.tree.Element.{Element}
 use Rattle.schema_grammar.specs.declared.tree.TableNode.{TableNode}
 use Rattle.schema_grammar.specs.Grammar.{drop_value, target, number_type, text_type, varying_type, not_null, primary_key, unique, references, column, primary_key_over, unique_over, foreign_key, of_column, of_rule, table, name_terminals, number_types}
@@ -56,38 +56,38 @@ read_triggered_actions = read_mapped drop_value (read_many (terminal.On ∷ []) 
 unfoldable pub read_target : Parser TargetNode
 read_target = read_mapped target (read_then read_name (read_then (read_maybe (terminal.Open ∷ []) read_name_list) read_triggered_actions))
 
--- ---- rules of columns and of tables
+-- ---- constraints of columns and of tables
 
 unfoldable pub read_constraint_name : Parser (Unit {0})
 read_constraint_name = read_mapped drop_value (read_maybe (terminal.Constraint ∷ []) (read_then (read_word terminal.Constraint) read_name))
 
-unfoldable pub read_column_constraint : Parser ColumnRule
+unfoldable pub read_column_constraint : Parser ColumnConstraintNode
 read_column_constraint = read_either (terminal.Not ∷ []) (read_mapped not_null (read_then (read_word terminal.Not) (read_word terminal.Null)))
     (read_either (terminal.Primary ∷ []) (read_mapped primary_key (read_then (read_word terminal.Primary) (read_word terminal.Key)))
     (read_either (terminal.Unique ∷ []) (read_mapped unique (read_word terminal.Unique))
     (read_mapped references (read_then (read_word terminal.References) read_target))))
 
-unfoldable pub read_column_rule : Parser ColumnRule
+unfoldable pub read_column_rule : Parser ColumnConstraintNode
 read_column_rule = read_mapped second (read_then read_constraint_name read_column_constraint)
 
 abbrev pub column_rule_first : List Terminal
 column_rule_first = terminal.Constraint ∷ terminal.Not ∷ terminal.Primary ∷ terminal.Unique ∷ terminal.References ∷ []
 
-unfoldable pub read_column_rules : Parser (List ColumnRule)
+unfoldable pub read_column_rules : Parser (List ColumnConstraintNode)
 read_column_rules = read_many column_rule_first read_column_rule
 
-unfoldable pub read_foreign_key : Parser TableRule
+unfoldable pub read_foreign_key : Parser TableConstraintNode
 read_foreign_key = read_mapped foreign_key
     (read_then (read_word terminal.Foreign)
     (read_then (read_word terminal.Key) (read_then read_name_list (read_then (read_word terminal.References) read_target))))
 
-unfoldable pub read_table_constraint : Parser TableRule
+unfoldable pub read_table_constraint : Parser TableConstraintNode
 read_table_constraint = read_either (terminal.Primary ∷ [])
     (read_mapped primary_key_over (read_then (read_word terminal.Primary) (read_then (read_word terminal.Key) read_name_list)))
     (read_either (terminal.Unique ∷ []) (read_mapped unique_over (read_then (read_word terminal.Unique) read_name_list))
     read_foreign_key)
 
-unfoldable pub read_table_rule : Parser TableRule
+unfoldable pub read_table_rule : Parser TableConstraintNode
 read_table_rule = read_mapped second (read_then read_constraint_name read_table_constraint)
 
 -- ---- tables

@@ -8,7 +8,7 @@ use crate::terminals::{
     CHARACTER, CLOSE, COLUMN_RULE, CONSTRAINT, KEY, NOT, NULL, NUMBER, NUMBER_TYPE, OPEN, PRIMARY,
     REFERENCES, UNIQUE, VARCHAR, VARYING,
 };
-use crate::tree::{ColumnNode, ColumnRule, TypeNode};
+use crate::tree::{ColumnConstraintNode, ColumnNode, TypeNode};
 use base_io::Seq;
 use ll_grammars::{Lexeme, Reader, Stop};
 
@@ -55,29 +55,29 @@ pub fn constraint_name(reader: &mut Reader<'_>) -> Result<(), Stop>
 }
 
 #[tactic(auto, unfolding(crate::specs::Readers::read_column_constraint))]
-fn column_constraint(reader: &mut Reader<'_>) -> Result<ColumnRule, Stop>
+fn column_constraint(reader: &mut Reader<'_>) -> Result<ColumnConstraintNode, Stop>
     ensures { IsReadAs result reader.new (read_column_constraint reader.old) }
 {
     if reader.starts(NOT) {
         reader.one(NOT)?;
         reader.one(NULL)?;
-        Ok(ColumnRule::NotNull)
+        Ok(ColumnConstraintNode::NotNull)
     } else if reader.starts(PRIMARY) {
         let word = reader.one(PRIMARY)?;
         reader.one(KEY)?;
-        Ok(ColumnRule::PrimaryKey { word })
+        Ok(ColumnConstraintNode::PrimaryKey { word })
     } else if reader.starts(UNIQUE) {
         reader.one(UNIQUE)?;
-        Ok(ColumnRule::Unique)
+        Ok(ColumnConstraintNode::Unique)
     } else {
         reader.one(REFERENCES)?;
         let target = target(reader)?;
-        Ok(ColumnRule::References(target))
+        Ok(ColumnConstraintNode::References(target))
     }
 }
 
 #[tactic(auto, unfolding(crate::specs::Readers::read_column_rule))]
-fn column_rule(reader: &mut Reader<'_>) -> Result<ColumnRule, Stop>
+fn column_rule(reader: &mut Reader<'_>) -> Result<ColumnConstraintNode, Stop>
     ensures { IsReadAs result reader.new (read_column_rule reader.old) }
 {
     constraint_name(reader)?;
@@ -85,7 +85,7 @@ fn column_rule(reader: &mut Reader<'_>) -> Result<ColumnRule, Stop>
 }
 
 #[tactic(auto, using(ll_grammars::proofs::Loops::many_start), unfolding(crate::specs::Readers::read_column_rules))]
-fn column_rules(reader: &mut Reader<'_>) -> Result<Seq<ColumnRule>, Stop>
+fn column_rules(reader: &mut Reader<'_>) -> Result<Seq<ColumnConstraintNode>, Stop>
     ensures { IsReadAs result reader.new (read_column_rules reader.old) }
 {
     let mut rules = Seq::new(reader.allocator());
@@ -96,7 +96,7 @@ fn column_rules(reader: &mut Reader<'_>) -> Result<Seq<ColumnRule>, Stop>
     Ok(rules)
 }
 
-// name type { rule }
+// name type { constraint }
 #[tactic(auto, unfolding(crate::specs::Readers::read_column))]
 pub fn column(reader: &mut Reader<'_>) -> Result<ColumnNode, Stop>
     ensures { IsReadAs result reader.new (read_column reader.old) }

@@ -1,8 +1,8 @@
-//! The grammar of schema texts. Tokens (`Lexeme`) come in. The syntax trees of tables go out, or the byte offset at which the tokens go wrong.
-//! This crate doesn't look at what the names in the trees mean: its caller does.
+//! The grammar of schema texts. Tokens (`Lexeme`) come in. The syntax trees of tables go out, or the byte of the syntax error. This crate doesn't
+//! look at what the names in the trees mean; its caller does.
 //!
-//! Callers cite `SchemaText` (which lists of tokens spell which tables), `IsSyntaxError` of `ll_grammars`
-//! and `AreOf` (the trees' tokens are those of the list).
+//! Contracts use `SchemaText` (which lists of tokens spell which tables), `IsSyntaxError` of `ll_grammars`, and `AreTablesWith` (the trees' tokens are
+//! tokens of the list).
 //!
 //! ```text
 //! let tables = read_tables(alloc, lexemes.as_slice(), text_len)?;
@@ -22,17 +22,20 @@ ghost use Rattle.ll_grammars.specs.declared.lexeme.Lexeme.{Lexeme as Token};
 ghost use Rattle.ll_grammars.specs.Places.{IsSyntaxError};
 ghost use Rattle.schema_grammar.specs.declared.tree.TableNode.{TableNode as Table};
 ghost use Rattle.schema_grammar.specs.Grammar.{SchemaText};
-ghost use Rattle.schema_grammar.specs.Lexemes.{AreOf};
+ghost use Rattle.schema_grammar.specs.Lexemes.{AreTablesWith};
 
 use base_io::Seq;
 use ll_grammars::{Lexeme, Reader, Stop, SyntaxError};
 use std::alloc::Global;
-pub use tree::{ColumnNode, ColumnRule, Element, TableNode, TableRule, TargetNode, TypeNode};
+pub use tree::{
+    ColumnConstraintNode, ColumnNode, Element, TableConstraintNode, TableNode, TargetNode, TypeNode,
+};
 
 /// The tables that the tokens spell, in the order of the text. `text_len` is the length of the text in bytes.
 ///
-/// `SyntaxError::At` comes exactly if the tokens spell no schema. It has the byte offset of the first token that can't follow the tokens
-/// before it in any schema, or `text_len` if more tokens are needed. The tokens are read in one pass, with one token of lookahead.
+/// Unless memory runs out, the result is `SyntaxError::At` exactly if the tokens spell no schema. Its offset is the start of the first token that
+/// can't follow the tokens before it in any schema. If the tokens end too early, it is `text_len`. The tokens are read in one pass, with one token of
+/// lookahead.
 #[tactic(auto, using(crate::proofs::Ends::spelled, crate::proofs::Ends::wrong_at, crate::proofs::Ends::all_found))]
 pub fn read_tables(
     alloc: Global,
@@ -40,7 +43,7 @@ pub fn read_tables(
     text_len: u32,
 ) -> Result<Seq<TableNode>, SyntaxError>
     ensures ok { IfOk result (λ tables. SchemaText tokens.now tables) }
-    ensures from_tokens { IfOk result (λ tables. AreOf (Contains tokens.now) tables) }
+    ensures from_tokens { IfOk result (λ tables. AreTablesWith (Contains tokens.now) tables) }
     ensures syntax { IfErr result (λ e. IsSyntaxError SchemaText tokens.now text_len e) }
     ensures complete { (tables : List Table) → SchemaText tokens.now tables
         → MatchResult result (λ found. found ≡ tables) (λ e. e ≡ SyntaxError.NoMemory) }
@@ -51,15 +54,15 @@ pub fn read_tables(
             if reader.is_done() {
                 Ok(tables)
             } else {
-                Err(SyntaxError::At(reader.place(text_len)))
+                Err(SyntaxError::At(reader.next_token_start(text_len)))
             }
         }
-        Err(Stop::Syntax) => Err(SyntaxError::At(reader.place(text_len))),
+        Err(Stop::Syntax) => Err(SyntaxError::At(reader.next_token_start(text_len))),
         Err(Stop::NoMemory) => Err(SyntaxError::NoMemory),
     }
 }
 
-/// No list of tokens spells two lists of tables.
+/// A list of tokens spells at most one list of tables.
 pub fn one_meaning()
     ensures { (tokens : List Token) (a b : List Table) → SchemaText tokens a → SchemaText tokens b → a ≡ b }
 {}

@@ -8,13 +8,13 @@ use crate::references::target;
 use crate::terminals::{
     CLOSE, COMMA, CREATE, FOREIGN, KEY, NAME, OPEN, PRIMARY, REFERENCES, SEMICOLON, TABLE, UNIQUE,
 };
-use crate::tree::{Element, TableNode, TableRule};
+use crate::tree::{Element, TableConstraintNode, TableNode};
 use base_io::Seq;
 use ll_grammars::{Reader, Stop};
 
 // FOREIGN KEY "(" names ")" REFERENCES target
 #[tactic(auto, unfolding(crate::specs::Readers::read_foreign_key))]
-fn foreign_key(reader: &mut Reader<'_>) -> Result<TableRule, Stop>
+fn foreign_key(reader: &mut Reader<'_>) -> Result<TableConstraintNode, Stop>
     ensures { IsReadAs result reader.new (read_foreign_key reader.old) }
 {
     reader.one(FOREIGN)?;
@@ -22,29 +22,29 @@ fn foreign_key(reader: &mut Reader<'_>) -> Result<TableRule, Stop>
     let columns = name_list(reader)?;
     reader.one(REFERENCES)?;
     let target = target(reader)?;
-    Ok(TableRule::ForeignKey { columns, target })
+    Ok(TableConstraintNode::ForeignKey { columns, target })
 }
 
 #[tactic(auto, unfolding(crate::specs::Readers::read_table_constraint))]
-fn table_constraint(reader: &mut Reader<'_>) -> Result<TableRule, Stop>
+fn table_constraint(reader: &mut Reader<'_>) -> Result<TableConstraintNode, Stop>
     ensures { IsReadAs result reader.new (read_table_constraint reader.old) }
 {
     if reader.starts(PRIMARY) {
         let word = reader.one(PRIMARY)?;
         reader.one(KEY)?;
         let columns = name_list(reader)?;
-        Ok(TableRule::PrimaryKey { word, columns })
+        Ok(TableConstraintNode::PrimaryKey { word, columns })
     } else if reader.starts(UNIQUE) {
         reader.one(UNIQUE)?;
         let columns = name_list(reader)?;
-        Ok(TableRule::Unique { columns })
+        Ok(TableConstraintNode::Unique { columns })
     } else {
         foreign_key(reader)
     }
 }
 
 #[tactic(auto, unfolding(crate::specs::Readers::read_table_rule))]
-fn table_rule(reader: &mut Reader<'_>) -> Result<TableRule, Stop>
+fn table_rule(reader: &mut Reader<'_>) -> Result<TableConstraintNode, Stop>
     ensures { IsReadAs result reader.new (read_table_rule reader.old) }
 {
     constraint_name(reader)?;
@@ -105,7 +105,7 @@ fn table(reader: &mut Reader<'_>) -> Result<TableNode, Stop>
     Ok(TableNode { name, elements })
 }
 
-// Whether another table follows. A semicolon before this table, or at the end of the text, is read.
+// Reads a semicolon, if it is the next token, and returns whether another table follows it.
 #[tactic(auto, using(crate::proofs::TableLoop::follows, crate::proofs::TableLoop::follows_not))]
 fn another(reader: &mut Reader<'_>) -> bool
     ensures { Follows result reader.old reader.new }

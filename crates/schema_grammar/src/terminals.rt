@@ -1,4 +1,4 @@
-//! The sets of terminals that the reader looks for.
+//! The sets of terminals that the parser looks for.
 pub use ll_grammars::NAME;
 use ll_grammars::Terminal;
 
@@ -15,7 +15,7 @@ pub const DELETE_OR_UPDATE: &[Terminal] = &[Terminal::Delete, Terminal::Update];
 
 pub const NULL_OR_DEFAULT: &[Terminal] = &[Terminal::Null, Terminal::Default];
 
-/// The terminals with which a rule of a column begins.
+/// The terminals with which a column's constraint begins.
 pub const COLUMN_RULE: &[Terminal] = &[
     Terminal::Constraint,
     Terminal::Not,

@@ -18,7 +18,7 @@ pub enum TypeNode {
 
 /// A constraint in a column's definition, after its type (SQL-92 11.4). `word` is the token PRIMARY.
 #[derive(Debug, Drop)]
-pub enum ColumnRule {
+pub enum ColumnConstraintNode {
     NotNull,
     PrimaryKey { word: Lexeme },
     Unique,
@@ -30,12 +30,12 @@ pub enum ColumnRule {
 pub struct ColumnNode {
     pub name: Lexeme,
     pub kind: TypeNode,
-    pub rules: Seq<ColumnRule>,
+    pub rules: Seq<ColumnConstraintNode>,
 }
 
 /// A constraint that a table's definition states of some of its columns (SQL-92 11.7 and 11.8). `word` is the token PRIMARY.
 #[derive(Debug, Drop)]
-pub enum TableRule {
+pub enum TableConstraintNode {
     PrimaryKey {
         word: Lexeme,
         columns: Seq<Lexeme>,
@@ -53,7 +53,7 @@ pub enum TableRule {
 #[derive(Debug, Drop)]
 pub enum Element {
     Column(ColumnNode),
-    Rule(TableRule),
+    Rule(TableConstraintNode),
 }
 
 /// A table's definition (SQL-92 11.3).

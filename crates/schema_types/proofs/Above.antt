@@ -1,5 +1,4 @@
--- The code finds the numbers above a limit table by table. The lemmas say that the lists of the tables, put one after another, are the list of
--- the whole text.
+-- The code looks for numbers above a limit table by table. It finds the numbers above the limit in the complete text, in the same order.
 use Rattle.std.proofs.Common.{◌≡◌, ℕ, suc, ◌<◌, ◌≤◌, Bool, true, false, cond, inl, inr, get_or, take, drop, List, [], ◌∷◌, ◌++◌, length, map, refl, sym, ◌∙◌, ap, arith}
 use Rattle.std.specs.Prelude.{nat_lt}
 use Rattle.std.specs.List.{flat_map}

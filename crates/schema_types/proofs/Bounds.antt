@@ -1,4 +1,4 @@
--- In the schema of a text, keys and references give columns by their numbers. Each of these is below the number of columns of its table.
+-- Keys and references of a schema give columns by their numbers. Each of these numbers is less than the number of columns of its table.
 use Rattle.std.proofs.Common.{◌≡◌, ℕ, zero, suc, ◌+◌, ◌<◌, ◌≤◌, List, [], ◌∷◌, ◌++◌, length, map, Option, Some, None, All, refl, sym, ◌∙◌, ap, subst, arith}
 use Rattle.std.specs.List.{flat_map, slice_get}
 use Rattle.std.specs.Option.{unwrap_or, option_map, option_and_then}
@@ -7,9 +7,9 @@ use Rattle.std.proofs.lemmas.List.Elements.{All-nil, All-cons, All-append, All-m
 use Rattle.std.proofs.lemmas.Option.{slice_get-map, slice_get_within, get_or_from_slice_get}
 use Rattle.ll_grammars.specs.declared.lexeme.Lexeme.{Lexeme}
 use Rattle.schema_grammar.specs.declared.tree.TargetNode.{TargetNode}
-use Rattle.schema_grammar.specs.declared.tree.ColumnRule.{ColumnRule}
-use Rattle.schema_grammar.specs.declared.tree.ColumnRule.TheVariants as column_rule
-use Rattle.schema_grammar.specs.declared.tree.TableRule.TheVariants as table_rule
+use Rattle.schema_grammar.specs.declared.tree.ColumnConstraintNode.{ColumnConstraintNode}
+use Rattle.schema_grammar.specs.declared.tree.ColumnConstraintNode.TheVariants as column_rule
+use Rattle.schema_grammar.specs.declared.tree.TableConstraintNode.TheVariants as table_rule
 use Rattle.schema_grammar.specs.declared.tree.Element.{Element}
 use Rattle.schema_grammar.specs.declared.tree.Element.TheVariants as element
 use Rattle.schema_grammar.specs.declared.tree.TableNode.{TableNode}
@@ -18,7 +18,7 @@ use Rattle.schema_types.specs.declared.types.Table.{Table}
 use Rattle.schema_types.specs.Declarations.{columns, column_names, referenced_columns, target_number, target_table, table_names}
 use Rattle.schema_types.specs.Meaning.{column_of, element_column, rule_keys, element_keys, target_column_numbers, reference_of, rule_references, element_references, table_of}
 use Rattle.schema_types.specs.Names.{index_of_name}
-use Rattle.schema_types.specs.Numbers.{number_of_name, number_in, numbers_in}
+use Rattle.schema_types.specs.Numbers.{number_of_name, number_of_column, numbers_of_columns}
 use Rattle.schema_types.specs.Validity.{AreColumnsOf, IsReference}
 use Rattle.schema_types.proofs.NameIndexes.{place_of_within}
 
@@ -32,7 +32,7 @@ names_of_columns text (element.Rule rule ∷ elements) = names_of_columns text e
 pub count_of_columns : (text : List ℕ) (elements : List Element) → length (flat_map (element_column text) elements) ≡ length (column_names text elements)
 count_of_columns text elements = sym (length-map (flat_map (element_column text) elements) (λ column. column.name)) ∙ ap length (names_of_columns text elements)
 
--- ---- the numbers that names of columns have
+-- ---- numbers of named columns
 
 number_within : (declared : List (List ℕ)) (name : List ℕ) → 0 < length declared → number_of_name declared name < length declared
 number_within declared name some = at (index_of_name declared name) (place_of_within declared name)
@@ -41,9 +41,9 @@ number_within declared name some = at (index_of_name declared name) (place_of_wi
     at None inside = some
     at (Some p) inside = inside p refl
 
-numbers_within : (text : List ℕ) (declared : List (List ℕ)) (tokens : List Lexeme) → 0 < length declared → All (λ n. n < length declared) (numbers_in text declared tokens)
-unfolding numbers_in
-numbers_within text declared tokens some = All-map (λ n. n < length declared) (number_in text declared) tokens (λ k d h. number_within declared _ some)
+numbers_within : (text : List ℕ) (declared : List (List ℕ)) (tokens : List Lexeme) → 0 < length declared → All (λ n. n < length declared) (numbers_of_columns text declared tokens)
+unfolding numbers_of_columns
+numbers_within text declared tokens some = All-map (λ n. n < length declared) (number_of_column text declared) tokens (λ k d h. number_within declared _ some)
 
 all_flat_map : {X A : Type 0} (P : A → Type 0) (f : X → List A) → ((x : X) → All P (f x)) → (xs : List X) → All P (flat_map f xs)
 all_flat_map P f each [] = All-nil P
@@ -54,7 +54,7 @@ all_flat_map P f each (x ∷ xs) = All-append P (f x) (flat_map f xs) (each x) (
 abbrev Within : ℕ → List ℕ → Type 0
 Within count numbers = All (λ n. n < count) numbers
 
-rule_keys_within : (count number : ℕ) (rule : ColumnRule) → number < count → All (Within count) (rule_keys number rule)
+rule_keys_within : (count number : ℕ) (rule : ColumnConstraintNode) → number < count → All (Within count) (rule_keys number rule)
 rule_keys_within count number column_rule.NotNull h = All-nil (Within count)
 rule_keys_within count number (column_rule.PrimaryKey word) h = All-cons (Within count) (number ∷ []) [] (All-cons (λ n. n < count) number [] h (All-nil (λ n. n < count))) (All-nil (Within count))
 rule_keys_within count number column_rule.Unique h = All-cons (Within count) (number ∷ []) [] (All-cons (λ n. n < count) number [] h (All-nil (λ n. n < count))) (All-nil (Within count))
@@ -62,11 +62,11 @@ rule_keys_within count number (column_rule.References target) h = All-nil (Withi
 
 element_keys_within : (text : List ℕ) (declared : List (List ℕ)) (e : Element) → 0 < length declared → All (Within (length declared)) (element_keys text declared e)
 element_keys_within text declared (element.Column column) some =
-    all_flat_map (Within (length declared)) (rule_keys (number_in text declared column.name)) (λ rule. rule_keys_within (length declared) (number_in text declared column.name) rule (number_within declared _ some)) column.rules
+    all_flat_map (Within (length declared)) (rule_keys (number_of_column text declared column.name)) (λ rule. rule_keys_within (length declared) (number_of_column text declared column.name) rule (number_within declared _ some)) column.rules
 element_keys_within text declared (element.Rule (table_rule.PrimaryKey word columns)) some =
-    All-cons (Within (length declared)) (numbers_in text declared columns) [] (numbers_within text declared columns some) (All-nil (Within (length declared)))
+    All-cons (Within (length declared)) (numbers_of_columns text declared columns) [] (numbers_within text declared columns some) (All-nil (Within (length declared)))
 element_keys_within text declared (element.Rule (table_rule.Unique columns)) some =
-    All-cons (Within (length declared)) (numbers_in text declared columns) [] (numbers_within text declared columns some) (All-nil (Within (length declared)))
+    All-cons (Within (length declared)) (numbers_of_columns text declared columns) [] (numbers_within text declared columns some) (All-nil (Within (length declared)))
 element_keys_within text declared (element.Rule (table_rule.ForeignKey columns target)) some = All-nil (Within (length declared))
 
 pub keys_valid : (text : List ℕ) (tables : List TableNode) (table : TableNode) → 0 < length (column_names text table.elements) → All (AreColumnsOf (table_of text tables table)) (table_of text tables table).keys
@@ -80,7 +80,7 @@ keys_valid text tables table some =
 abbrev pub HasColumns : List ℕ → TableNode → Type 0
 HasColumns text table = 0 < length (column_names text table.elements)
 
-resolved_within : (text : List ℕ) (declared : List (List ℕ)) (chosen : Option (List Lexeme)) → 0 < length declared → Within (length declared) (unwrap_or (option_map (numbers_in text declared) chosen) [])
+resolved_within : (text : List ℕ) (declared : List (List ℕ)) (chosen : Option (List Lexeme)) → 0 < length declared → Within (length declared) (unwrap_or (option_map (numbers_of_columns text declared) chosen) [])
 resolved_within text declared None some = All-nil (λ n. n < length declared)
 resolved_within text declared (Some tokens) some = numbers_within text declared tokens some
 
@@ -121,21 +121,21 @@ reference_valid text tables table from target some all within = at (target_numbe
 
 element_references_valid : (text : List ℕ) (tables : List TableNode) (table : Table) (declared : List (List ℕ)) (e : Element) → 0 < length tables → All (HasColumns text) tables → 0 < length declared → length table.columns ≡ length declared → All (IsReference (map (table_of text tables) tables) table) (element_references text tables declared e)
 element_references_valid text tables table declared (element.Column column) some all columns same =
-    all_flat_map (IsReference (map (table_of text tables) tables) table) (rule_references text tables (number_in text declared column.name)) of_rule column.rules
+    all_flat_map (IsReference (map (table_of text tables) tables) table) (rule_references text tables (number_of_column text declared column.name)) of_rule column.rules
   where
-    of_rule : (rule : ColumnRule) → All (IsReference (map (table_of text tables) tables) table) (rule_references text tables (number_in text declared column.name) rule)
+    of_rule : (rule : ColumnConstraintNode) → All (IsReference (map (table_of text tables) tables) table) (rule_references text tables (number_of_column text declared column.name) rule)
     of_rule column_rule.NotNull = All-nil (IsReference (map (table_of text tables) tables) table)
     of_rule (column_rule.PrimaryKey word) = All-nil (IsReference (map (table_of text tables) tables) table)
     of_rule column_rule.Unique = All-nil (IsReference (map (table_of text tables) tables) table)
     of_rule (column_rule.References target) =
-        All-cons (IsReference (map (table_of text tables) tables) table) (reference_of text tables (number_in text declared column.name ∷ []) target) []
-        (reference_valid text tables table (number_in text declared column.name ∷ []) target some all (rw same (All-cons (λ n. n < length declared) (number_in text declared column.name) [] (number_within declared _ columns) (All-nil (λ n. n < length declared)))))
+        All-cons (IsReference (map (table_of text tables) tables) table) (reference_of text tables (number_of_column text declared column.name ∷ []) target) []
+        (reference_valid text tables table (number_of_column text declared column.name ∷ []) target some all (rw same (All-cons (λ n. n < length declared) (number_of_column text declared column.name) [] (number_within declared _ columns) (All-nil (λ n. n < length declared)))))
         (All-nil (IsReference (map (table_of text tables) tables) table))
 element_references_valid text tables table declared (element.Rule (table_rule.PrimaryKey word listed)) some all columns same = All-nil (IsReference (map (table_of text tables) tables) table)
 element_references_valid text tables table declared (element.Rule (table_rule.Unique listed)) some all columns same = All-nil (IsReference (map (table_of text tables) tables) table)
 element_references_valid text tables table declared (element.Rule (table_rule.ForeignKey listed target)) some all columns same =
-    All-cons (IsReference (map (table_of text tables) tables) table) (reference_of text tables (numbers_in text declared listed) target) []
-    (reference_valid text tables table (numbers_in text declared listed) target some all (rw same (numbers_within text declared listed columns)))
+    All-cons (IsReference (map (table_of text tables) tables) table) (reference_of text tables (numbers_of_columns text declared listed) target) []
+    (reference_valid text tables table (numbers_of_columns text declared listed) target some all (rw same (numbers_within text declared listed columns)))
     (All-nil (IsReference (map (table_of text tables) tables) table))
 
 counted : (text : List ℕ) (tables : List TableNode) (table : TableNode) → length (table_of text tables table).columns ≡ length (column_names text table.elements)

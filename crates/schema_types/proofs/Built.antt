@@ -1,4 +1,4 @@
--- A table is put together from its name, columns, keys and references.
+-- The code builds a table from its name, columns, keys and references.
 use Rattle.std.proofs.Common.{◌≡◌, ℕ, List, refl}
 use Rattle.std.specs.List.{flat_map}
 use Rattle.schema_grammar.specs.declared.tree.TableNode.{TableNode}

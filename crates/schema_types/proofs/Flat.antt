@@ -1,4 +1,4 @@
--- A check walks a list. For each element, f lists the byte offsets or the numbers that break a rule. The check's answer is the first of all.
+-- A check walks a list and returns the first byte offset or number that it finds. f lists the offsets or numbers of an element.
 use Rattle.std.proofs.Common.{◌≡◌, ℕ, suc, ◌+◌, ◌<◌, List, [], ◌∷◌, ◌++◌, length, get_or, take, drop, Option, Some, None, Err, refl, sym, ◌∙◌, ap}
 use Rattle.std.specs.List.{flat_map}
 use Rattle.std.specs.Option.{option_map, unwrap_or}

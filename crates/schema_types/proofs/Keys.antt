@@ -1,4 +1,4 @@
--- A table's primary key is the first that its elements declare. The lemmas are for the loop that looks for this element.
+-- Steps of the loop that looks for a table's primary key: the first that its elements declare.
 use Rattle.std.proofs.Common.{◌≡◌, ℕ, suc, ◌+◌, ◌<◌, true, false, List, [], ◌∷◌, ◌++◌, length, get_or, take, drop, is_some, refl, sym, ◌∙◌, ap}
 use Rattle.std.specs.List.{flat_map}
 use Rattle.std.specs.Option.{option_map}

@@ -1,4 +1,4 @@
--- The index of a name in a list of names (`index_of_name`): what it is after a name was added at the list's end, and that it is below the length.
+-- The index of a name in a list (`index_of_name`): how it changes when a name is added at the end, and that it is less than the list's length.
 use Rattle.std.proofs.Common.{◌≡◌, ℕ, ◌+◌, ◌<◌, Bool, true, false, cond, ◌||◌, List, [], ◌∷◌, ◌++◌, length, Option, Some, None, is_some, is_none, refl, sym, ◌∙◌, ap, subst, inl, inr, arith}
 use Rattle.std.proofs.lemmas.Bool.{cases_Bool}
 use Rattle.std.specs.Option.{option_map}
@@ -56,10 +56,10 @@ place_added f name other last none = elim (cases_Bool (bytes_eq name other)) [
 pub place_pushed : (old new : List (List ℕ)) (last name : List ℕ) (count : ℕ) (before after : Option ℕ) → new ≡ old ++ last ∷ [] → count ≡ length old → before ≡ index_of_name old name → after ≡ index_after_push before count (bytes_eq name last) → after ≡ index_of_name new name
 place_pushed old new last name count before after grown counted stood stands = cc (index_of_name-append old last name)
 
-pub stands_in_is : (names : List (List ℕ)) (name : List ℕ) → is_some (index_of_name names name) ≡ is_one_of name names
+pub is_one_of_by_index : (names : List (List ℕ)) (name : List ℕ) → is_some (index_of_name names name) ≡ is_one_of name names
 unfolding index_of_name
-stands_in_is [] name = refl
-stands_in_is (other ∷ names) name = by_test (bytes_eq name other) (index_of_name names name) (is_one_of name names) (stands_in_is names name)
+is_one_of_by_index [] name = refl
+is_one_of_by_index (other ∷ names) name = by_test (bytes_eq name other) (index_of_name names name) (is_one_of name names) (is_one_of_by_index names name)
   where
     by_test : (same : Bool) (place : Option ℕ) (stands : Bool) → is_some place ≡ stands → is_some (cond same (Some 0) (option_map (λ n. n + 1) place)) ≡ (same || stands)
     by_test true place stands e = refl

@@ -1,4 +1,4 @@
--- A schema text has at most one answer, apart from the answer that memory ran out.
+-- A schema text has at most one result, apart from `NoMemory`.
 use Rattle.std.proofs.Common.{◌≡◌, ◌≢◌, ℕ, ◌⊎◌, List, map, length, Result, Ok, Err, refl, sym, ◌∙◌, ap, subst, inl, inr}
 use Rattle.ll_grammars.specs.Places.{IsSyntaxErrorAt}
 use Rattle.schema_grammar.specs.declared.tree.TableNode.{TableNode}
@@ -43,7 +43,7 @@ one_tables text a b s t =
 one_declared : (text : List ℕ) (a b : Result Schema SchemaError) → Declares text a → Declares text b → a ≡ b
 one_declared text a b d e = sym d.answers ∙ ap (schema_or_refusal text) (one_tables text d.tables e.tables d.spells e.spells) ∙ e.answers
 
--- an answer is of one of three kinds: memory ran out, the text goes wrong, or the text declares a schema or an error
+-- a result is of one of three kinds: memory ran out, the text has a syntax error, or the text declares a schema or a refusal
 abbrev Kinds : List ℕ → Result Schema SchemaError → Type 0
 Kinds text answer = (answer ≡ Err error.NoMemory) ⊎ (((at : ℕ) × (answer ≡ Err (error.Syntax at)) × Wrong text at) ⊎ Declares text answer)
 

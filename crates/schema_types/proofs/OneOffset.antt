@@ -1,16 +1,16 @@
--- A list of tokens goes wrong at one byte offset at most. If it spells a value, it doesn't go wrong.
+-- A list of tokens has a syntax error at one byte offset at most. If it spells a value, it has no syntax error.
 use Rattle.std.proofs.Common.{◌≡◌, ℕ, List, [], ◌∷◌, ◌++◌, sym, ◌∙◌, ap, subst, append_assoc}
 use Rattle.std.proofs.lemmas.List.{append-nil}
 use Rattle.ll_grammars.specs.declared.lexeme.Lexeme.{Lexeme}
 use Rattle.ll_grammars.specs.Language.{Language, IsViablePrefix, Fails}
 use Rattle.ll_grammars.specs.Places.{IsSyntaxErrorAt}
-use Rattle.ll_grammars.specs.Rules.{place}
+use Rattle.ll_grammars.specs.Rules.{next_token_start}
 
 module _ {A : Type 0} (L : Language A) where
   shorter : (front more : List Lexeme) → IsViablePrefix L (front ++ more) → IsViablePrefix L front
   shorter front more viable = record { more = more ++ viable.more; value = viable.value; spelled = subst (λ text. L text viable.value) (append_assoc front more viable.more) viable.spelled }
 
-  -- the tokens don't go wrong after `front` if `front` with one more token still begins a text of the language
+  -- the syntax error isn't after `front` if `front` with one more token still begins a text of the language
   goes_on : (front rest more : List Lexeme) (token : Lexeme) → rest ≡ token ∷ more → Fails L front rest → IsViablePrefix L (front ++ token ∷ []) → ⊥
   goes_on front rest more token e fails viable = let f : Fails L front (token ∷ more) = subst (λ r. Fails L front r) e fails in f viable
 
@@ -34,7 +34,7 @@ module _ {A : Type 0} (L : Language A) where
   pub one_place : (tokens : List Lexeme) (text_len at other : ℕ) → IsSyntaxErrorAt L tokens text_len at → IsSyntaxErrorAt L tokens text_len other → at ≡ other
   one_place tokens text_len at other p q =
       let rests : p.rest ≡ q.rest = one_rest [] p.wrong.front p.rest q.wrong.front q.rest (sym p.wrong.whole ∙ q.wrong.whole) p.wrong.begins p.wrong.fails q.wrong.begins q.wrong.fails in
-      p.here ∙ ap (λ rest. place rest text_len) rests ∙ sym q.here
+      p.here ∙ ap (λ rest. next_token_start rest text_len) rests ∙ sym q.here
 
   not_wrong : (front rest : List Lexeme) (value : A) → L (front ++ rest) value → Fails L front rest → ⊥
   not_wrong front [] value l fails = fails value (subst (λ text. L text value) (append-nil front) l)

@@ -1,10 +1,10 @@
--- The answer to a schema text is found in stages: the names, the nullable columns, the limits.
+-- The result for a schema text is found in stages: the names, the nullable columns, the limits.
 use Rattle.std.proofs.Common.{◌≡◌, ℕ, List, Option, Some, None, Result, Ok, Err, refl, sym, ◌∙◌, ap, All}
 use Rattle.std.specs.Option.{option_map}
 use Rattle.ll_grammars.specs.declared.lexeme.Lexeme.{Lexeme}
 use Rattle.schema_grammar.specs.declared.tree.TableNode.{TableNode}
 use Rattle.schema_grammar.specs.Grammar.{SchemaText}
-use Rattle.schema_grammar.specs.Lexemes.{IsTableOf, AreOf}
+use Rattle.schema_grammar.specs.Lexemes.{IsTableWith, AreTablesWith}
 use Rattle.schema_grammar.proofs.Kept.{are_of}
 use Rattle.sql_tokens.specs.Words.{IsLexemeOf}
 use Rattle.schema_types.specs.declared.errors.LimitKind.{LimitKind}
@@ -12,13 +12,13 @@ use Rattle.schema_types.specs.declared.errors.SchemaError.{SchemaError}
 use Rattle.schema_types.specs.declared.errors.SchemaError.TheVariants as error
 use Rattle.schema_types.specs.declared.types.Schema.{Schema}
 use Rattle.schema_types.specs.Answers.{Answers, AreLexemes}
-use Rattle.schema_types.specs.Finds.{Finds, FindsNullable, FindsAbove}
+use Rattle.schema_types.specs.Finds.{IsNameCheckOf, FindsNullable, FindsAbove}
 use Rattle.schema_types.specs.Meaning.{unless_found, schema_or_refusal}
 use Rattle.schema_types.specs.Names.{first}
 use Rattle.schema_types.specs.Refusals.{in_64_bits}
 use Rattle.schema_types.specs.Texts.{Spells, IsSchemaOf}
 
-pub stage_name : (places : List ℕ) (rest : Result Schema SchemaError) (e : SchemaError) → Finds {A = Unit {0}} (Err e) places → Answers (Err e) (unless_found (first places) (λ at. error.Name at) rest)
+pub stage_name : (places : List ℕ) (rest : Result Schema SchemaError) (e : SchemaError) → IsNameCheckOf {A = Unit {0}} (Err e) places → Answers (Err e) (unless_found (first places) (λ at. error.Name at) rest)
 stage_name places rest (error.Name at) found = rw found refl
 stage_name places rest error.NoMemory found = tt
 stage_name places rest (error.Syntax at) found = found
@@ -54,6 +54,6 @@ answered text tables (Err (error.Syntax at)) spells due = absurd due
 pub spells_from : (text : List ℕ) (lexemes : List Lexeme) (tables : List TableNode) → AreLexemes text lexemes → SchemaText lexemes tables → Spells text tables
 spells_from text lexemes tables are spelled = record { tokens = are.tokens; lexed = are.lexed; spelled = rw are.are at spelled }
 
-pub lie_in : (text : List ℕ) (lexemes : List Lexeme) (tables : List TableNode) → SchemaText lexemes tables → All (IsLexemeOf text) lexemes → All (IsTableOf (IsLexemeOf text)) tables
-unfolding AreOf
+pub lie_in : (text : List ℕ) (lexemes : List Lexeme) (tables : List TableNode) → SchemaText lexemes tables → All (IsLexemeOf text) lexemes → All (IsTableWith (IsLexemeOf text)) tables
+unfolding AreTablesWith
 lie_in text lexemes tables spelled within = are_of (IsLexemeOf text) lexemes tables spelled within

@@ -1,4 +1,4 @@
--- The target of a reference is looked up by the table's name.
+-- The look-up of a reference's target by the table's name.
 use Rattle.std.proofs.Common.{◌≡◌, ℕ, ◌<◌, length, List, Option, Some, None, map, refl, sym}
 use Rattle.std.specs.List.{slice_get}
 use Rattle.std.specs.Option.{option_map, option_and_then}

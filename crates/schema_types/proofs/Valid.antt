@@ -10,8 +10,8 @@ use Rattle.std.proofs.lemmas.Bool.{or_parts, cases_Bool}
 use Rattle.std.proofs.lemmas.Slice.Eq.{bytes_eq-Decides}
 use Rattle.std.specs.Str.{bytes_eq}
 use Rattle.ll_grammars.specs.declared.lexeme.Lexeme.{Lexeme}
-use Rattle.schema_grammar.specs.declared.tree.TableRule.{TableRule}
-use Rattle.schema_grammar.specs.declared.tree.TableRule.TheVariants as table_rule
+use Rattle.schema_grammar.specs.declared.tree.TableConstraintNode.{TableConstraintNode}
+use Rattle.schema_grammar.specs.declared.tree.TableConstraintNode.TheVariants as table_rule
 use Rattle.schema_grammar.specs.declared.tree.Element.{Element}
 use Rattle.schema_grammar.specs.declared.tree.Element.TheVariants as element
 use Rattle.schema_grammar.specs.declared.tree.TableNode.{TableNode}
@@ -30,7 +30,7 @@ use Rattle.schema_types.proofs.Above.{empty_left, empty_right, not_above}
 use Rattle.schema_types.proofs.Bounds.{names_of_columns, count_of_columns, keys_valid, references_valid, HasColumns}
 use Rattle.schema_types.proofs.Filled.{IsNotEmpty, RuleFilled, ElementFilled, FirstFilled, TableFilled, AreFilled, filled}
 
--- ---- a list in which no element offends
+-- ---- lists without offences
 
 when_none : (b : Bool) (n : ℕ) → list_if b n ≡ [] → b ≡ false
 when_none true n e = cc
@@ -49,7 +49,7 @@ told_all f P step earlier [] none = All-nil P
 told_all f P step earlier (x ∷ xs) none =
     All-cons P x xs (step earlier x (told_here f earlier x xs none)) (told_all f P step (earlier ++ x ∷ []) xs (told_later f earlier x xs none))
 
--- ---- names that differ
+-- ---- different names
 
 untaken : (name : List ℕ) (names : List (List ℕ)) → is_taken name names ≡ false → (k : ℕ) (d : List ℕ) → k < length names → upper_case (get_or names k d) ≢ upper_case name
 untaken name [] free k d h = absurd (omega arith)
@@ -120,7 +120,7 @@ list_some text declared (token ∷ tokens) is none =
     let parts = or_parts (is_none (index_of_name declared (name_of text token))) _ (when_none _ token.start (told_here (listed_offences text declared) [] token tokens none)) in
     some_names declared (name_of text token) parts.0
 
-rule_some : (text : List ℕ) (tables : List TableNode) (declared : List (List ℕ)) (rule : TableRule) → RuleFilled rule → table_rule_offences text tables declared [] rule ≡ [] → 0 < length declared
+rule_some : (text : List ℕ) (tables : List TableNode) (declared : List (List ℕ)) (rule : TableConstraintNode) → RuleFilled rule → table_rule_offences text tables declared [] rule ≡ [] → 0 < length declared
 unfolding table_rule_offences
 rule_some text tables declared (table_rule.PrimaryKey word listed) is none = list_some text declared listed is none
 rule_some text tables declared (table_rule.Unique listed) is none = list_some text declared listed is none
@@ -133,7 +133,7 @@ elements_some text tables declared (element.Column column ∷ rest) is same none
 elements_some text tables declared (element.Rule rule ∷ rest) is same none =
     rule_some text tables declared rule is (told_here (element_offences text tables declared) [] (element.Rule rule) rest none)
 
--- ---- each table
+-- ---- facts about each table
 
 record Facts (text : List ℕ) (table : TableNode) : Type 0 where
   plain : is_plain (name_of text table.name) ≡ true

@@ -3,11 +3,11 @@ use Rattle.std.specs.Prelude.{ℕ, Bool, true, false, List, [], ◌∷◌, map, 
 use Rattle.std.specs.List.{flat_map, list_any}
 use Rattle.ll_grammars.specs.declared.lexeme.Lexeme.{Lexeme}
 use Rattle.schema_grammar.specs.declared.tree.TargetNode.{TargetNode}
-use Rattle.schema_grammar.specs.declared.tree.ColumnRule.{ColumnRule}
-use Rattle.schema_grammar.specs.declared.tree.ColumnRule.TheVariants as column_rule
+use Rattle.schema_grammar.specs.declared.tree.ColumnConstraintNode.{ColumnConstraintNode}
+use Rattle.schema_grammar.specs.declared.tree.ColumnConstraintNode.TheVariants as column_rule
 use Rattle.schema_grammar.specs.declared.tree.ColumnNode.{ColumnNode}
-use Rattle.schema_grammar.specs.declared.tree.TableRule.{TableRule}
-use Rattle.schema_grammar.specs.declared.tree.TableRule.TheVariants as table_rule
+use Rattle.schema_grammar.specs.declared.tree.TableConstraintNode.{TableConstraintNode}
+use Rattle.schema_grammar.specs.declared.tree.TableConstraintNode.TheVariants as table_rule
 use Rattle.schema_grammar.specs.declared.tree.Element.{Element}
 use Rattle.schema_grammar.specs.declared.tree.Element.TheVariants as element
 use Rattle.schema_grammar.specs.declared.tree.TableNode.{TableNode}
@@ -36,7 +36,7 @@ table_names text tables = names_of text (table_tokens tables)
 
 -- ---- primary keys
 
-abbrev pub is_primary_rule : ColumnRule → Bool
+abbrev pub is_primary_rule : ColumnConstraintNode → Bool
 is_primary_rule column_rule.NotNull = false
 is_primary_rule (column_rule.PrimaryKey _) = true
 is_primary_rule column_rule.Unique = false
@@ -46,7 +46,7 @@ is_primary_rule (column_rule.References _) = false
 abbrev pub column_primary_key : ColumnNode → List (List Lexeme)
 column_primary_key column = list_if (list_any is_primary_rule column.rules) (column.name ∷ [])
 
-abbrev pub rule_primary_key : TableRule → List (List Lexeme)
+abbrev pub rule_primary_key : TableConstraintNode → List (List Lexeme)
 rule_primary_key (table_rule.PrimaryKey _ columns) = columns ∷ []
 rule_primary_key (table_rule.Unique _) = []
 rule_primary_key (table_rule.ForeignKey _ _) = []

@@ -1,4 +1,5 @@
--- What a check answers: `Ok` if it finds nothing, otherwise the first byte offset or number that it finds, or that memory ran out.
+-- The result of a check: `Ok` if it finds nothing, otherwise an error with the first byte offset or number that it finds. `NoMemory` is always
+-- allowed.
 use Rattle.std.specs.Prelude.{◌≡◌, ℕ, List, [], Some, Result, Ok, Err, ⊤, option_map}
 use Rattle.schema_types.specs.declared.errors.LimitKind.{LimitKind}
 use Rattle.schema_types.specs.declared.errors.SchemaError.{SchemaError}
@@ -7,13 +8,13 @@ use Rattle.schema_types.specs.Names.{first}
 use Rattle.schema_types.specs.Refusals.{in_64_bits}
 
 -- byte offsets at which a rule on names is broken
-abbrev pub Finds : {A : Type 0} → Result A SchemaError → List ℕ → Type 0
-Finds (Ok _) places = places ≡ []
-Finds (Err (error.Name at)) places = first places ≡ Some at
-Finds (Err error.NoMemory) places = ⊤
-Finds (Err (error.Syntax _)) places = ⊥
-Finds (Err (error.Nullable _)) places = ⊥
-Finds (Err (error.Limit _ _)) places = ⊥
+abbrev pub IsNameCheckOf : {A : Type 0} → Result A SchemaError → List ℕ → Type 0
+IsNameCheckOf (Ok _) places = places ≡ []
+IsNameCheckOf (Err (error.Name at)) places = first places ≡ Some at
+IsNameCheckOf (Err error.NoMemory) places = ⊤
+IsNameCheckOf (Err (error.Syntax _)) places = ⊥
+IsNameCheckOf (Err (error.Nullable _)) places = ⊥
+IsNameCheckOf (Err (error.Limit _ _)) places = ⊥
 
 -- byte offsets of the names of columns that may be null
 abbrev pub FindsNullable : {A : Type 0} → Result A SchemaError → List ℕ → Type 0
@@ -24,7 +25,7 @@ FindsNullable (Err (error.Syntax _)) places = ⊥
 FindsNullable (Err (error.Name _)) places = ⊥
 FindsNullable (Err (error.Limit _ _)) places = ⊥
 
--- numbers that pass a limit
+-- numbers that exceed a limit
 abbrev pub FindsAbove : {A : Type 0} → LimitKind → Result A SchemaError → List ℕ → Type 0
 FindsAbove limit (Ok _) numbers = numbers ≡ []
 FindsAbove limit (Err (error.Limit which found)) numbers = (which ≡ limit) × (option_map in_64_bits (first numbers) ≡ Some found)

@@ -6,11 +6,11 @@ use Rattle.ll_grammars.specs.declared.lexeme.Lexeme.{Lexeme}
 use Rattle.schema_grammar.specs.declared.tree.TargetNode.{TargetNode}
 use Rattle.schema_grammar.specs.declared.tree.TypeNode.{TypeNode}
 use Rattle.schema_grammar.specs.declared.tree.TypeNode.TheVariants as type_text
-use Rattle.schema_grammar.specs.declared.tree.ColumnRule.{ColumnRule}
-use Rattle.schema_grammar.specs.declared.tree.ColumnRule.TheVariants as column_rule
+use Rattle.schema_grammar.specs.declared.tree.ColumnConstraintNode.{ColumnConstraintNode}
+use Rattle.schema_grammar.specs.declared.tree.ColumnConstraintNode.TheVariants as column_rule
 use Rattle.schema_grammar.specs.declared.tree.ColumnNode.{ColumnNode}
-use Rattle.schema_grammar.specs.declared.tree.TableRule.{TableRule}
-use Rattle.schema_grammar.specs.declared.tree.TableRule.TheVariants as table_rule
+use Rattle.schema_grammar.specs.declared.tree.TableConstraintNode.{TableConstraintNode}
+use Rattle.schema_grammar.specs.declared.tree.TableConstraintNode.TheVariants as table_rule
 use Rattle.schema_grammar.specs.declared.tree.Element.{Element}
 use Rattle.schema_grammar.specs.declared.tree.Element.TheVariants as element
 use Rattle.schema_grammar.specs.declared.tree.TableNode.{TableNode}
@@ -25,26 +25,26 @@ use Rattle.schema_types.specs.declared.types.Reference.{Reference}
 use Rattle.schema_types.specs.declared.types.Table.{Table}
 use Rattle.schema_types.specs.declared.types.Schema.{Schema}
 use Rattle.schema_types.specs.Names.{first}
-use Rattle.schema_types.specs.Numbers.{number_in, numbers_in}
+use Rattle.schema_types.specs.Numbers.{number_of_column, numbers_of_columns}
 use Rattle.schema_types.specs.Declarations.{columns, column_names, target_number, target_table, referenced_columns}
 use Rattle.schema_types.specs.Offences.{offences}
 use Rattle.schema_types.specs.Refusals.{nullable_offsets, above, in_64_bits, column_counts, text_lengths}
 
 -- ---- keys
 
--- the keys that a rule of the column with this number declares
-abbrev pub rule_keys : ℕ → ColumnRule → List (List ℕ)
+-- the keys that a constraint of column `number` declares
+abbrev pub rule_keys : ℕ → ColumnConstraintNode → List (List ℕ)
 rule_keys number column_rule.NotNull = []
 rule_keys number (column_rule.PrimaryKey _) = (number ∷ []) ∷ []
 rule_keys number column_rule.Unique = (number ∷ []) ∷ []
 rule_keys number (column_rule.References _) = []
 
 abbrev pub column_keys : List ℕ → List (List ℕ) → ColumnNode → List (List ℕ)
-column_keys text declared column = flat_map (rule_keys (number_in text declared column.name)) column.rules
+column_keys text declared column = flat_map (rule_keys (number_of_column text declared column.name)) column.rules
 
-abbrev pub table_rule_keys : List ℕ → List (List ℕ) → TableRule → List (List ℕ)
-table_rule_keys text declared (table_rule.PrimaryKey _ columns) = numbers_in text declared columns ∷ []
-table_rule_keys text declared (table_rule.Unique columns) = numbers_in text declared columns ∷ []
+abbrev pub table_rule_keys : List ℕ → List (List ℕ) → TableConstraintNode → List (List ℕ)
+table_rule_keys text declared (table_rule.PrimaryKey _ columns) = numbers_of_columns text declared columns ∷ []
+table_rule_keys text declared (table_rule.Unique columns) = numbers_of_columns text declared columns ∷ []
 table_rule_keys text declared (table_rule.ForeignKey _ _) = []
 
 -- the keys that an element declares, PRIMARY KEY and UNIQUE alike
@@ -58,7 +58,7 @@ element_keys text declared (element.Rule rule) = table_rule_keys text declared r
 abbrev pub target_column_numbers : List ℕ → Option (List Lexeme) → Option TableNode → List ℕ
 target_column_numbers text written None = []
 target_column_numbers text written (Some table) =
-    unwrap_or (option_map (numbers_in text (column_names text table.elements)) (referenced_columns written table.elements)) []
+    unwrap_or (option_map (numbers_of_columns text (column_names text table.elements)) (referenced_columns written table.elements)) []
 
 -- the reference from these columns to a target. The rows of files aren't tested against the reference
 unfoldable pub reference_of : List ℕ → List TableNode → List ℕ → TargetNode → Reference
@@ -68,20 +68,20 @@ reference_of text tables from target = record {
   targets = target_column_numbers text target.columns (target_table text tables target);
 }
 
-abbrev pub rule_references : List ℕ → List TableNode → ℕ → ColumnRule → List Reference
+abbrev pub rule_references : List ℕ → List TableNode → ℕ → ColumnConstraintNode → List Reference
 rule_references text tables number column_rule.NotNull = []
 rule_references text tables number (column_rule.PrimaryKey _) = []
 rule_references text tables number column_rule.Unique = []
 rule_references text tables number (column_rule.References target) = reference_of text tables (number ∷ []) target ∷ []
 
 abbrev pub column_references : List ℕ → List TableNode → List (List ℕ) → ColumnNode → List Reference
-column_references text tables declared column = flat_map (rule_references text tables (number_in text declared column.name)) column.rules
+column_references text tables declared column = flat_map (rule_references text tables (number_of_column text declared column.name)) column.rules
 
-abbrev pub table_rule_references : List ℕ → List TableNode → List (List ℕ) → TableRule → List Reference
+abbrev pub table_rule_references : List ℕ → List TableNode → List (List ℕ) → TableConstraintNode → List Reference
 table_rule_references text tables declared (table_rule.PrimaryKey _ _) = []
 table_rule_references text tables declared (table_rule.Unique _) = []
 table_rule_references text tables declared (table_rule.ForeignKey columns target) =
-    reference_of text tables (numbers_in text declared columns) target ∷ []
+    reference_of text tables (numbers_of_columns text declared columns) target ∷ []
 
 -- the references that an element declares
 abbrev pub element_references : List ℕ → List TableNode → List (List ℕ) → Element → List Reference
@@ -113,9 +113,9 @@ table_of text tables table = record {
 unfoldable pub schema_of : List ℕ → List TableNode → Schema
 schema_of text tables = record { tables = map (table_of text tables) tables }
 
--- ---- the answer
+-- ---- the result
 
--- a refusal with what was found, or the rest if nothing was found
+-- the refusal that `cause` makes of what was found, or `rest` if nothing was found
 abbrev pub unless_found : Option ℕ → (ℕ → SchemaError) → Result Schema SchemaError → Result Schema SchemaError
 unless_found None cause rest = rest
 unless_found (Some found) cause rest = Err (cause found)

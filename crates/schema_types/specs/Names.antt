@@ -18,8 +18,8 @@ unfoldable pub index_of_name : List (List ℕ) → List ℕ → Option ℕ
 index_of_name [] name = None
 index_of_name (other ∷ rest) name = if bytes_eq name other then Some 0 else option_map (λ place. place + 1) (index_of_name rest name)
 
--- the index of a name after one more name was added at index `last`. If the name was in the list before, its index is the old one. If it
--- wasn't, and `same` says that it is the added name, its index is `last`
+-- the index of a name after another name is added at index `last`. A name that was in the list keeps its index. Otherwise its index is `last`, if
+-- `same` says that it is the added name
 abbrev pub index_after_push : Option ℕ → ℕ → Bool → Option ℕ
 index_after_push (Some place) last same = Some place
 index_after_push None last same = if same then Some last else None
@@ -28,7 +28,7 @@ index_after_push None last same = if same then Some last else None
 abbrev pub names_of : List ℕ → List Lexeme → List (List ℕ)
 names_of text tokens = map (name_of text) tokens
 
--- what f gives for the elements of a list, one after another. f also gets the elements before each element
+-- the lists that f gives for the elements, one after another. f takes an element and the elements before it
 unfoldable pub flat_map_with_earlier : {X : Type 0} → (List X → X → List ℕ) → List X → List X → List ℕ
 flat_map_with_earlier f earlier [] = []
 flat_map_with_earlier f earlier (x ∷ rest) = f earlier x ++ flat_map_with_earlier f (earlier ++ x ∷ []) rest

@@ -1,11 +1,11 @@
--- The first column that may be null, and the first limit that is passed.
+-- The first column that may be null, and the first limit that is exceeded.
 use Rattle.std.specs.Prelude.{ℕ, ◌^◌, ◌-◌, Bool, true, false, not, ◌||◌, nat_lt, min, List, [], ◌∷◌, map, filter, length, Option, Some, None}
 use Rattle.std.specs.List.{flat_map, list_any}
 use Rattle.ll_grammars.specs.declared.lexeme.Lexeme.{Lexeme}
 use Rattle.schema_grammar.specs.declared.tree.TypeNode.{TypeNode}
 use Rattle.schema_grammar.specs.declared.tree.TypeNode.TheVariants as type_text
-use Rattle.schema_grammar.specs.declared.tree.ColumnRule.{ColumnRule}
-use Rattle.schema_grammar.specs.declared.tree.ColumnRule.TheVariants as column_rule
+use Rattle.schema_grammar.specs.declared.tree.ColumnConstraintNode.{ColumnConstraintNode}
+use Rattle.schema_grammar.specs.declared.tree.ColumnConstraintNode.TheVariants as column_rule
 use Rattle.schema_grammar.specs.declared.tree.ColumnNode.{ColumnNode}
 use Rattle.schema_grammar.specs.declared.tree.Element.{Element}
 use Rattle.schema_grammar.specs.declared.tree.Element.TheVariants as element
@@ -17,7 +17,7 @@ use Rattle.schema_types.specs.Offences.{is_one_of}
 
 -- ---- nullability
 
-abbrev pub is_not_null : ColumnRule → Bool
+abbrev pub is_not_null : ColumnConstraintNode → Bool
 is_not_null column_rule.NotNull = true
 is_not_null (column_rule.PrimaryKey _) = false
 is_not_null column_rule.Unique = false
@@ -58,7 +58,7 @@ in_64_bits n = min n (2 ^ 64 - 1)
 abbrev pub column_counts : List TableNode → List ℕ
 column_counts tables = map (λ table. length (columns table.elements)) tables
 
--- the length that a type gives to its texts
+-- the greatest length of texts of a type, if it is a text type
 abbrev pub type_lengths : List ℕ → TypeNode → List ℕ
 type_lengths text type_text.Number = []
 type_lengths text (type_text.Text length) = number_of (slice text length.start length.end) ∷ []

@@ -1,4 +1,4 @@
--- Which answers a schema text has.
+-- The results that a schema text may have.
 use Rattle.std.specs.Prelude.{◌≡◌, ℕ, ◌⊎◌, List, map, length, Result, Ok, Err, ⊤}
 use Rattle.ll_grammars.specs.Places.{IsSyntaxErrorAt}
 use Rattle.schema_grammar.specs.declared.tree.TableNode.{TableNode}
@@ -17,19 +17,19 @@ pub record Spells (text : List ℕ) (tables : List TableNode) : Type 0 where
   pub lexed : IsLexed text tokens
   pub spelled : SchemaText (map (lexeme_of text) tokens) tables
 
--- the text has tokens, and these go wrong at this byte offset
+-- the text has tokens, and their syntax error is at this byte offset
 pub record IsUngrammatical (text : List ℕ) (at : ℕ) : Type 0 where
   pub tokens : List Token
   pub lexed : IsLexed text tokens
   pub place : IsSyntaxErrorAt SchemaText (map (lexeme_of text) tokens) (length text) at
 
--- the text spells tables, and this is their schema or refusal
+-- the text spells tables, and this is their schema or the first refusal
 pub record Declares (text : List ℕ) (answer : Result Schema SchemaError) : Type 0 where
   pub tables : List TableNode
   pub spells : Spells text tables
   pub answers : schema_or_refusal text tables ≡ answer
 
--- an answer to a schema text: its schema, or the first refusal in the order Syntax, Name, Nullable, Limit, or that memory ran out
+-- a result for a schema text: its schema, or the first refusal in the order Syntax, Name, Nullable, Limit. `NoMemory` is always allowed
 abbrev pub IsSchemaOf : List ℕ → Result Schema SchemaError → Type 0
 IsSchemaOf text (Ok schema) = Declares text (Ok schema)
 IsSchemaOf text (Err (error.Syntax at)) = IsBad text at ⊎ IsUngrammatical text at

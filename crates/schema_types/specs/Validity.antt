@@ -18,7 +18,7 @@ Differ names = AllPairs (λ a b. upper_case a ≢ upper_case b) names
 abbrev pub is_plain : List ℕ → Bool
 is_plain name = list_all (λ c. is_ascii_alphanumeric c || c == 95) name
 
--- the columns that a list names are columns of a table
+-- a table has columns with these numbers
 abbrev pub AreColumnsOf : Table → List ℕ → Type 0
 AreColumnsOf table columns = All (λ column. column < length table.columns) columns
 

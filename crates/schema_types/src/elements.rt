@@ -1,14 +1,14 @@
-//! Checks the elements of a table: columns and rules.
+//! Checks the elements of a table: columns and constraints.
 ghost use Rattle.std.specs.Prelude.{◌≡◌, ℕ, ◌||◌, [], ◌∷◌, ◌++◌, Bool, List, All, map, OnOk};
 ghost use Rattle.std.specs.List.{list_any};
 ghost use Rattle.sql_tokens.specs.Words.{IsLexemeOf, name_of};
-ghost use Rattle.schema_grammar.specs.declared.tree.ColumnRule.{ColumnRule};
+ghost use Rattle.schema_grammar.specs.declared.tree.ColumnConstraintNode.{ColumnConstraintNode};
 ghost use Rattle.schema_grammar.specs.declared.tree.Element.{Element};
-ghost use Rattle.schema_grammar.specs.Lexemes.{IsNameOf, IsColumnRuleOf, IsColumnOf, IsTableRuleOf, IsElementOf};
+ghost use Rattle.schema_grammar.specs.Lexemes.{IsNameWith, IsColumnConstraintWith, IsColumnWith, IsTableConstraintWith, IsElementWith};
 ghost use Rattle.schema_types.specs.Declarations.{column_names, is_primary_rule};
 ghost use Rattle.schema_types.specs.Names.{list_if, flat_map_with_all_earlier};
 ghost use Rattle.schema_types.specs.Offences.{is_primary, is_taken, rule_offences, column_offences, table_rule_offences, element_offences};
-ghost use Rattle.schema_types.specs.Finds.{Finds};
+ghost use Rattle.schema_types.specs.Finds.{IsNameCheckOf};
 ghost use Rattle.schema_types.specs.Validity.{upper_case};
 
 use crate::SchemaError;
@@ -17,14 +17,14 @@ use crate::lists::check_list;
 use crate::name_list::NameList;
 use crate::scope::Scope;
 use ll_grammars::Lexeme;
-use schema_grammar::{ColumnNode, ColumnRule, Element, TableRule};
+use schema_grammar::{ColumnConstraintNode, ColumnNode, Element, TableConstraintNode};
 use sql_tokens::name;
 
-// Whether a rule, or one before it (`keyed`), is a primary key.
-fn is_keyed_after_rule(keyed: bool, rule: &ColumnRule) -> bool
+// Whether `keyed` is true or the constraint is a primary key.
+fn is_keyed_after_rule(keyed: bool, rule: &ColumnConstraintNode) -> bool
     ensures { result ≡ (keyed || is_primary_rule rule.now) }
 {
-    keyed || matches!(rule, ColumnRule::PrimaryKey { .. })
+    keyed || matches!(rule, ColumnConstraintNode::PrimaryKey { .. })
 }
 
 // Whether an element declares a primary key.
@@ -34,14 +34,14 @@ fn is_primary_element(element: &Element) -> bool
     match element {
         Element::Column(column) => is_primary(column.rules.as_slice()),
         Element::Rule(rule) => match rule {
-            TableRule::PrimaryKey { .. } => true,
-            TableRule::Unique { .. } => false,
-            TableRule::ForeignKey { .. } => false,
+            TableConstraintNode::PrimaryKey { .. } => true,
+            TableConstraintNode::Unique { .. } => false,
+            TableConstraintNode::ForeignKey { .. } => false,
         },
     }
 }
 
-// Whether an element, or one before it (`keyed`), declares a primary key.
+// Whether `keyed` is true or the element declares a primary key.
 fn is_keyed_after(keyed: bool, element: &Element) -> bool
     ensures { result ≡ (keyed || is_primary element.now) }
 {
@@ -49,31 +49,31 @@ fn is_keyed_after(keyed: bool, element: &Element) -> bool
 }
 
 impl Scope<'_> {
-    // Checks a column's rule. `keyed` says whether the table has a primary key before this rule.
+    // Checks a column's constraint. `keyed` says whether the table has a primary key before this constraint.
     #[tactic(auto, unfolding(crate::specs::Offences::rule_offences))]
-    fn check_rule(&self, keyed: bool, rule: &ColumnRule) -> Result<(), SchemaError>
-        requires { IsColumnRuleOf (IsLexemeOf self.now.text.now) rule.now }
-        ensures { (before : Bool) (earlier : List ColumnRule) → keyed ≡ (before || list_any is_primary_rule earlier)
-            → Finds result (rule_offences self.now.text.now self.now.tables.now before earlier rule.now) }
+    fn check_rule(&self, keyed: bool, rule: &ColumnConstraintNode) -> Result<(), SchemaError>
+        requires { IsColumnConstraintWith (IsLexemeOf self.now.text.now) rule.now }
+        ensures { (before : Bool) (earlier : List ColumnConstraintNode) → keyed ≡ (before || list_any is_primary_rule earlier)
+            → IsNameCheckOf result (rule_offences self.now.text.now self.now.tables.now before earlier rule.now) }
     {
         match rule {
-            ColumnRule::NotNull => Ok(()),
-            ColumnRule::PrimaryKey { word } => {
+            ColumnConstraintNode::NotNull => Ok(()),
+            ColumnConstraintNode::PrimaryKey { word } => {
                 if keyed {
                     return Err(SchemaError::Name { at: word.start });
                 }
                 Ok(())
             }
-            ColumnRule::Unique => Ok(()),
-            ColumnRule::References(target) => self.check_target(1, target),
+            ColumnConstraintNode::Unique => Ok(()),
+            ColumnConstraintNode::References(target) => self.check_target(1, target),
         }
     }
 
-    // Checks a column's rules. `keyed` says whether the table has a primary key before the column.
-    #[tactic(auto, using(crate::proofs::EarlierChecks::told_none))]
-    fn check_rules(&self, keyed: bool, rules: &[ColumnRule]) -> Result<(), SchemaError>
-        requires { All (IsColumnRuleOf (IsLexemeOf self.now.text.now)) rules.now }
-        ensures { Finds result (flat_map_with_all_earlier (rule_offences self.now.text.now self.now.tables.now keyed) rules.now) }
+    // Checks a column's constraints. `keyed` says whether the table has a primary key before the column.
+    #[tactic(auto, using(crate::proofs::EarlierChecks::check_none))]
+    fn check_rules(&self, keyed: bool, rules: &[ColumnConstraintNode]) -> Result<(), SchemaError>
+        requires { All (IsColumnConstraintWith (IsLexemeOf self.now.text.now)) rules.now }
+        ensures { IsNameCheckOf result (flat_map_with_all_earlier (rule_offences self.now.text.now self.now.tables.now keyed) rules.now) }
     {
         let mut keyed_here = keyed;
         'rules: for rule in rules {
@@ -83,12 +83,12 @@ impl Scope<'_> {
         Ok(())
     }
 
-    /// Adds a name to the names that are taken. In ASCII upper case it has to differ from all of these.
-    #[tactic(auto, using(crate::proofs::NameIndexes::stands_in_is))]
+    /// Adds a name to the taken names. In ASCII upper case it has to differ from each of them.
+    #[tactic(auto, using(crate::proofs::NameIndexes::is_one_of_by_index))]
     pub fn take_name(&self, taken: &mut NameList, token: &Lexeme) -> Result<(), SchemaError>
-        requires { IsNameOf (IsLexemeOf self.now.text.now) token.now }
+        requires { IsNameWith (IsLexemeOf self.now.text.now) token.now }
         ensures offence { (before : List (List ℕ)) → taken.old ≡ map upper_case before
-            → Finds result (list_if (is_taken (name_of self.now.text.now token.now) before) token.now.start) }
+            → IsNameCheckOf result (list_if (is_taken (name_of self.now.text.now token.now) before) token.now.start) }
         ensures added { OnOk result (taken.new ≡ taken.old ++ upper_case (name_of self.now.text.now token.now) ∷ []) }
     {
         let name = name(self.alloc, self.text, token)?;
@@ -108,46 +108,46 @@ impl Scope<'_> {
         taken: &mut NameList,
         column: &ColumnNode,
     ) -> Result<(), SchemaError>
-        requires { IsColumnOf (IsLexemeOf self.now.text.now) column.now }
+        requires { IsColumnWith (IsLexemeOf self.now.text.now) column.now }
         ensures offence { (before : List Element) → keyed ≡ list_any is_primary before
             → taken.old ≡ map upper_case (column_names self.now.text.now before)
-            → Finds result (column_offences self.now.text.now self.now.tables.now before column.now) }
+            → IsNameCheckOf result (column_offences self.now.text.now self.now.tables.now before column.now) }
         ensures added { OnOk result (taken.new ≡ taken.old ++ upper_case (name_of self.now.text.now column.now.name) ∷ []) }
     {
         self.take_name(taken, &column.name)?;
         self.check_rules(keyed, column.rules.as_slice())
     }
 
-    // Checks a rule of a table with these columns. `keyed` says whether the table has a primary key before this rule.
+    // Checks a constraint of a table. `declared` are the table's columns. `keyed` says whether the table has a primary key before this constraint.
     #[tactic(auto, unfolding(crate::specs::Offences::table_rule_offences))]
     fn check_table_rule(
         &self,
         declared: &NameList,
         keyed: bool,
-        rule: &TableRule,
+        rule: &TableConstraintNode,
     ) -> Result<(), SchemaError>
-        requires { IsTableRuleOf (IsLexemeOf self.now.text.now) rule.now }
+        requires { IsTableConstraintWith (IsLexemeOf self.now.text.now) rule.now }
         ensures { (before : List Element) → keyed ≡ list_any is_primary before
-            → Finds result (table_rule_offences self.now.text.now self.now.tables.now declared.now before rule.now) }
+            → IsNameCheckOf result (table_rule_offences self.now.text.now self.now.tables.now declared.now before rule.now) }
     {
         match rule {
-            TableRule::PrimaryKey { word, columns } => {
+            TableConstraintNode::PrimaryKey { word, columns } => {
                 if keyed {
                     return Err(SchemaError::Name { at: word.start });
                 }
                 check_list(self.alloc, self.text, declared, columns.as_slice())
             }
-            TableRule::Unique { columns } => {
+            TableConstraintNode::Unique { columns } => {
                 check_list(self.alloc, self.text, declared, columns.as_slice())
             }
-            TableRule::ForeignKey { columns, target } => {
+            TableConstraintNode::ForeignKey { columns, target } => {
                 check_list(self.alloc, self.text, declared, columns.as_slice())?;
                 self.check_target(columns.len(), target)
             }
         }
     }
 
-    // Checks an element of a table with these columns.
+    // Checks an element of a table. `declared` are the table's columns.
     #[tactic(auto, unfolding(crate::specs::Offences::element_offences))]
     fn check_element(
         &self,
@@ -156,10 +156,10 @@ impl Scope<'_> {
         taken: &mut NameList,
         element: &Element,
     ) -> Result<(), SchemaError>
-        requires { IsElementOf (IsLexemeOf self.now.text.now) element.now }
+        requires { IsElementWith (IsLexemeOf self.now.text.now) element.now }
         ensures offence { (before : List Element) → keyed ≡ list_any is_primary before
             → taken.old ≡ map upper_case (column_names self.now.text.now before)
-            → Finds result (element_offences self.now.text.now self.now.tables.now declared.now before element.now) }
+            → IsNameCheckOf result (element_offences self.now.text.now self.now.tables.now declared.now before element.now) }
         ensures added { OnOk result (taken.new ≡ taken.old ++ map upper_case (column_names self.now.text.now (element.now ∷ []))) }
     {
         match element {
@@ -168,15 +168,15 @@ impl Scope<'_> {
         }
     }
 
-    /// Checks the elements of a table with these columns.
-    #[tactic(auto, using(crate::proofs::EarlierChecks::told_none))]
+    /// Checks the elements of a table. `declared` are the table's columns.
+    #[tactic(auto, using(crate::proofs::EarlierChecks::check_none))]
     pub fn check_elements(
         &self,
         declared: &NameList,
         elements: &[Element],
     ) -> Result<(), SchemaError>
-        requires { All (IsElementOf (IsLexemeOf self.now.text.now)) elements.now }
-        ensures { Finds result (flat_map_with_all_earlier (element_offences self.now.text.now self.now.tables.now declared.now) elements.now) }
+        requires { All (IsElementWith (IsLexemeOf self.now.text.now)) elements.now }
+        ensures { IsNameCheckOf result (flat_map_with_all_earlier (element_offences self.now.text.now self.now.tables.now declared.now) elements.now) }
     {
         let mut taken = NameList::new(self.alloc);
         let mut keyed = false;

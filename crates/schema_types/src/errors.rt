@@ -5,7 +5,7 @@ ghost use Rattle.schema_types.specs.declared.errors.SchemaError.TheVariants as e
 use base_io::NoMemory;
 use std::alloc::{AllocError, AllocFailed};
 
-/// Which limit an input passes.
+/// The limit that an input exceeds.
 #[derive(Clone, Copy, Debug, PartialEq, Eq)]
 pub enum LimitKind {
     FileBytes,
@@ -23,13 +23,13 @@ pub enum LimitKind {
 /// Why no schema was read. `at` is an offset in the text, in bytes from 0.
 #[derive(Clone, Copy, Debug, PartialEq, Eq)]
 pub enum SchemaError {
-    /// The text doesn't follow the grammar: it goes wrong at this offset.
+    /// The text doesn't follow the grammar. Its first error is at this offset.
     Syntax { at: u32 },
     /// A rule on names is broken at this offset.
     Name { at: u32 },
     /// The column whose name begins at this offset may be null.
     Nullable { at: u32 },
-    /// The limit `which` is passed. `found` is the number that passes it, or 2^64 - 1 if this number is larger.
+    /// The limit `which` is exceeded. `found` is the number above the limit, or 2^64 - 1 if that number is larger.
     Limit { which: LimitKind, found: u64 },
     NoMemory,
 }

@@ -1,18 +1,18 @@
-//! What look-ups need to know of a table.
+//! The index of a table, for look-ups of columns and keys.
 ghost use Rattle.std.specs.Prelude.{◌≡◌, ℕ, [], List, Option, All, IfOk, option_map, unwrap_or};
 ghost use Rattle.ll_grammars.specs.declared.lexeme.Lexeme.{Lexeme};
 ghost use Rattle.std.specs.List.{list_any};
 ghost use Rattle.sql_tokens.specs.Words.{IsLexemeOf};
-ghost use Rattle.schema_grammar.specs.Lexemes.{IsNameOf, IsTableRuleOf, IsColumnOf, IsElementOf, IsTableOf};
+ghost use Rattle.schema_grammar.specs.Lexemes.{IsNameWith, IsTableConstraintWith, IsColumnWith, IsElementWith, IsTableWith};
 ghost use Rattle.schema_types.specs.Names.{first, names_of};
 ghost use Rattle.schema_types.specs.Declarations.{column_names, primary_key, element_primary_key, rule_primary_key, column_primary_key, is_primary_rule};
 ghost use Rattle.schema_types.specs.Index.{table_index};
-ghost use Rattle.schema_types.specs.Numbers.{numbers_in};
+ghost use Rattle.schema_types.specs.Numbers.{numbers_of_columns};
 
 use crate::name_list::NameList;
 use base_io::{NoMemory, Seq};
 use ll_grammars::Lexeme;
-use schema_grammar::{ColumnNode, ColumnRule, Element, TableNode, TableRule};
+use schema_grammar::{ColumnConstraintNode, ColumnNode, Element, TableConstraintNode, TableNode};
 use sql_tokens::name;
 use std::alloc::Global;
 
@@ -26,7 +26,7 @@ pub struct TableIndex {
 
 /// The names of tokens.
 pub fn name_list(alloc: Global, text: &[u8], tokens: &[Lexeme]) -> Result<NameList, NoMemory>
-    requires { All (IsNameOf (IsLexemeOf text.now)) tokens.now }
+    requires { All (IsNameWith (IsLexemeOf text.now)) tokens.now }
     ensures { IfOk result (λ found. found ≡ names_of text.now tokens.now) }
 {
     let mut found = NameList::new(alloc);
@@ -38,7 +38,7 @@ pub fn name_list(alloc: Global, text: &[u8], tokens: &[Lexeme]) -> Result<NameLi
 }
 
 fn column_names(alloc: Global, text: &[u8], elements: &[Element]) -> Result<NameList, NoMemory>
-    requires { All (IsElementOf (IsLexemeOf text.now)) elements.now }
+    requires { All (IsElementWith (IsLexemeOf text.now)) elements.now }
     ensures { IfOk result (λ found. found ≡ column_names text.now elements.now) }
 {
     let mut found = NameList::new(alloc);
@@ -51,31 +51,33 @@ fn column_names(alloc: Global, text: &[u8], elements: &[Element]) -> Result<Name
     Ok(found)
 }
 
-/// Whether a column's rules make it a primary key.
-pub fn is_primary(rules: &[ColumnRule]) -> bool
+/// Whether a column's constraints make it a primary key.
+pub fn is_primary(rules: &[ColumnConstraintNode]) -> bool
     ensures { result ≡ list_any is_primary_rule rules.now }
 {
-    rules
-        .iter()
-        .any(|rule| matches!(rule, ColumnRule::PrimaryKey { .. }))
+    rules.iter().any(|rule| matches!(rule, ColumnConstraintNode::PrimaryKey { .. }))
 }
 
-fn rule_key(alloc: Global, text: &[u8], rule: &TableRule) -> Result<Option<NameList>, NoMemory>
-    requires { IsTableRuleOf (IsLexemeOf text.now) rule.now }
+fn rule_key(
+    alloc: Global,
+    text: &[u8],
+    rule: &TableConstraintNode,
+) -> Result<Option<NameList>, NoMemory>
+    requires { IsTableConstraintWith (IsLexemeOf text.now) rule.now }
     ensures { IfOk result (λ found. found ≡ option_map (names_of text.now) (first (rule_primary_key rule.now))) }
 {
     match rule {
-        TableRule::PrimaryKey { columns, .. } => {
+        TableConstraintNode::PrimaryKey { columns, .. } => {
             let key = name_list(alloc, text, columns.as_slice())?;
             Ok(Some(key))
         }
-        TableRule::Unique { .. } => Ok(None),
-        TableRule::ForeignKey { .. } => Ok(None),
+        TableConstraintNode::Unique { .. } => Ok(None),
+        TableConstraintNode::ForeignKey { .. } => Ok(None),
     }
 }
 
 fn column_key(alloc: Global, text: &[u8], column: &ColumnNode) -> Result<Option<NameList>, NoMemory>
-    requires { IsColumnOf (IsLexemeOf text.now) column.now }
+    requires { IsColumnWith (IsLexemeOf text.now) column.now }
     ensures { IfOk result (λ found. found ≡ option_map (names_of text.now) (first (column_primary_key column.now))) }
 {
     if is_primary(column.rules.as_slice()) {
@@ -87,7 +89,7 @@ fn column_key(alloc: Global, text: &[u8], column: &ColumnNode) -> Result<Option<
 
 // The names in the primary key that an element declares.
 fn element_key(alloc: Global, text: &[u8], element: &Element) -> Result<Option<NameList>, NoMemory>
-    requires { IsElementOf (IsLexemeOf text.now) element.now }
+    requires { IsElementWith (IsLexemeOf text.now) element.now }
     ensures { IfOk result (λ found. found ≡ option_map (names_of text.now) (first (element_primary_key element.now))) }
 {
     match element {
@@ -103,7 +105,7 @@ fn primary_key(
     text: &[u8],
     elements: &[Element],
 ) -> Result<Option<NameList>, NoMemory>
-    requires { All (IsElementOf (IsLexemeOf text.now)) elements.now }
+    requires { All (IsElementWith (IsLexemeOf text.now)) elements.now }
     ensures { IfOk result (λ found. found ≡ option_map (names_of text.now) (primary_key elements.now)) }
 {
     'elements: for element in elements {
@@ -123,18 +125,18 @@ fn key_numbers(
     key: &Option<NameList>,
 ) -> Result<Seq<u32>, NoMemory>
     ensures { (text : List ℕ) (written : Option (List Lexeme)) → key.now ≡ option_map (names_of text) written
-        → IfOk result (λ found. found ≡ unwrap_or (option_map (numbers_in text columns.now) written) []) }
+        → IfOk result (λ found. found ≡ unwrap_or (option_map (numbers_of_columns text columns.now) written) []) }
 {
     match key {
         None => Ok(Seq::new(alloc)),
-        Some(names) => names.numbers_in(alloc, columns),
+        Some(names) => names.numbers_of_columns(alloc, columns),
     }
 }
 
-/// The index of a table.
+/// Makes the index of a table.
 #[tactic(auto, unfolding(crate::specs::Index::table_index))]
 pub fn index_table(alloc: Global, text: &[u8], table: &TableNode) -> Result<TableIndex, NoMemory>
-    requires { IsTableOf (IsLexemeOf text.now) table.now }
+    requires { IsTableWith (IsLexemeOf text.now) table.now }
     ensures { IfOk result (λ found. found ≡ table_index text.now table.now) }
 {
     let elements = table.elements.as_slice();

@@ -1,9 +1,9 @@
-//! Schema texts: from the bytes of a schema file to its tables.
+//! Reads the bytes of a schema file into a schema.
 //!
-//! This is the first stage after the files are read. It finds the tokens of a text (`sql_tokens`) and the tables that they spell (`schema_grammar`),
-//! and then checks names, nullability and limits. Callers cite `IsSchemaOf` (in `specs/Texts.antt`), which says which answers each text has, and
-//! `IsValid` (in `specs/Validity.antt`), which says what is true of every schema that was read. `NameList` is a list of names with a look-up:
-//! from a name to its index. Later stages use `NameList` too.
+//! This is the first stage after the files are read. It finds the tokens of a text (`sql_tokens`) and the tables that they spell (`schema_grammar`).
+//! Then it checks names, nullability and limits. `IsSchemaOf` (in `specs/Texts.antt`) says which results a text may have. `IsValid` (in
+//! `specs/Validity.antt`) says what is true of every schema that was read. Later stages use `NameList` too: a list of names that finds the index of a
+//! name.
 #![tactic(auto)]
 
 mod answer;

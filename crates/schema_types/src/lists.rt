@@ -2,10 +2,10 @@
 ghost use Rattle.std.specs.Prelude.{◌≡◌, [], ◌∷◌, ◌++◌, All, List, OnOk};
 ghost use Rattle.ll_grammars.specs.declared.lexeme.Lexeme.{Lexeme};
 ghost use Rattle.sql_tokens.specs.Words.{IsLexemeOf, name_of};
-ghost use Rattle.schema_grammar.specs.Lexemes.{IsNameOf};
+ghost use Rattle.schema_grammar.specs.Lexemes.{IsNameWith};
 ghost use Rattle.schema_types.specs.Names.{names_of};
 ghost use Rattle.schema_types.specs.Offences.{listed_offences, list_offences};
-ghost use Rattle.schema_types.specs.Finds.{Finds};
+ghost use Rattle.schema_types.specs.Finds.{IsNameCheckOf};
 
 use crate::SchemaError;
 use crate::name_list::NameList;
@@ -13,8 +13,8 @@ use ll_grammars::Lexeme;
 use sql_tokens::name;
 use std::alloc::Global;
 
-// Checks a column of a list, and adds its name to the names of the columns before it.
-#[tactic(auto, using(crate::proofs::NameIndexes::stands_in_is), unfolding(crate::specs::Offences::listed_offences))]
+// Checks a column of a list, and adds its name to `earlier`, the names before it in the list.
+#[tactic(auto, using(crate::proofs::NameIndexes::is_one_of_by_index), unfolding(crate::specs::Offences::listed_offences))]
 fn check_listed(
     alloc: Global,
     text: &[u8],
@@ -22,9 +22,9 @@ fn check_listed(
     earlier: &mut NameList,
     column: &Lexeme,
 ) -> Result<(), SchemaError>
-    requires { IsNameOf (IsLexemeOf text.now) column.now }
+    requires { IsNameWith (IsLexemeOf text.now) column.now }
     ensures offence { (before : List Lexeme) → earlier.old ≡ names_of text.now before
-        → Finds result (listed_offences text.now declared.now before column.now) }
+        → IsNameCheckOf result (listed_offences text.now declared.now before column.now) }
     ensures added { OnOk result (earlier.new ≡ earlier.old ++ name_of text.now column.now ∷ []) }
 {
     let name = name(alloc, text, column)?;
@@ -37,16 +37,16 @@ fn check_listed(
     Ok(())
 }
 
-/// Checks a list of columns of a table: the table declares each of them, and the list has no column twice.
-#[tactic(auto, using(crate::proofs::EarlierChecks::told_none), unfolding(crate::specs::Offences::list_offences))]
+/// Checks a list of columns: the table declares each column, and no column is in the list twice.
+#[tactic(auto, using(crate::proofs::EarlierChecks::check_none), unfolding(crate::specs::Offences::list_offences))]
 pub fn check_list(
     alloc: Global,
     text: &[u8],
     declared: &NameList,
     columns: &[Lexeme],
 ) -> Result<(), SchemaError>
-    requires { All (IsNameOf (IsLexemeOf text.now)) columns.now }
-    ensures { Finds result (list_offences text.now declared.now columns.now) }
+    requires { All (IsNameWith (IsLexemeOf text.now)) columns.now }
+    ensures { IsNameCheckOf result (list_offences text.now declared.now columns.now) }
 {
     let mut earlier = NameList::new(alloc);
     'columns: for column in columns {

@@ -10,7 +10,7 @@ use std::alloc::Global;
 use std::collections::HashMap;
 use std::marker::Model;
 
-/// A list of names. In contracts it is a list of the bytes of each name. The list finds the first index of a name with one look-up.
+/// A list of names that finds the first index of a name with one look-up. Contracts see a name as its bytes.
 #[derive(Drop)]
 pub struct NameList {
     names: Vec<String>,
@@ -65,8 +65,12 @@ impl NameList {
         self.places.get(name).copied()
     }
 
-    /// The indexes of these names in another list, and 0 for a name that isn't in that list.
-    pub fn numbers_in(&self, alloc: Global, declared: &NameList) -> Result<Seq<u32>, NoMemory>
+    /// The index of each name in the list `declared`, and 0 for a name that isn't there.
+    pub fn numbers_of_columns(
+        &self,
+        alloc: Global,
+        declared: &NameList,
+    ) -> Result<Seq<u32>, NoMemory>
         ensures { IfOk result (λ found. found ≡ map (number_of_name declared.now) self.now) }
     {
         let mut found = Seq::new(alloc);

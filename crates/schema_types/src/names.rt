@@ -2,11 +2,11 @@
 ghost use Rattle.std.specs.Prelude.{◌≡◌, ℕ, not, ◌||◌, [], ◌∷◌, ◌++◌, List, All, map, OnOk};
 ghost use Rattle.sql_tokens.specs.Words.{IsLexemeOf, name_of};
 ghost use Rattle.schema_grammar.specs.declared.tree.TableNode.{TableNode};
-ghost use Rattle.schema_grammar.specs.Lexemes.{IsNameOf, IsTableOf};
+ghost use Rattle.schema_grammar.specs.Lexemes.{IsNameWith, IsTableWith};
 ghost use Rattle.schema_types.specs.Declarations.{table_names};
 ghost use Rattle.schema_types.specs.Index.{table_index};
 ghost use Rattle.schema_types.specs.Offences.{is_taken, table_offences, offences};
-ghost use Rattle.schema_types.specs.Finds.{Finds};
+ghost use Rattle.schema_types.specs.Finds.{IsNameCheckOf};
 ghost use Rattle.schema_types.specs.Names.{list_if};
 ghost use Rattle.schema_types.specs.Validity.{upper_case, is_plain};
 
@@ -28,11 +28,11 @@ fn is_plain(name: &str) -> bool
 }
 
 impl Scope<'_> {
-    // Checks a table's name, and adds it to the names that are taken.
+    // Checks a table's name, and adds it to the taken names.
     fn check_table_name(&self, taken: &mut NameList, token: &Lexeme) -> Result<(), SchemaError>
-        requires { IsNameOf (IsLexemeOf self.now.text.now) token.now }
+        requires { IsNameWith (IsLexemeOf self.now.text.now) token.now }
         ensures offence { (before : List (List ℕ)) → taken.old ≡ map upper_case before
-            → Finds result
+            → IsNameCheckOf result
             (list_if (not (is_plain (name_of self.now.text.now token.now)) || is_taken (name_of self.now.text.now token.now) before)
             token.now.start) }
         ensures added { OnOk result (taken.new ≡ taken.old ++ upper_case (name_of self.now.text.now token.now) ∷ []) }
@@ -52,10 +52,10 @@ impl Scope<'_> {
         table: &TableNode,
         index: &TableIndex,
     ) -> Result<(), SchemaError>
-        requires tokens { IsTableOf (IsLexemeOf self.now.text.now) table.now }
+        requires tokens { IsTableWith (IsLexemeOf self.now.text.now) table.now }
         requires indexed { index.now ≡ table_index self.now.text.now table.now }
         ensures offence { (before : List TableNode) → taken.old ≡ map upper_case (table_names self.now.text.now before)
-            → Finds result (table_offences self.now.text.now self.now.tables.now before table.now) }
+            → IsNameCheckOf result (table_offences self.now.text.now self.now.tables.now before table.now) }
         ensures added { OnOk result (taken.new ≡ taken.old ++ upper_case (name_of self.now.text.now table.now.name) ∷ []) }
     {
         self.check_table_name(taken, &table.name)?;
@@ -63,10 +63,10 @@ impl Scope<'_> {
     }
 
     /// Checks all rules on names.
-    #[tactic(auto, using(crate::proofs::EarlierChecks::told_none), unfolding(crate::specs::Offences::offences))]
+    #[tactic(auto, using(crate::proofs::EarlierChecks::check_none), unfolding(crate::specs::Offences::offences))]
     pub fn check_names(&self) -> Result<(), SchemaError>
-        requires { All (IsTableOf (IsLexemeOf self.now.text.now)) self.now.tables.now }
-        ensures { Finds result (offences self.now.text.now self.now.tables.now) }
+        requires { All (IsTableWith (IsLexemeOf self.now.text.now)) self.now.tables.now }
+        ensures { IsNameCheckOf result (offences self.now.text.now self.now.tables.now) }
     {
         let mut taken = NameList::new(self.alloc);
         'tables: for (i, table) in self.tables.iter().enumerate() {

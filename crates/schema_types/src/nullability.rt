@@ -2,7 +2,7 @@
 ghost use Rattle.std.specs.Prelude.{◌≡◌, [], All, IfOk, unwrap_or};
 ghost use Rattle.std.specs.List.{list_any, flat_map};
 ghost use Rattle.sql_tokens.specs.Words.{IsLexemeOf, name_of};
-ghost use Rattle.schema_grammar.specs.Lexemes.{IsNameOf, IsColumnOf, IsElementOf, IsTableOf};
+ghost use Rattle.schema_grammar.specs.Lexemes.{IsNameWith, IsColumnWith, IsElementWith, IsTableWith};
 ghost use Rattle.schema_types.specs.Index.{table_index};
 ghost use Rattle.schema_types.specs.Names.{list_if};
 ghost use Rattle.schema_types.specs.Offences.{is_one_of};
@@ -15,20 +15,22 @@ use crate::name_list::NameList;
 use crate::scope::Scope;
 use base_io::NoMemory;
 use ll_grammars::Lexeme;
-use schema_grammar::{ColumnNode, ColumnRule, Element, TableNode};
+use schema_grammar::{ColumnConstraintNode, ColumnNode, Element, TableNode};
 use sql_tokens::name;
 
-fn is_not_null(rules: &[ColumnRule]) -> bool
+fn is_not_null(rules: &[ColumnConstraintNode]) -> bool
     ensures { result ≡ list_any is_not_null rules.now }
 {
-    rules.iter().any(|rule| matches!(rule, ColumnRule::NotNull))
+    rules
+        .iter()
+        .any(|rule| matches!(rule, ColumnConstraintNode::NotNull))
 }
 
 impl Scope<'_> {
     // Whether a name is in a primary key, if there is one.
-    #[tactic(auto, using(crate::proofs::NameIndexes::stands_in_is))]
+    #[tactic(auto, using(crate::proofs::NameIndexes::is_one_of_by_index))]
     fn is_in_key(&self, key: &Option<NameList>, token: &Lexeme) -> Result<bool, NoMemory>
-        requires { IsNameOf (IsLexemeOf self.now.text.now) token.now }
+        requires { IsNameWith (IsLexemeOf self.now.text.now) token.now }
         ensures { IfOk result (λ found. found ≡ is_one_of (name_of self.now.text.now token.now) (unwrap_or key.now [])) }
     {
         match key {
@@ -45,7 +47,7 @@ impl Scope<'_> {
         key: &Option<NameList>,
         column: &ColumnNode,
     ) -> Result<(), SchemaError>
-        requires { IsColumnOf (IsLexemeOf self.now.text.now) column.now }
+        requires { IsColumnWith (IsLexemeOf self.now.text.now) column.now }
         ensures { FindsNullable result (list_if (is_nullable self.now.text.now (unwrap_or key.now []) column.now) column.now.name.start) }
     {
         if is_not_null(column.rules.as_slice()) {
@@ -64,7 +66,7 @@ impl Scope<'_> {
         key: &Option<NameList>,
         element: &Element,
     ) -> Result<(), SchemaError>
-        requires { IsElementOf (IsLexemeOf self.now.text.now) element.now }
+        requires { IsElementWith (IsLexemeOf self.now.text.now) element.now }
         ensures { FindsNullable result (nullable_element self.now.text.now (unwrap_or key.now []) element.now) }
     {
         match element {
@@ -79,7 +81,7 @@ impl Scope<'_> {
         key: &Option<NameList>,
         elements: &[Element],
     ) -> Result<(), SchemaError>
-        requires { All (IsElementOf (IsLexemeOf self.now.text.now)) elements.now }
+        requires { All (IsElementWith (IsLexemeOf self.now.text.now)) elements.now }
         ensures { FindsNullable result (flat_map (nullable_element self.now.text.now (unwrap_or key.now [])) elements.now) }
     {
         'elements: for element in elements {
@@ -91,7 +93,7 @@ impl Scope<'_> {
     // Checks a table, given its index.
     #[tactic(auto, using(crate::proofs::Flat::key_is), unfolding(crate::specs::Refusals::nullable_in, crate::specs::Index::table_index))]
     fn check_table_null(&self, table: &TableNode, index: &TableIndex) -> Result<(), SchemaError>
-        requires tokens { IsTableOf (IsLexemeOf self.now.text.now) table.now }
+        requires tokens { IsTableWith (IsLexemeOf self.now.text.now) table.now }
         requires indexed { index.now ≡ table_index self.now.text.now table.now }
         ensures { FindsNullable result (nullable_in self.now.text.now table.now) }
     {
@@ -101,7 +103,7 @@ impl Scope<'_> {
     /// Checks all columns: no column may be null.
     #[tactic(auto, unfolding(crate::specs::Refusals::nullable_offsets))]
     pub fn check_nullability(&self) -> Result<(), SchemaError>
-        requires { All (IsTableOf (IsLexemeOf self.now.text.now)) self.now.tables.now }
+        requires { All (IsTableWith (IsLexemeOf self.now.text.now)) self.now.tables.now }
         ensures { FindsNullable result (nullable_offsets self.now.text.now self.now.tables.now) }
     {
         'tables: for (i, table) in self.tables.iter().enumerate() {

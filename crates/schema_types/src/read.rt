@@ -1,4 +1,4 @@
-//! Reads a schema text as a whole.
+//! Reads a schema text.
 ghost use Rattle.std.specs.Prelude.{◌≡◌, ◌≤◌, All, IfOk, IfErr, length};
 ghost use Rattle.limits.specs.Profile.{most_text};
 ghost use Rattle.sql_tokens.specs.Words.{IsLexemeOf};
@@ -32,7 +32,7 @@ fn read_lexemes(alloc: Global, text: &[u8]) -> Result<Seq<Lexeme>, SchemaError>
     }
 }
 
-// The answer to a text.
+// The schema of a text, or the first refusal.
 #[tactic(auto, using(crate::proofs::Stages::answered, crate::proofs::Stages::spells_from, crate::proofs::Stages::lie_in))]
 fn answer(alloc: Global, text: &[u8]) -> Result<Schema, SchemaError>
     requires { length text.now ≤ most_text }
@@ -46,9 +46,9 @@ fn answer(alloc: Global, text: &[u8]) -> Result<Schema, SchemaError>
     }
 }
 
-/// Reads a schema text (SQL-92 11.3, 11.4, 11.7 and 11.8 in this profile). The answer is its schema, or the first refusal in the order Syntax,
-/// Name, Nullable, Limit. Each of these is the first of its kind in the text. Offsets count the bytes of the text from 0, a byte order mark
-/// included. The text has at most 1,048,576 bytes.
+/// Reads a schema text (SQL-92 11.3, 11.4, 11.7 and 11.8 in this profile). The result is its schema, or the first refusal in the order Syntax, Name,
+/// Nullable, Limit. Each refusal is the first of its kind in the text. Offsets count the bytes of the text from 0, a byte order mark included. The
+/// text has at most 1,048,576 bytes.
 #[tactic(auto, using(crate::proofs::Valid::answers_valid))]
 pub fn read_schema(alloc: Global, text: &[u8]) -> Result<Schema, SchemaError>
     requires { length text.now ≤ most_text }

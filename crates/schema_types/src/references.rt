@@ -3,11 +3,11 @@ ghost use Rattle.std.specs.Prelude.{◌≡◌, IfOk, Some, option_map};
 ghost use Rattle.std.specs.Option.{option_copied};
 ghost use Rattle.sql_tokens.specs.Words.{IsLexemeOf};
 ghost use Rattle.schema_grammar.specs.declared.tree.TableNode.{TableNode};
-ghost use Rattle.schema_grammar.specs.Lexemes.{IsTargetOf};
+ghost use Rattle.schema_grammar.specs.Lexemes.{IsTargetWith};
 ghost use Rattle.schema_types.specs.Declarations.{target_table};
 ghost use Rattle.schema_types.specs.Index.{table_index};
 ghost use Rattle.schema_types.specs.Offences.{target_offences, target_offences_in};
-ghost use Rattle.schema_types.specs.Finds.{Finds};
+ghost use Rattle.schema_types.specs.Finds.{IsNameCheckOf};
 
 use crate::SchemaError;
 use crate::index::TableIndex;
@@ -17,10 +17,10 @@ use base_io::NoMemory;
 use schema_grammar::TargetNode;
 
 impl Scope<'_> {
-    /// The table that a reference refers to: the first table that has the name in the reference.
+    /// The index of the table that a reference refers to. This is the first table with the name in the reference.
     #[tactic(auto, using(crate::proofs::Targets::no_target, crate::proofs::Targets::target_found, crate::proofs::NameIndexes::place_of_within))]
     pub fn target(&self, target: &TargetNode) -> Result<Option<&TableIndex>, NoMemory>
-        requires { IsTargetOf (IsLexemeOf self.now.text.now) target.now }
+        requires { IsTargetWith (IsLexemeOf self.now.text.now) target.now }
         ensures { IfOk result (λ found.
             option_copied found
             ≡ option_map (table_index self.now.text.now) (target_table self.now.text.now self.now.tables.now target.now)) }
@@ -31,8 +31,8 @@ impl Scope<'_> {
         }
     }
 
-    // Checks the columns that a reference refers to. `table` is the reference's target. The reference has `count` columns of its own, and must
-    // refer to as many.
+    // Checks the columns that a reference refers to. `table` is the index of the target. `count` columns refer, and they have to refer to as many
+    // columns.
     #[tactic(auto, unfolding(crate::specs::Index::table_index))]
     fn check_target_columns(
         &self,
@@ -40,9 +40,9 @@ impl Scope<'_> {
         target: &TargetNode,
         table: &TableIndex,
     ) -> Result<(), SchemaError>
-        requires { IsTargetOf (IsLexemeOf self.now.text.now) target.now }
+        requires { IsTargetWith (IsLexemeOf self.now.text.now) target.now }
         ensures { (declared : TableNode) → table.now ≡ table_index self.now.text.now declared
-            → Finds result (target_offences_in self.now.text.now count target.now (Some declared)) }
+            → IsNameCheckOf result (target_offences_in self.now.text.now count target.now (Some declared)) }
     {
         let at = target.table.start;
         match &target.columns {
@@ -66,8 +66,8 @@ impl Scope<'_> {
 
     /// Checks a reference from `count` columns.
     pub fn check_target(&self, count: usize, target: &TargetNode) -> Result<(), SchemaError>
-        requires { IsTargetOf (IsLexemeOf self.now.text.now) target.now }
-        ensures { Finds result (target_offences self.now.text.now self.now.tables.now count target.now) }
+        requires { IsTargetWith (IsLexemeOf self.now.text.now) target.now }
+        ensures { IsNameCheckOf result (target_offences self.now.text.now self.now.tables.now count target.now) }
     {
         match self.target(target)? {
             None => Err(SchemaError::Name {

@@ -1,14 +1,14 @@
-//! The tables of a schema, built within the limits.
+//! Builds the tables of a schema that exceeds no limit.
 ghost use Rattle.std.specs.Prelude.{◌≡◌, [], ◌++◌, All, IfOk, OnOk};
 ghost use Rattle.std.specs.List.{flat_map};
 ghost use Rattle.limits.specs.Profile.{most_length};
 ghost use Rattle.sql_tokens.specs.Words.{IsLexemeOf};
-ghost use Rattle.schema_grammar.specs.Lexemes.{IsTypeOf, IsColumnOf, IsElementOf, IsTableOf};
+ghost use Rattle.schema_grammar.specs.Lexemes.{IsTypeWith, IsColumnWith, IsElementWith, IsTableWith};
 ghost use Rattle.schema_types.specs.Index.{table_index};
 ghost use Rattle.schema_types.specs.Meaning.{kind_of, column_of, element_column, table_of, schema_of};
 ghost use Rattle.schema_types.specs.Refusals.{above, type_lengths, element_lengths, text_lengths};
 
-use crate::build::Links;
+use crate::build::KeysAndReferences;
 use crate::index::TableIndex;
 use crate::scope::Scope;
 use crate::types::{Column, Kind, Schema, Table};
@@ -19,7 +19,7 @@ use sql_tokens::{name, number};
 impl Scope<'_> {
     #[tactic(auto, using(crate::proofs::Above::not_above))]
     fn kind(&self, kind: &TypeNode) -> Kind
-        requires tokens { IsTypeOf (IsLexemeOf self.now.text.now) kind.now }
+        requires tokens { IsTypeWith (IsLexemeOf self.now.text.now) kind.now }
         requires within { above most_length (type_lengths self.now.text.now kind.now) ≡ [] }
         ensures { result ≡ kind_of self.now.text.now kind.now }
     {
@@ -30,7 +30,7 @@ impl Scope<'_> {
     }
 
     fn column(&self, column: &ColumnNode) -> Result<Column, NoMemory>
-        requires tokens { IsColumnOf (IsLexemeOf self.now.text.now) column.now }
+        requires tokens { IsColumnWith (IsLexemeOf self.now.text.now) column.now }
         requires within { above most_length (type_lengths self.now.text.now column.now.kind) ≡ [] }
         ensures { IfOk result (λ found. found ≡ column_of self.now.text.now column.now) }
     {
@@ -44,7 +44,7 @@ impl Scope<'_> {
         element: &Element,
         columns: &mut Seq<Column>,
     ) -> Result<(), NoMemory>
-        requires tokens { IsElementOf (IsLexemeOf self.now.text.now) element.now }
+        requires tokens { IsElementWith (IsLexemeOf self.now.text.now) element.now }
         requires within { above most_length (element_lengths self.now.text.now element.now) ≡ [] }
         ensures { OnOk result (columns.new ≡ columns.old ++ element_column self.now.text.now element.now) }
     {
@@ -58,7 +58,7 @@ impl Scope<'_> {
     }
 
     fn columns(&self, elements: &[Element]) -> Result<Seq<Column>, NoMemory>
-        requires tokens { All (IsElementOf (IsLexemeOf self.now.text.now)) elements.now }
+        requires tokens { All (IsElementWith (IsLexemeOf self.now.text.now)) elements.now }
         requires within { flat_map (λ element. above most_length (element_lengths self.now.text.now element)) elements.now ≡ [] }
         ensures { IfOk result (λ found. found ≡ flat_map (element_column self.now.text.now) elements.now) }
     {
@@ -72,7 +72,7 @@ impl Scope<'_> {
     // A table of the schema, given its index.
     #[tactic(auto, unfolding(crate::specs::Meaning::table_of, crate::specs::Index::table_index))]
     fn table(&self, table: &TableNode, index: &TableIndex) -> Result<Table, NoMemory>
-        requires tokens { IsTableOf (IsLexemeOf self.now.text.now) table.now }
+        requires tokens { IsTableWith (IsLexemeOf self.now.text.now) table.now }
         requires indexed { index.now ≡ table_index self.now.text.now table.now }
         requires within { flat_map (λ element. above most_length (element_lengths self.now.text.now element)) table.now.elements ≡ [] }
         ensures { IfOk result (λ found. found ≡ table_of self.now.text.now self.now.tables.now table.now) }
@@ -80,7 +80,7 @@ impl Scope<'_> {
         let name = name(self.alloc, self.text, &table.name)?;
         let columns = self.columns(table.elements.as_slice())?;
         let links = self.links(&index.columns, table.elements.as_slice())?;
-        let Links { keys, references } = links;
+        let KeysAndReferences { keys, references } = links;
         Ok(Table {
             name,
             columns,
@@ -92,7 +92,7 @@ impl Scope<'_> {
     /// The schema of these tables.
     #[tactic(auto, unfolding(crate::specs::Meaning::schema_of))]
     pub fn schema(&self) -> Result<Schema, NoMemory>
-        requires tokens { All (IsTableOf (IsLexemeOf self.now.text.now)) self.now.tables.now }
+        requires tokens { All (IsTableWith (IsLexemeOf self.now.text.now)) self.now.tables.now }
         requires within { above most_length (text_lengths self.now.text.now self.now.tables.now) ≡ [] }
         ensures { IfOk result (λ found. found ≡ schema_of self.now.text.now self.now.tables.now) }
     {

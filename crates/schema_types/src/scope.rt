@@ -1,7 +1,7 @@
 //! The tables of a schema text, with their names and indexes for look-ups.
 ghost use Rattle.std.specs.Prelude.{◌≡◌, All, IfOk, map};
 ghost use Rattle.sql_tokens.specs.Words.{IsLexemeOf, name_of};
-ghost use Rattle.schema_grammar.specs.Lexemes.{IsNameOf, IsTableOf};
+ghost use Rattle.schema_grammar.specs.Lexemes.{IsNameWith, IsTableWith};
 ghost use Rattle.schema_types.specs.Declarations.{table_names};
 ghost use Rattle.schema_types.specs.Index.{table_index};
 ghost use Rattle.schema_types.specs.Names.{index_of_name};
@@ -14,7 +14,7 @@ use schema_grammar::TableNode;
 use sql_tokens::name;
 use std::alloc::Global;
 
-/// The tables of a schema text, with their names and an index of each table, which look-ups need.
+/// The tables of a schema text. Look-ups use the names of the tables and an index of each table.
 #[derive(Drop)]
 pub struct Scope<'a> {
     pub alloc: Global,
@@ -27,7 +27,7 @@ pub struct Scope<'a> {
 }
 
 fn table_names(alloc: Global, text: &[u8], tables: &[TableNode]) -> Result<NameList, NoMemory>
-    requires { All (IsTableOf (IsLexemeOf text.now)) tables.now }
+    requires { All (IsTableWith (IsLexemeOf text.now)) tables.now }
     ensures { IfOk result (λ found. found ≡ table_names text.now tables.now) }
 {
     let mut found = NameList::new(alloc);
@@ -43,7 +43,7 @@ fn table_indexes(
     text: &[u8],
     tables: &[TableNode],
 ) -> Result<Seq<TableIndex>, NoMemory>
-    requires { All (IsTableOf (IsLexemeOf text.now)) tables.now }
+    requires { All (IsTableWith (IsLexemeOf text.now)) tables.now }
     ensures { IfOk result (λ found. found ≡ map (table_index text.now) tables.now) }
 {
     let mut found = Seq::new(alloc);
@@ -55,13 +55,13 @@ fn table_indexes(
 }
 
 impl<'a> Scope<'a> {
-    /// The scope of these tables.
+    /// Makes the scope of these tables.
     pub fn new(
         alloc: Global,
         text: &'a [u8],
         tables: &'a [TableNode],
     ) -> Result<Scope<'a>, NoMemory>
-        requires { All (IsTableOf (IsLexemeOf text.now)) tables.now }
+        requires { All (IsTableWith (IsLexemeOf text.now)) tables.now }
         ensures text { IfOk result (λ scope. scope.text.now ≡ text.now) }
         ensures tables { IfOk result (λ scope. scope.tables.now ≡ tables.now) }
     {
@@ -78,7 +78,7 @@ impl<'a> Scope<'a> {
 
     /// The number of the table that a token names.
     pub fn table_number(&self, token: &Lexeme) -> Result<Option<u32>, NoMemory>
-        requires { IsNameOf (IsLexemeOf self.now.text.now) token.now }
+        requires { IsNameWith (IsLexemeOf self.now.text.now) token.now }
         ensures { IfOk result (λ place.
             place ≡ index_of_name (table_names self.now.text.now self.now.tables.now) (name_of self.now.text.now token.now)) }
     {

@@ -3,7 +3,7 @@ ghost use Rattle.std.specs.Prelude.{◌≡◌, [], ◌∷◌, All, length};
 ghost use Rattle.std.specs.List.{flat_map};
 ghost use Rattle.limits.specs.Profile.{most_columns, most_length, most_tables};
 ghost use Rattle.sql_tokens.specs.Words.{IsLexemeOf};
-ghost use Rattle.schema_grammar.specs.Lexemes.{IsTypeOf, IsElementOf, IsTableOf};
+ghost use Rattle.schema_grammar.specs.Lexemes.{IsTypeWith, IsElementWith, IsTableWith};
 ghost use Rattle.schema_types.specs.declared.errors.LimitKind.TheVariants as limit;
 ghost use Rattle.schema_types.specs.Refusals.{above, column_counts, type_lengths, element_lengths, text_lengths};
 ghost use Rattle.schema_types.specs.Finds.{FindsAbove};
@@ -51,9 +51,9 @@ impl Scope<'_> {
         Ok(())
     }
 
-    // Checks the length that a type gives to its texts.
+    // Checks the greatest length of a text type.
     fn check_length(&self, kind: &TypeNode) -> Result<(), SchemaError>
-        requires { IsTypeOf (IsLexemeOf self.now.text.now) kind.now }
+        requires { IsTypeWith (IsLexemeOf self.now.text.now) kind.now }
         ensures { FindsAbove limit.TextLength result (above most_length (type_lengths self.now.text.now kind.now)) }
     {
         match kind {
@@ -72,7 +72,7 @@ impl Scope<'_> {
     }
 
     fn check_element_length(&self, element: &Element) -> Result<(), SchemaError>
-        requires { IsElementOf (IsLexemeOf self.now.text.now) element.now }
+        requires { IsElementWith (IsLexemeOf self.now.text.now) element.now }
         ensures { FindsAbove limit.TextLength result (above most_length (element_lengths self.now.text.now element.now)) }
     {
         match element {
@@ -82,7 +82,7 @@ impl Scope<'_> {
     }
 
     fn check_lengths(&self, elements: &[Element]) -> Result<(), SchemaError>
-        requires { All (IsElementOf (IsLexemeOf self.now.text.now)) elements.now }
+        requires { All (IsElementWith (IsLexemeOf self.now.text.now)) elements.now }
         ensures { FindsAbove limit.TextLength result
             (flat_map (λ element. above most_length (element_lengths self.now.text.now element)) elements.now) }
     {
@@ -93,7 +93,7 @@ impl Scope<'_> {
     }
 
     pub fn check_text_lengths(&self) -> Result<(), SchemaError>
-        requires { All (IsTableOf (IsLexemeOf self.now.text.now)) self.now.tables.now }
+        requires { All (IsTableWith (IsLexemeOf self.now.text.now)) self.now.tables.now }
         ensures { FindsAbove limit.TextLength result (above most_length (text_lengths self.now.text.now self.now.tables.now)) }
     {
         'tables: for table in self.tables {

@@ -1,7 +1,7 @@
 //! What a schema declares.
 use base_io::{Name, Seq};
 
-/// The kind of a column's values: signed 64-bit numbers, or texts of at most this number of characters.
+/// The kind of a column's values: signed 64-bit numbers, or texts with their greatest number of characters.
 #[derive(Clone, Copy, Debug, PartialEq, Eq)]
 pub enum Kind {
     Int,
@@ -15,7 +15,8 @@ pub struct Column {
     pub kind: Kind,
 }
 
-/// A declared reference from columns of its table to target columns of a table. Columns and the table are given by their numbers, from 0.
+/// A declared reference: the columns that refer, the table that they refer to, and the target columns in that table. Tables and columns are given by
+/// their numbers, from 0.
 #[derive(Debug, Drop)]
 pub struct Reference {
     pub columns: Seq<u32>,

@@ -1,4 +1,4 @@
--- If the columns of each equality of `es` are in one class of `fs`, and the other way round, then `es` and `fs` are alike.
+-- If each equality of `es` has its columns in the same class of `fs`, and the reverse holds too, `es` and `fs` are alike.
 use Rattle.std.proofs.Common.{◌≡◌, ◌≢◌, ℕ, zero, suc, ◌<◌, List, [], ◌∷◌, get_or, length, take, ap, sym, subst, inl, inr, arith}
 use Rattle.std.specs.List.{AllByRecursion, Contains}
 use Rattle.entry_sets.proofs.Listing.{in_none, one_in}
@@ -10,7 +10,7 @@ use Rattle.berge_tree.proofs.Closed.{named}
 use Rattle.set_bounds.specs.Alike.{AreAlike, AreInOneClass}
 use Rattle.set_bounds.proofs.Forests.{all_in, each}
 
--- ---- equalities whose columns are in one class of other equalities
+-- ---- equalities whose columns are in the same class of other equalities
 
 pub all_more : (Q : Edge → Type 0) (es : List Edge) (i : ℕ) (d : Edge) → i < length es → AllByRecursion Q (take i es) → Q (get_or es i d)
     → AllByRecursion Q (take (suc i) es)

@@ -1,4 +1,4 @@
--- If equalities close no cycle, they also close no cycle when they are rotated or when some are left out. A turn keeps all of them.
+-- If equalities close no cycle, they close no cycle when they are rotated, or when some are left out. So a turn keeps all of them.
 use Rattle.std.proofs.Common.{◌≡◌, ◌≢◌, ◌⊎◌, ℕ, Bool, true, false, not, List, [], ◌∷◌, ◌++◌, take, drop, refl, ap, sym, ◌∙◌, subst, inl, inr}
 use Rattle.std.specs.Prelude.{filter}
 use Rattle.std.specs.List.{AllByRecursion, Contains}
@@ -10,10 +10,10 @@ use Rattle.berge_tree.specs.declared.edges.Edge.{Edge}
 use Rattle.berge_tree.specs.Equalities.{AreApart, ClosesNoCycle, ClosesNoCycleAfter}
 use Rattle.join_graph.specs.Kept.{KeepsAfter, at_end, equalities_within, rotated, joins_within, keeps, kept_in_order, kept_of}
 use Rattle.join_graph.proofs.Connecting.{one_kept, own_components}
-use Rattle.entry_sets.specs.Sets.{IsWithin}
+use Rattle.entry_sets.specs.Sets.{IsSubset}
 use Rattle.set_bounds.proofs.Listing.{joins_more}
 
--- ---- members of lists
+-- ---- a property of all members of a list
 
 module _ {X : Type 0} (Q : X → Type 0) where
   pub each : (xs : List X) → AllByRecursion Q xs → (x : X) → Contains xs x → Q x
@@ -43,7 +43,7 @@ other_order xs ys e k = elim (Contains-append_cases xs ys e k) [
   | inr behind ↦ Contains-append_left ys xs e behind
 ]
 
--- ---- if equalities don't connect two entries (`AreApart`), fewer equalities don't connect them either
+-- ---- if equalities don't connect two entries (`AreApart`), some of these equalities don't connect them either
 
 abbrev Together : (ℕ → Bool) → Edge → Type 0
 Together side e = side e.left.entry ≡ side e.right.entry
@@ -98,7 +98,7 @@ turned_back true true false e = absurd (cc e)
 turned_back true false true e = absurd (cc e)
 turned_back true false false e = refl
 
--- so e and f can be exchanged
+-- adjacent equalities e and f can be exchanged
 still_apart : (earlier : List Edge) (e f : Edge) → AreApart earlier e.left.entry e.right.entry → AreApart (e ∷ earlier) f.left.entry f.right.entry → AreApart (f ∷ earlier) e.left.entry e.right.entry
 still_apart earlier e f s t = elim (same_or_not (s.side f.left.entry) (s.side f.right.entry)) [
   | inl same ↦ record { side = s.side; together = (same, s.together); across = s.across }
@@ -171,7 +171,7 @@ among_round turn es e k = other_order (take turn es) (drop turn es) e (subst (λ
 
 -- ---- fewer entries: the equalities within a smaller set close no cycle either
 
-not_more : (subset whole : ℕ) → IsWithin subset whole → (e : Edge) → joins_within whole e ≡ false → joins_within subset e ≡ false
+not_more : (subset whole : ℕ) → IsSubset subset whole → (e : Edge) → joins_within whole e ≡ false → joins_within subset e ≡ false
 not_more subset whole within e out = elim (cases_Bool (joins_within subset e)) [
   | inl t ↦ absurd (true_false (sym (joins_more subset whole within e t) ∙ out))
   | inr n ↦ n
@@ -180,7 +180,7 @@ not_more subset whole within e out = elim (cases_Bool (joins_within subset e)) [
     true_false : true ≡ false → ⊥
     true_false e = cc e
 
-pub within_of : (subset whole : ℕ) → IsWithin subset whole → (es : List Edge) → equalities_within subset es ≡ filter (joins_within subset) (equalities_within whole es)
+pub within_of : (subset whole : ℕ) → IsSubset subset whole → (es : List Edge) → equalities_within subset es ≡ filter (joins_within subset) (equalities_within whole es)
 within_of subset whole within [] = refl
 within_of subset whole within (e ∷ es) = elim (cases_Bool (joins_within whole e)) [
   | inl t ↦ rw t (elim (cases_Bool (joins_within subset e)) [
@@ -190,6 +190,6 @@ within_of subset whole within (e ∷ es) = elim (cases_Bool (joins_within whole 
   | inr n ↦ rw (n, not_more subset whole within e n) (within_of subset whole within es)
 ]
 
-pub forest_within : (es : List Edge) (subset whole : ℕ) → IsWithin subset whole → ClosesNoCycle (equalities_within whole es) → ClosesNoCycle (equalities_within subset es)
+pub forest_within : (es : List Edge) (subset whole : ℕ) → IsSubset subset whole → ClosesNoCycle (equalities_within whole es) → ClosesNoCycle (equalities_within subset es)
 forest_within es subset whole within h =
     subst ClosesNoCycle (sym (within_of subset whole within es)) (closes_filtered (joins_within subset) [] [] (equalities_within whole es) (λ f k. k) h)

@@ -7,3 +7,4 @@ pub mod Tested
 pub mod ColumnClasses
 pub mod Skipping
 pub mod Within
+pub mod OneTurn

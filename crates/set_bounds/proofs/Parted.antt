@@ -1,4 +1,5 @@
--- If the equalities of a set close no cycle, and the set falls into two parts that no equality joins, its bound is the product of the parts' bounds.
+-- Suppose that the equalities of a set close no cycle, and that the set consists of two parts that no equality joins. Then its bound is the product
+-- of the parts' bounds.
 use Rattle.std.proofs.Common.{◌≡◌, ◌≢◌, ◌⊎◌, ℕ, ◌*◌, Bool, true, false, cond, not, ◌&&◌, List, [], ◌∷◌, ◌++◌, refl, ap, sym, ◌∙◌, subst, inl, inr, mul_assoc, mul_comm, arith}
 use Rattle.std.specs.Prelude.{filter}
 use Rattle.std.specs.List.{AllByRecursion, AllPairs, Contains}
@@ -6,7 +7,7 @@ use Rattle.std.specs.List.Sorted.{IsStrictlyIncreasing}
 use Rattle.std.proofs.lemmas.Bool.{cases_Bool, and_parts, and_from}
 use Rattle.std.proofs.lemmas.List.Elements.{Contains-append_left, Contains-append_right, filter-append}
 use Rattle.std.proofs.lemmas.List.Kept.{AllPairs-filter, IsStrictlyIncreasing-filter}
-use Rattle.entry_sets.specs.Sets.{IsWithin, entries_of_set, has_entry}
+use Rattle.entry_sets.specs.Sets.{IsSubset, entries_of_set, has_entry}
 use Rattle.entry_sets.proofs.Listing.{in_front, in_none, in_rest, one_in, set_entries, set_entries_only}
 use Rattle.berge_tree.specs.declared.edges.Edge.{Edge}
 use Rattle.berge_tree.specs.declared.edges.Place.{Place}
@@ -20,11 +21,11 @@ use Rattle.join_graph.specs.Kept.{equalities_within, joins_within, kept_of}
 use Rattle.tree_bounds.specs.SetBounds.{bound_of_set, bound_of_turn, trees_of}
 use Rattle.tree_bounds.specs.TreeBounds.{EntryBounds, bound_of_tree, bound_of_trees}
 use Rattle.tree_bounds.proofs.Turns.{closes, trees_are, trees_there}
-use Rattle.set_bounds.specs.Parts.{AreUnjoined, FallsInto}
+use Rattle.set_bounds.specs.Parts.{AreUnjoined, ConsistsOfParts}
 use Rattle.set_bounds.proofs.Forests.{AreAmong, all_in, among_round, each, forest_kept, forest_within, round_among, within_of}
 use Rattle.set_bounds.proofs.SameTrees.{CarriesTrees, classes_among, forest_set, places_where, tree_carries}
 
--- ---- filters
+-- ---- members and lengths of filtered lists
 
 in_filter : {X : Type 0} (p : X → Bool) (xs : List X) (x : X) → Contains xs x → p x ≡ true → Contains (filter p xs) x
 in_filter p [] x k t = absurd (in_none x k)
@@ -68,7 +69,7 @@ one_or_none true false e = absurd (omega (arith, e))
 one_or_none false true e = absurd (omega (arith, e))
 one_or_none false false e = refl
 
-module _ (es : List Edge) (subset part : ℕ) (forest : ClosesNoCycle (equalities_within subset es)) (within : IsWithin part subset) (unjoined : AreUnjoined es subset part) where
+module _ (es : List Edge) (subset part : ℕ) (forest : ClosesNoCycle (equalities_within subset es)) (within : IsSubset part subset) (unjoined : AreUnjoined es subset part) where
   abbrev side : ℕ → Bool
   side x = has_entry part x
 
@@ -146,7 +147,7 @@ module _ (es : List Edge) (subset part : ℕ) (forest : ClosesNoCycle (equalitie
       left_side e h q own (inl left) = ap (λ (p : Place). side p.entry) (sym left) ∙ own
       left_side e h q own (inr right) = same_side e h ∙ ap (λ (p : Place). side p.entry) (sym right) ∙ own
 
-  -- ---- the trees of the part
+  -- ---- the trees of a part are trees of the set
 
   all_side : (t : BergeTree) → IsTreeOf kept_whole t → AllByRecursion (λ x. side x ≡ side t.root) (entries t)
   all_side t is = one_side kept_whole (has_no_cycle kept_whole (closes es subset 0)) t is.columns is.follows side side_of_class
@@ -197,7 +198,7 @@ module _ (es : List Edge) (subset part : ℕ) (forest : ClosesNoCycle (equalitie
   pub part_bound : (b : EntryBounds) → bound_of_turn b es part 0 ≡ bound_of_trees b (chosen (trees_of kept_whole subset))
   part_bound b = ap (bound_of_trees b) (sym (trees_are es part 0 (chosen (trees_of kept_whole subset)) (all_chosen (trees_of kept_whole subset) (trees_there es subset 0))))
 
--- ---- the product
+-- ---- the product over the set's trees is the product over the trees of both parts
 
 swap : (a x y : ℕ) → a * (x * y) ≡ x * (a * y)
 swap a x y = sym (mul_assoc a x y) ∙ ap (λ m. m * y) (mul_comm a x) ∙ mul_assoc x a y
@@ -212,10 +213,10 @@ in_two b p q (t ∷ ts) h = elim (cases_Bool (p t)) [
       rw (n, other, in_two b p q ts h.1) (swap (bound_of_tree b t) (bound_of_trees b (filter p ts)) (bound_of_trees b (filter q ts))))
 ]
 
-rest_within : (es : List Edge) (subset part rest : ℕ) → FallsInto es subset part rest → IsWithin rest subset
+rest_within : (es : List Edge) (subset part rest : ℕ) → ConsistsOfParts es subset part rest → IsSubset rest subset
 rest_within es subset part rest falls x has = (and_parts (has_entry subset x) (not (has_entry part x)) (sym (falls.others x) ∙ has)).0
 
-rest_unjoined : (es : List Edge) (subset part rest : ℕ) → FallsInto es subset part rest → AreUnjoined es subset rest
+rest_unjoined : (es : List Edge) (subset part rest : ℕ) → ConsistsOfParts es subset part rest → AreUnjoined es subset rest
 rest_unjoined es subset part rest falls = all_in (λ (e : Edge). has_entry rest e.left.entry ≡ has_entry rest e.right.entry) (equalities_within subset es) at
   where
     at : (e : Edge) → Contains (equalities_within subset es) e → has_entry rest e.left.entry ≡ has_entry rest e.right.entry
@@ -226,7 +227,7 @@ rest_unjoined es subset part rest falls = all_in (λ (e : Edge). has_entry rest 
         each (λ (f : Edge). has_entry part f.left.entry ≡ has_entry part f.right.entry) (equalities_within subset es) falls.unjoined e k in
         falls.others e.left.entry ∙ ap (λ c. c && not (has_entry part e.left.entry)) (ends.0 ∙ sym ends.1) ∙ ap (λ c. has_entry subset e.right.entry && not c) same ∙ sym (falls.others e.right.entry)
 
-pub parts_multiply : (b : EntryBounds) (es : List Edge) (subset part rest : ℕ) → ClosesNoCycle (equalities_within subset es) → FallsInto es subset part rest
+pub parts_multiply : (b : EntryBounds) (es : List Edge) (subset part rest : ℕ) → ClosesNoCycle (equalities_within subset es) → ConsistsOfParts es subset part rest
     → bound_of_set b es subset ≡ bound_of_set b es part * bound_of_set b es rest
 parts_multiply b es subset part rest forest falls =
     forest_set b es subset forest
@@ -234,7 +235,7 @@ parts_multiply b es subset part rest forest falls =
     ∙ ap (λ m. m * bound_of_trees b (filter (λ (t : BergeTree). has_entry rest t.root) ts)) (sym (part_bound es subset part forest falls.within falls.unjoined b) ∙ sym (forest_set b es part (forest_within es part subset falls.within forest)))
     ∙ ap (λ m. bound_of_set b es part * m) (sym (part_bound es subset rest forest within unjoined b) ∙ sym (forest_set b es rest (forest_within es rest subset within forest)))
   where
-    within : IsWithin rest subset
+    within : IsSubset rest subset
     within = rest_within es subset part rest falls
 
     unjoined : AreUnjoined es subset rest

@@ -1,4 +1,4 @@
--- Let two lists of equalities name the same columns of some entries, and make the same classes of these columns. Then both have the same
+-- Suppose that two lists of equalities name the same columns of some entries, and make the same classes of these columns. Then they have the same
 -- trees of these entries.
 use Rattle.std.proofs.Common.{◌≡◌, ◌⊎◌, ℕ, zero, suc, ◌-◌, List, [], ◌∷◌, refl, ap, sym, subst, inl, inr, arith}
 use Rattle.std.specs.Prelude.{⊤, Option, Some, None}
@@ -19,10 +19,9 @@ use Rattle.tree_bounds.proofs.Turns.{trees_are, trees_there}
 use Rattle.set_bounds.specs.Alike.{AreAlike}
 use Rattle.set_bounds.proofs.Forests.{AreAmong, all_among, all_in, among_round, each, forest_kept, round_among}
 
--- ---- when a tree of one list of equalities is a tree of another list
+-- ---- trees of one list of equalities that are trees of another list
 
--- for the entries that have Q, es and fs name the same columns and make the same classes. For other entries, each column that fs names is
--- also named by es
+-- es and fs name the same columns of the entries that have Q, and make the same classes of them. All other columns that fs names are named by es too
 pub record CarriesTrees (Q : ℕ → Type 0) (es fs : List Edge) : Type 0 where
   pub places_to : (q : Place) → Contains (places_of fs) q → Contains (places_of es) q
   pub places_from : (q : Place) → Q q.entry → Contains (places_of es) q → Contains (places_of fs) q
@@ -66,7 +65,7 @@ module _ (Q : ℕ → Type 0) (es fs : List Edge) (c : CarriesTrees Q es fs) whe
   pub tree_carries : (t : BergeTree) → AllByRecursion Q (entries t) → IsTreeOf es t → IsTreeOf fs t
   tree_carries t qs h = record { columns = columns_carry t.root None (class_columns t.below) qs.0 h.columns; follows = below_carry t.root t.below qs.0 qs.1 h.follows; least = h.least }
 
--- ---- two lists of equalities, where each equality of the first list is in the second
+-- ---- two lists of equalities, if the second list has each equality of the first
 
 record EndOf (es : List Edge) (q : Place) : Type 0 where
   edge : Edge
@@ -149,7 +148,7 @@ forest_turn b es subset turn h =
         let there : Contains (equalities_within subset es) e = round_among i (equalities_within subset es) e (subst (λ (xs : List Edge). Contains xs e) (forest_kept es subset i h) k) in
         subst (λ (xs : List Edge). Contains xs e) (sym (forest_kept es subset j h)) (among_round j (equalities_within subset es) e there)
 
-least_alike : (f : ℕ → ℕ) (n : ℕ) → ((k : ℕ) → f k ≡ f 0) → least_to f n ≡ f 0
+pub least_alike : (f : ℕ → ℕ) (n : ℕ) → ((k : ℕ) → f k ≡ f 0) → least_to f n ≡ f 0
 least_alike f zero same = refl
 least_alike f (suc n) same = omega (arith, least_alike f n same, same (suc n))
 

@@ -1,6 +1,7 @@
--- The bounds of the sets are computed one after another, in the order of the sets' numbers.
+-- The bounds of sets are computed one after another, in the order of the sets' numbers.
 use Rattle.std.proofs.Common.{◌≡◌, ◌⊎◌, ℕ, ◌+◌, ◌*◌, ◌-◌, ◌%◌, ◌^◌, ◌<◌, ◌≤◌, List, [], ◌∷◌, ◌++◌, get_or, length, ap, sym, ◌∙◌, pow_mono, arith}
 use Rattle.std.specs.List.{AllByRecursion}
+use Rattle.limits.specs.Profile.{greatest_entries}
 use Rattle.std.proofs.lemmas.List.FromFn.{get_or-map-range_with_len, map-range_with_len_more}
 use Rattle.entry_sets.specs.Sets.{entries_of_set}
 use Rattle.berge_tree.specs.declared.edges.Edge.{Edge}
@@ -14,8 +15,9 @@ use Rattle.bound_fold.proofs.SetBounds.{set_never_under}
 use Rattle.set_bounds.specs.AllSets.{bound_in_128_bits, bounds_below, bounds_in_sets, bounds_of_sets, first_entries, in_every_set}
 use Rattle.set_bounds.proofs.Listing.{first_listed}
 
-pub sets_fit : (n : ℕ) → n ≤ 12 → 1 * 2 ^ n % 65536 ≡ 2 ^ n
-sets_fit n few = let powers : 2 ^ n ≤ 2 ^ 12 = pow_mono few in omega (arith, powers)
+-- how many sets there are fits into 32 bits
+pub sets_fit : (n : ℕ) → n ≤ greatest_entries → 1 * 2 ^ n % 4294967296 ≡ 2 ^ n
+sets_fit n few = let powers : 2 ^ n ≤ 2 ^ greatest_entries = pow_mono few in omega (arith, powers)
 
 pub told_more : (b : ℕ → EntryBounds) (es : List Edge) (k n : ℕ) (bounds longer : List ℕ) → bounds ≡ bounds_below b es k → n ≡ bound_in_128_bits (b k) es k → longer ≡ bounds ++ n ∷ []
     → longer ≡ bounds_below b es (k + 1)

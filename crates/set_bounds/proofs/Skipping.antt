@@ -10,7 +10,7 @@ use Rattle.tree_bounds.proofs.Turns.{closes, least_to-le}
 use Rattle.set_bounds.specs.Alike.{AreAlike, AreOfTurnsBefore, IsLikeEarlier, IsOfTurnBefore, least_in_128_bits}
 use Rattle.set_bounds.proofs.SameTrees.{alike_trees}
 
--- ---- the least bound
+-- ---- the least of several bounds, if one of them occurs twice
 
 least_same : (f : ℕ → ℕ) (n k : ℕ) → k ≤ n → f k ≡ f (suc n) → least_to f (suc n) ≡ least_to f n
 least_same f n k low same = omega (arith, least_to-le f n k low, same)
@@ -24,7 +24,7 @@ module _ (b : EntryBounds) (es : List Edge) (subset : ℕ) where
       before ∙ ap (least_in_128_bits b es subset) earlier
       ∙ sym (ap saturated (least_same (bound_of_turn b es subset) k like.earlier (omega (arith, like.before)) same))
 
--- ---- turns that were folded
+-- ---- the turns that were folded before a turn
 
 module _ (es : List Edge) (subset turn : ℕ) where
   pub later : (folded : List (List Edge)) → AreOfTurnsBefore es subset turn folded → AreOfTurnsBefore es subset (turn + 1) folded

@@ -1,11 +1,11 @@
--- The code tests whether a turn keeps all equalities of a set, and whether an equality crosses from a part of the set to the rest. The
--- lemmas say what these tests mean.
+-- What two tests of the code mean: whether a turn keeps all equalities of a set, and whether an equality crosses from a part of the set to the rest.
 use Rattle.std.proofs.Common.{◌≡◌, ℕ, zero, suc, ◌-◌, ◌*◌, ◌^◌, ◌<◌, ◌≤◌, min, Bool, true, false, cond, not, ◌&&◌, eqb, ltb, bit_and, w16, List, [], ◌∷◌, get_or, length, refl, ap, sym, ◌∙◌, subst, inl, inr, arith}
 use Rattle.std.specs.Int.{bit_at, bit_not}
 use Rattle.std.proofs.lemmas.Bool.{cases_Bool, ltb-true, or_parts}
 use Rattle.std.proofs.lemmas.List.{append-nil}
 use Rattle.std.proofs.lemmas.List.FromFn.{get_or-map-range_with_len, length-map-range_with_len}
 use Rattle.std.proofs.lemmas.Nat.Bits.{bit_at-lt, bit_at_and, bit_at_not}
+use Rattle.limits.specs.Profile.{greatest_entries}
 use Rattle.degree_sequences.proofs.SaturationLaws.{saturated-mul}
 use Rattle.degree_sequences.specs.Saturation.{saturated}
 use Rattle.entry_sets.specs.Sets.{has_entry}
@@ -16,7 +16,7 @@ use Rattle.join_graph.specs.Kept.{equalities_within, joins_within, kept_by_names
 use Rattle.tree_bounds.specs.SetBounds.{bound_of_set}
 use Rattle.tree_bounds.specs.TreeBounds.{EntryBounds}
 use Rattle.set_bounds.specs.AllSets.{bound_in_128_bits, bounds_below}
-use Rattle.set_bounds.specs.Parts.{DependsOnPartsOnly, AreUnjoined, FallsInto, crosses, some_cross}
+use Rattle.set_bounds.specs.Parts.{DependsOnPartsOnly, AreUnjoined, ConsistsOfParts, crosses, some_cross}
 use Rattle.set_bounds.proofs.Parted.{parts_multiply}
 
 -- ---- if a turn keeps as many equalities as the set has, they close no cycle
@@ -49,7 +49,7 @@ forest_told es subset kept is same closes =
     let round : kept ≡ kept_by_names (λ x. x) of_set = is ∙ ap (kept_by_names (λ x. x)) (append-nil of_set) in
     subst ClosesNoCycle (round ∙ kept_every (λ x. x) of_set (ap length (sym round) ∙ same)) closes
 
--- ---- if no equality crosses from the part to the rest, the two are unjoined
+-- ---- if no equality crosses from the part to the rest, no equality joins them
 
 one_side : (joins a b : Bool) → joins ≡ true → (joins && cond a (not b) b) ≡ false → a ≡ b
 one_side true true true t e = refl
@@ -67,7 +67,7 @@ none_cross (e ∷ es) subset part h =
       | inr n ↦ rw n (none_cross es subset part apart.1)
     ]
 
--- ---- the rest of a set
+-- ---- the entries of a set that aren't in a part
 
 both_bits : (x y : ℕ) → x < 2 → y < 2 → eqb (min x (1 - y)) 1 ≡ (eqb x 1 && not (eqb y 1))
 both_bits zero zero h k = refl
@@ -77,14 +77,14 @@ both_bits (suc zero) (suc zero) h k = refl
 both_bits (suc (suc x)) y h k = absurd (omega arith)
 both_bits x (suc (suc y)) h k = absurd (omega arith)
 
-pub rest_has : (set part entry : ℕ) → part < 2 ^ 16 → has_entry (bit_and set (bit_not w16 part)) entry ≡ (has_entry set entry && not (has_entry part entry))
-rest_has set part entry fits = elim (cases_Bool (ltb entry 16)) [
-  | inl low ↦ rw (low, bit_at_and set (bit_not w16 part) entry, bit_at_not w16 part entry fits (ltb-true entry 16 low))
+pub rest_has : (set part entry : ℕ) → part < 2 ^ greatest_entries → has_entry (bit_and set (bit_not w16 part)) entry ≡ (has_entry set entry && not (has_entry part entry))
+rest_has set part entry fits = elim (cases_Bool (ltb entry greatest_entries)) [
+  | inl low ↦ rw (low, bit_at_and set (bit_not w16 part) entry, bit_at_not w16 part entry fits (ltb-true entry greatest_entries low))
       (both_bits (bit_at set entry) (bit_at part entry) (bit_at-lt set entry) (bit_at-lt part entry))
   | inr high ↦ rw high refl
 ]
 
--- ---- the bound of a set as the product of the bounds that were found for its parts
+-- ---- the product of bounds of parts that were found before
 
 module _ (b : ℕ → EntryBounds) (es : List Edge) where
   told_below : (k subset : ℕ) (told : List ℕ) → told ≡ bounds_below b es k → subset < k → get_or told subset 0 ≡ bound_in_128_bits (b subset) es subset
@@ -94,7 +94,7 @@ module _ (b : ℕ → EntryBounds) (es : List Edge) where
   pub told_length : (k : ℕ) (told : List ℕ) → told ≡ bounds_below b es k → length told ≡ k
   told_length k told is = ap length is ∙ length-map-range_with_len (λ (set : ℕ). bound_in_128_bits (b set) es set) 0 k
 
-  pub product_told : (subset part rest own others : ℕ) (told : List ℕ) → ClosesNoCycle (equalities_within subset es) → FallsInto es subset part rest → DependsOnPartsOnly b es
+  pub product_told : (subset part rest own others : ℕ) (told : List ℕ) → ClosesNoCycle (equalities_within subset es) → ConsistsOfParts es subset part rest → DependsOnPartsOnly b es
       → told ≡ bounds_below b es subset → part < subset → rest < subset → own ≡ get_or told part 0 → others ≡ get_or told rest 0
       → min (own * others) (2 ^ 128 - 1) ≡ bound_in_128_bits (b subset) es subset
   product_told subset part rest own others told forest falls looks is low high own_is others_is =

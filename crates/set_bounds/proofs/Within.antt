@@ -1,7 +1,8 @@
--- A set's bound depends only on those equalities that are within the set.
+-- A set's bound depends only on the equalities within the set.
 use Rattle.std.proofs.Common.{◌≡◌, ℕ, ◌-◌, min, max, List, [], ◌∷◌, length, refl, ap, sym, subst, inl, inr, ◌∙◌}
 use Rattle.std.specs.Prelude.{IsSome}
 use Rattle.std.proofs.lemmas.Bool.{cases_Bool}
+use Rattle.limits.specs.Profile.{most_turns}
 use Rattle.degree_sequences.specs.Saturation.{saturated}
 use Rattle.berge_tree.specs.declared.edges.Edge.{Edge}
 use Rattle.join_graph.specs.Kept.{equalities_within, rotated, joins_within, kept_in_order}
@@ -30,5 +31,5 @@ own_listed lists es own subset is h =
 
 pub own_bound : (b : EntryBounds) (es own : List Edge) (subset : ℕ) → own ≡ equalities_within subset es → bound_in_128_bits b own subset ≡ bound_in_128_bits b es subset
 own_bound b es own subset is =
-    ap (λ (within : List Edge). saturated (least_to (λ turn. bound_of_trees b (trees_of (kept_in_order (rotated turn within)) subset)) (max (min (length within) 16) 1 - 1)))
+    ap (λ (within : List Edge). saturated (least_to (λ turn. bound_of_trees b (trees_of (kept_in_order (rotated turn within)) subset)) (max (min (length within) most_turns) 1 - 1)))
     (ap (equalities_within subset) is ∙ within_twice subset es)

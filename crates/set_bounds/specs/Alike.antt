@@ -9,18 +9,18 @@ use Rattle.degree_sequences.specs.Saturation.{saturated}
 use Rattle.tree_bounds.specs.SetBounds.{bound_of_turn, least_to}
 use Rattle.tree_bounds.specs.TreeBounds.{EntryBounds}
 
--- two lists of equalities are alike if they name the same columns and make the same classes of these columns
+-- two lists of equalities are alike: they name the same columns and make the same classes of these columns
 pub record AreAlike (es fs : List Edge) : Type 0 where
   pub columns : (p : Place) → Contains (places_of es) p ↔ Contains (places_of fs) p
   pub classes : (p q : Place) → (class_of es p ≡ class_of es q) ↔ (class_of fs p ≡ class_of fs q)
 
--- both columns of the equality e are in one class of the equalities es
+-- both columns of the equality e are in the same class of the equalities es
 abbrev pub AreInOneClass : List Edge → Edge → Type 0
 AreInOneClass es e = class_of es e.left ≡ class_of es e.right
 
 -- ---- turns that are like an earlier turn
 
--- the equalities are those that a turn before `turn` keeps
+-- some turn before `turn` keeps exactly these equalities
 pub record IsOfTurnBefore (es : List Edge) (subset turn : ℕ) (kept : List Edge) : Type 0 where
   pub earlier : ℕ
   pub before : earlier < turn

@@ -14,7 +14,7 @@ first_entries n = 2 ^ n - 1
 abbrev pub bound_in_128_bits : EntryBounds → List Edge → ℕ → ℕ
 bound_in_128_bits b es subset = saturated (bound_of_set b es subset)
 
--- the bounds of all sets whose numbers are below k. What is known of the entries (`b`) may depend on the set in which they are joined
+-- the bounds of all sets whose numbers are below k. The entries' row bounds and lists (`b`) may depend on the set in which the entries are joined
 abbrev pub bounds_below : (ℕ → EntryBounds) → List Edge → ℕ → List ℕ
 bounds_below b es k = map (λ subset. bound_in_128_bits (b subset) es subset) (range_with_len 0 k)
 
@@ -22,7 +22,7 @@ bounds_below b es k = map (λ subset. bound_in_128_bits (b subset) es subset) (r
 abbrev pub bounds_in_sets : (ℕ → EntryBounds) → List Edge → ℕ → List ℕ
 bounds_in_sets b es n = bounds_below b es (2 ^ n)
 
--- what is known of the entries, if it is the same in every set
+-- the same row bounds and lists in every set
 abbrev pub in_every_set : EntryBounds → ℕ → EntryBounds
 in_every_set b subset = b
 

@@ -1,4 +1,4 @@
-//! Whether two turns keep equalities that are alike (`AreAlike`), by the classes of their columns.
+//! Tests whether two turns keep equalities that are alike (`AreAlike`), by the classes of their columns.
 ghost use Rattle.std.specs.Prelude.{◌≡◌, ℕ, List, true};
 ghost use Rattle.std.specs.List.{AllByRecursion};
 ghost use Rattle.berge_tree.specs.declared.edges.Edge.{Edge};
@@ -8,8 +8,8 @@ ghost use Rattle.set_bounds.specs.Alike.{AreAlike, AreInOneClass, AreOfTurnsBefo
 
 use berge_tree::{ColumnClasses, Edge};
 
-// True only if the two columns of each equality of `edges` are in one class of the equalities `others`.
-fn are_in_classes(others: &ColumnClasses, edges: &[Edge]) -> bool
+/// True only if `others` puts the two columns of each equality of `edges` into the same class.
+pub(crate) fn are_in_classes(others: &ColumnClasses, edges: &[Edge]) -> bool
     ensures { result ≡ true → AllByRecursion (AreInOneClass others.now) edges.now }
 {
     for edge in edges {
@@ -26,7 +26,8 @@ fn are_alike(a: &ColumnClasses, b: &ColumnClasses) -> bool
     are_in_classes(a, b.edges()) && are_in_classes(b, a.edges())
 }
 
-/// If the answer is true, the turn that keeps `kept` is like an earlier turn whose bound was computed. If the answer is false, nothing is promised.
+/// If the result is true, some earlier turn, whose bound was computed, keeps equalities that are alike to `kept`. If the result is false, nothing is
+/// promised.
 pub(crate) fn is_like_earlier(kept: &ColumnClasses, folded: &[ColumnClasses]) -> bool
     ensures { result ≡ true → (es : List Edge) → (subset turn : ℕ) → kept.now ≡ kept_of subset turn es
         → AreOfTurnsBefore es subset turn folded.now → IsLikeEarlier es subset turn }

@@ -1,5 +1,6 @@
-//! The bound of a set whose equalities close a cycle: the least bound over its turns. Turns that are alike have the same bound, so only the first of
-//! them is folded, that is, its trees are folded from the leaves up to a bound.
+//! Computes the bound of a set whose equalities close a cycle: the least bound over its turns. To fold a turn is to compute its bound from its trees,
+//! from the leaves up. Turns that are alike have the same bound, so only the first of them is folded. If a class has an equality for each pair of its
+//! columns, all turns are alike, and one is folded.
 ghost use Rattle.std.specs.Prelude.{◌≡◌, ◌+◌, ◌-◌, ◌<◌, IfOk};
 ghost use Rattle.join_graph.specs.Kept.{equalities_within, kept_of};
 ghost use Rattle.bound_fold.specs.Lists.{bounds_of};
@@ -7,7 +8,7 @@ ghost use Rattle.bound_fold.specs.Sets.{SetHasBounds};
 ghost use Rattle.set_bounds.specs.Alike.{AreOfTurnsBefore, least_in_128_bits};
 ghost use Rattle.set_bounds.specs.AllSets.{bound_in_128_bits};
 
-use crate::alike::is_like_earlier;
+use crate::alike::{are_in_classes, is_like_earlier};
 use base_io::{NoMemory, Seq};
 use berge_tree::{ColumnClasses, Edge};
 use bound_fold::{EntryLists, turn_bound};
@@ -55,7 +56,8 @@ fn least_with(
     Ok(least.min(bound))
 }
 
-// The least bound over all turns. Of turns that are alike only the first is folded.
+// The least bound over all turns. Of several turns that are alike, only the first is folded. If each equality joins columns of one class of turn 0,
+// all turns are alike.
 fn least_of_turns(
     alloc: Global,
     parts: &Parts,
@@ -67,6 +69,9 @@ fn least_of_turns(
 {
     let mut least = turn_bound(alloc, parts, subset, 0, lists)?;
     let first = classed_turn(alloc, parts, subset, 0)?;
+    if are_in_classes(&first, parts.equalities.as_slice()) {
+        return Ok(least);
+    }
     let mut folded = Vec::new(alloc);
     folded.push(first)?;
     for turn in 1..turns(parts, subset) {
@@ -83,7 +88,7 @@ fn equalities_of(alloc: Global, edges: &[Edge], subset: EntrySet) -> Result<Vec<
         .collect(alloc)
 }
 
-// Parts that have only the equalities of a set.
+// A copy of `parts` that has only the equalities of a set.
 fn only_within(alloc: Global, parts: &Parts, subset: EntrySet) -> Result<Parts, NoMemory>
     ensures { IfOk result (λ own. own.equalities ≡ equalities_within subset parts.now.equalities) }
 {
@@ -95,8 +100,8 @@ fn only_within(alloc: Global, parts: &Parts, subset: EntrySet) -> Result<Parts, 
     })
 }
 
-/// The bound of a set: the least bound over its turns. A turn goes through all equalities that it is given, so it gets only the equalities
-/// of the set.
+/// The bound of a set: the least bound over its turns. A turn goes through all equalities that it is given. So this function first leaves out
+/// equalities outside the set.
 pub(crate) fn cyclic_bound(
     alloc: Global,
     parts: &Parts,

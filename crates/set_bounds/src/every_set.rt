@@ -1,9 +1,9 @@
-//! The bound of every set, one after another. To fold a set is to compute its bound from its trees. A set whose equalities close no cycle is folded
-//! only if its entries are connected; otherwise its bound is a product of bounds that were found before. If a set's equalities close a cycle, the
-//! bound is the least over its turns, and turns that are alike are folded once.
+//! Computes the bound of every set, one set after another. To fold a set is to compute its bound from its trees. If a set's equalities close no cycle
+//! and its entries are connected, the set is folded. If they close no cycle and the entries aren't connected, its bound is a product of bounds that
+//! were found before. If they close a cycle, its bound is the least over its turns, and turns that are alike are folded once.
 ghost use Rattle.std.specs.Prelude.{◌≡◌, ◌⊎◌, ◌-◌, ◌^◌, ◌<◌, ◌≤◌, ℕ, List, length, slice_index, IfOk};
 ghost use Rattle.std.specs.List.{AllByRecursion};
-ghost use Rattle.limits.specs.Profile.{most_entries, top_bound};
+ghost use Rattle.limits.specs.Profile.{greatest_entries, top_bound};
 ghost use Rattle.entry_sets.specs.Sets.{entries_of_set};
 ghost use Rattle.join_graph.specs.Kept.{equalities_within};
 ghost use Rattle.tree_bounds.specs.Tables.{KeyedTables, ChoicesAreDifferent, Satisfies, SetDominates};
@@ -21,9 +21,9 @@ use entry_sets::EntrySet;
 use join_graph::Parts;
 use std::alloc::Global;
 
-/// The bounds, in rows, of all sets of the first `count` entries, each at the index whose bits are the set's entries. The list has `u128::MAX`
-/// instead of a larger bound, and 1 for the empty set. What is known of an entry may depend on the set in which the entry is joined, but not
-/// on those entries of the set that no equalities connect with the entry. So, if no cycle is closed, only connected sets are folded.
+/// The bounds, in rows, of all sets of the first `count` entries, each at the index whose bits are the set's entries. A larger bound than `u128::MAX`
+/// is listed as `u128::MAX`. The empty set has the bound 1. An entry's row bound and lists may depend on the set in which the entry is joined. They
+/// may depend only on the entries that equalities of the set connect with it. So, if no cycle is closed, only connected sets are folded.
 ///
 /// A set's bound is the least over its turns. In a turn it is the product of the bounds of its trees (SafeBound, SIGMOD 2023; Degree Sequence Bound,
 /// ICDT 2023).
@@ -33,31 +33,32 @@ pub fn bounds_in_sets<K: KnownInSets>(
     lists: &K,
     count: u8,
 ) -> Result<Seq<u128>, NoMemory>
-    requires few { count ≤ most_entries }
+    requires few { count ≤ greatest_entries }
     requires listed { (subset : ℕ) → subset < 2 ^ count → K.is_listed lists.now parts.now.equalities subset }
     requires looks { DependsOnPartsOnly (K.known lists.now) parts.now.equalities }
     ensures { IfOk result (λ bounds. bounds ≡ told_in_sets (K.known lists.now) parts.now.equalities count) }
 {
-    let all = EntrySet::from_bits((1u16 << count) - 1);
+    let sets = 1u32 << count;
+    let all = EntrySet::from_bits((sets - 1) as u16);
     let whole = is_forest(alloc, parts, all)?;
     let mut bounds = Vec::new(alloc);
-    for bits in 0..1u16 << count {
-        let subset = EntrySet::from_bits(bits);
+    for bits in 0..sets {
+        let subset = EntrySet::from_bits(bits as u16);
         let bound = next_bound(alloc, parts, lists, subset, whole, bounds.as_slice())?;
         bounds.push(bound)?;
     }
     Ok(Seq::from_vec(bounds))
 }
 
-/// The bounds of all sets, if what is known of the entries is the same in every set. If the lists dominate tables, no join of a set's tables by all
-/// equalities of the set has more rows than the set's bound, unless this bound is `u128::MAX`.
+/// The bounds of all sets, if the entries' row bounds and lists are the same in every set. Suppose that the lists dominate tables. Then no join of a
+/// set's tables by all equalities of the set has more rows than the set's bound. A bound of `u128::MAX` promises nothing.
 pub fn bounds_of_sets(
     alloc: Global,
     parts: &Parts,
     lists: &EntryLists,
     count: u8,
 ) -> Result<Seq<u128>, NoMemory>
-    requires few { count ≤ most_entries }
+    requires few { count ≤ greatest_entries }
     requires listed { SetHasBounds lists.now parts.now.equalities (first_entries count) }
     ensures exact { IfOk result (λ bounds. bounds ≡ bounds_told (bounds_of lists.now) parts.now.equalities count) }
     ensures never_under { IfOk result (λ bounds. (subset : ℕ) → subset < 2 ^ count

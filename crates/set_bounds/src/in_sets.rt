@@ -1,4 +1,4 @@
-//! What is known of entries, which may depend on the set in which they are joined.
+//! The row bounds and lists of entries, which may depend on the set in which the entries are joined.
 ghost use Rattle.std.specs.Prelude.{◌≡◌, ℕ, List, IfOk, true};
 ghost use Rattle.berge_tree.specs.declared.edges.Edge.{Edge};
 ghost use Rattle.berge_tree.specs.Equalities.{ClosesNoCycle};
@@ -15,9 +15,9 @@ use entry_sets::EntrySet;
 use join_graph::Parts;
 use std::alloc::Global;
 
-/// What is known of the entries of a query in each set of entries: a row bound of each entry, and a list of each joined column.
+/// Row bounds and lists of a query's entries in each set of entries: a row bound of each entry, and a list of each joined column.
 pub trait KnownInSets {
-    /// What is known in each set, as bounds of entries.
+    /// The row bounds and lists in each set.
     ghost known: { Self → ℕ → EntryBounds };
 
     /// Each entry of the set has a row bound, and each column that an equality of the set names has a list.
@@ -37,7 +37,7 @@ pub trait KnownInSets {
 }
 
 /// The bound of a set by folds of its trees, or `u128::MAX` if the bound is larger. If the equalities of the set close no cycle (`forest`), all turns
-/// have the same bound, and one turn is folded. Otherwise the bound is the least over the turns.
+/// have the same bound, and only one turn is folded. Otherwise the bound is the least over the turns.
 pub fn folded_bound(
     alloc: Global,
     parts: &Parts,

@@ -1,31 +1,38 @@
-//! Laws that make the bounds of all sets quick to find. A function here does nothing.
+//! Laws by which the bounds of all sets are quick to compute. Each function does nothing.
 ghost use Rattle.std.specs.Prelude.{◌≡◌, ◌*◌, ℕ, List};
-ghost use Rattle.entry_sets.specs.Sets.{IsWithin};
+ghost use Rattle.std.specs.List.{AllByRecursion};
+ghost use Rattle.entry_sets.specs.Sets.{IsSubset};
 ghost use Rattle.berge_tree.specs.declared.edges.Edge.{Edge};
 ghost use Rattle.berge_tree.specs.Equalities.{ClosesNoCycle};
 ghost use Rattle.join_graph.specs.Kept.{equalities_within, kept_of};
 ghost use Rattle.tree_bounds.specs.SetBounds.{bound_of_set, bound_of_turn, trees_of};
 ghost use Rattle.tree_bounds.specs.TreeBounds.{EntryBounds};
-ghost use Rattle.set_bounds.specs.Alike.{AreAlike};
-ghost use Rattle.set_bounds.specs.Parts.{FallsInto};
+ghost use Rattle.set_bounds.specs.Alike.{AreAlike, AreInOneClass};
+ghost use Rattle.set_bounds.specs.Parts.{ConsistsOfParts};
 
-/// If the equalities of a set close no cycle, every turn keeps all of them, and so every turn has the bound of the set.
+/// If the equalities of a set close no cycle, every turn keeps all of them. So the bound in every turn is the bound of the set. The same holds if
+/// each equality of the set joins columns of one class of the equalities that turn 0 keeps, for example if a class has an equality for each pair of
+/// its columns. Then every turn keeps equalities with the same classes.
 pub fn one_turn_serves()
-    ensures { (b : EntryBounds) (es : List Edge) (subset turn : ℕ) → ClosesNoCycle (equalities_within subset es)
+    ensures forest { (b : EntryBounds) (es : List Edge) (subset turn : ℕ) → ClosesNoCycle (equalities_within subset es)
+        → bound_of_turn b es subset turn ≡ bound_of_set b es subset }
+    ensures classes { (b : EntryBounds) (es : List Edge) (subset turn : ℕ)
+        → AllByRecursion (AreInOneClass (kept_of subset 0 es)) (equalities_within subset es)
         → bound_of_turn b es subset turn ≡ bound_of_set b es subset }
 {}
 
-/// If the equalities of a set close no cycle, the equalities of a set within it close no cycle either. So one test of the whole query is enough for
-/// all its sets.
+/// If the equalities of a set close no cycle, the equalities of each subset close no cycle either. So one test of all entries of the query is enough
+/// for all sets.
 pub fn fewer_entries_close_no_cycle()
-    ensures { (es : List Edge) (subset whole : ℕ) → IsWithin subset whole → ClosesNoCycle (equalities_within whole es)
+    ensures { (es : List Edge) (subset whole : ℕ) → IsSubset subset whole → ClosesNoCycle (equalities_within whole es)
         → ClosesNoCycle (equalities_within subset es) }
 {}
 
-/// If the equalities of a set close no cycle, and the set falls into two parts that no equality joins, its bound is the product of the parts' bounds.
+/// Suppose that the equalities of a set close no cycle, and that the set consists of two parts that no equality joins. Then its bound is the product
+/// of the parts' bounds.
 pub fn parts_multiply()
     ensures { (b : EntryBounds) (es : List Edge) (subset part rest : ℕ) → ClosesNoCycle (equalities_within subset es)
-        → FallsInto es subset part rest → bound_of_set b es subset ≡ bound_of_set b es part * bound_of_set b es rest }
+        → ConsistsOfParts es subset part rest → bound_of_set b es subset ≡ bound_of_set b es part * bound_of_set b es rest }
 {}
 
 /// Turns that keep equalities with the same columns and the same classes have the same trees, and so the same bound.

@@ -1,11 +1,11 @@
-//! The bounds of all sets of the entries of a query, from which the order of least cost is chosen.
+//! Computes the bound of every set of a query's entries. The order of least cost is chosen by these bounds.
 //!
 //! In: the equalities of the query, and for each entry its row bound and the lists of its joined columns. Row bound and lists may depend on the set
-//! in which the entry is joined (`KnownInSets`). Out: for each set of entries, the bound of the join of exactly these entries, at the index
-//! whose bits are the set's entries.
+//! in which the entry is joined (`KnownInSets`). Out: for each set of entries, the bound of the join of exactly these entries. The bound of {0, 2}
+//! has the index 5, which is 101 in binary.
 //!
-//! Callers cite `bounds_in_sets` for the bounds, or `bounds_of_sets` if row bounds and lists are the same in every set. For
-//! `bounds_of_sets` they show `SetHasBounds` of bound_fold, for the set of all entries.
+//! In contracts `bounds_in_sets` gives the bounds, or `bounds_of_sets` if row bounds and lists are the same in every set. The function
+//! `bounds_of_sets` requires `SetHasBounds` of bound_fold for the set of all entries.
 #![tactic(auto)]
 
 mod alike;

@@ -1,4 +1,4 @@
-//! The bound of a set, from the bounds of the sets with smaller numbers.
+//! Computes the bound of a set from the bounds of the sets with smaller numbers.
 ghost use Rattle.std.specs.Prelude.{◌≡◌, IfOk, true};
 ghost use Rattle.berge_tree.specs.Equalities.{ClosesNoCycle};
 ghost use Rattle.join_graph.specs.Kept.{equalities_within};
@@ -6,13 +6,13 @@ ghost use Rattle.set_bounds.specs.AllSets.{bound_in_128_bits, bounds_below};
 ghost use Rattle.set_bounds.specs.Parts.{DependsOnPartsOnly};
 
 use crate::in_sets::KnownInSets;
-use crate::parts::{falls_into, first_part, is_forest, rest_of};
+use crate::parts::{consists_of_parts, first_part, is_forest, rest_of};
 use base_io::NoMemory;
 use entry_sets::EntrySet;
 use join_graph::Parts;
 use std::alloc::Global;
 
-// The bound of a set whose equalities close no cycle. If the set falls into two parts that no equality joins, the bound is the product of the parts'
+// The bound of a set whose equalities close no cycle. If the set consists of two parts that no equality joins, the bound is the product of the parts'
 // bounds. Otherwise the set is folded: its bound is computed from its trees.
 fn forest_bound<K: KnownInSets>(
     alloc: Global,
@@ -30,7 +30,7 @@ fn forest_bound<K: KnownInSets>(
     let edges = parts.equalities.as_slice();
     let part = first_part(edges, subset);
     let rest = rest_of(subset, part);
-    if falls_into(edges, subset, part, rest) {
+    if consists_of_parts(edges, subset, part, rest) {
         let own = smaller[part.bits() as usize];
         let others = smaller[rest.bits() as usize];
         return Ok(own.saturating_mul(others));
@@ -39,7 +39,8 @@ fn forest_bound<K: KnownInSets>(
     Ok(bound)
 }
 
-// Whether the equalities of a set close no cycle. They close no cycle if the equalities of a larger set close no cycle (`whole`).
+// Whether the equalities of a set close no cycle. `whole` says that the equalities of a larger set close no cycle; then those of this set close no
+// cycle either.
 fn is_forest_within(
     alloc: Global,
     parts: &Parts,

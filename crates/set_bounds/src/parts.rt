@@ -1,19 +1,20 @@
-//! Whether the equalities of a set close no cycle, and into which parts the set falls.
+//! Tests whether the equalities of a set close no cycle, and divides a set into parts that no equality joins.
 ghost use Rattle.std.specs.Prelude.{◌≡◌, ◌<◌, ◌&&◌, ℕ, true, not, IfOk};
 ghost use Rattle.entry_sets.specs.Sets.{has_entry};
 ghost use Rattle.berge_tree.specs.Equalities.{ClosesNoCycle};
 ghost use Rattle.join_graph.specs.Kept.{equalities_within};
 ghost use Rattle.join_graph.specs.Names.{HasEntriesBelow16};
-ghost use Rattle.set_bounds.specs.Parts.{FallsInto, crosses, some_cross};
+ghost use Rattle.set_bounds.specs.Parts.{ConsistsOfParts, crosses, some_cross};
 
 use base_io::NoMemory;
 use berge_tree::Edge;
 use entry_sets::EntrySet;
 use join_graph::{Parts, count_within, joins_within, kept};
+use limits::GREATEST_ENTRIES;
 use std::alloc::Global;
 
-// A round that changes the part adds at least one entry to it, and there are at most 16 entries.
-const ROUNDS: u8 = 16;
+// The number of rounds in which the first part grows. Each round that changes the part adds at least one entry.
+const ROUNDS: u8 = GREATEST_ENTRIES as u8;
 
 /// Whether the equalities of a set close no cycle. They close no cycle if turn 0 keeps all of them.
 pub(crate) fn is_forest(alloc: Global, parts: &Parts, subset: EntrySet) -> Result<bool, NoMemory>
@@ -23,7 +24,7 @@ pub(crate) fn is_forest(alloc: Global, parts: &Parts, subset: EntrySet) -> Resul
     Ok(edges.len() == count_within(parts.equalities.as_slice(), subset))
 }
 
-// If an entry of the equality is in the part, both entries of the equality are added to the part. Otherwise the part is as before.
+// If an entry of the equality is in the part, both entries of the equality are added to the part. Otherwise the part is unchanged.
 fn with_edge(part: EntrySet, edge: Edge) -> EntrySet
     requires { HasEntriesBelow16 edge }
 {
@@ -45,7 +46,7 @@ fn with_neighbours(edges: &[Edge], subset: EntrySet, part: EntrySet) -> EntrySet
     part
 }
 
-/// The least entry of a set, with all entries that the set's equalities connect with it. `falls_into` tests this part before it is used.
+/// The least entry of a set, with all entries that the set's equalities connect with it. `consists_of_parts` tests this part before it is used.
 pub(crate) fn first_part(edges: &[Edge], subset: EntrySet) -> EntrySet {
     let bits = subset.bits();
     let mut part = EntrySet::from_bits(bits & bits.wrapping_neg());
@@ -90,10 +91,15 @@ fn some_cross(edges: &[Edge], subset: EntrySet, part: EntrySet) -> bool
     false
 }
 
-/// True only if the set falls into the part and the rest, and both have smaller numbers.
-pub(crate) fn falls_into(edges: &[Edge], subset: EntrySet, part: EntrySet, rest: EntrySet) -> bool
+/// True only if the set consists of the part and the rest, and no equality joins them. Both have smaller numbers than the set.
+pub(crate) fn consists_of_parts(
+    edges: &[Edge],
+    subset: EntrySet,
+    part: EntrySet,
+    rest: EntrySet,
+) -> bool
     requires others { (entry : ℕ) → has_entry rest entry ≡ (has_entry subset entry && not (has_entry part entry)) }
-    ensures falls { result ≡ true → FallsInto edges.now subset part rest }
+    ensures falls { result ≡ true → ConsistsOfParts edges.now subset part rest }
     ensures part { result ≡ true → part < subset }
     ensures rest { result ≡ true → rest < subset }
 {

@@ -1,4 +1,4 @@
--- What a store and a sink over slices tell.
+-- The files that a store over slices tells, and the bytes that a sink over a slice tells.
 use Rattle.std.specs.Prelude.{ℕ, ◌∷◌, List, map, take, Option, Some}
 use Rattle.base_io.specs.Files.{Files}
 use Rattle.slice_devices.specs.declared.slice_store.SliceFile.{SliceFile}
@@ -7,7 +7,7 @@ use Rattle.slice_devices.specs.declared.slice_store.SliceFile.{SliceFile}
 abbrev pub files_of : List SliceFile → Files
 files_of files = map (λ file. (file.name.now, file.bytes.now)) files
 
--- A sink tells the ghost name of its room, and then the bytes that were written. By this name the lender knows that the sink still has the
--- same room, and so that the bytes that the sink took are in this room.
+-- what a sink tells: the ghost name of its room, and then the bytes that were written. By the name the lender knows that the sink still has the lent
+-- room. So the bytes are in this room
 abbrev pub named_bytes : ℕ → ℕ → List ℕ → Option (List ℕ)
 named_bytes name used room = Some (name ∷ take used room)

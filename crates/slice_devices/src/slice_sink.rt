@@ -6,8 +6,8 @@ ghost use Rattle.slice_devices.specs.Slices.{named_bytes};
 
 use base_io::{Failed, Sink};
 
-/// A room, and how many bytes at its front were written. A write takes as many of its bytes as there is room for. A write fails, and is counted, only
-/// if the room is full and the write has bytes.
+/// A room, the number of bytes written at its front, and the number of failed writes. A write takes as many bytes as there is room for. It fails only
+/// if the room is full and the write brings bytes.
 #[derive(Drop)]
 pub struct SliceSink<'a> {
     pub room: &'a mut [u8],
@@ -38,7 +38,7 @@ impl Sink for SliceSink<'_> {
 
     ghost faults = { λ s. s.faults };
 
-    /// Writes as every sink does, and changes no byte of the room after the bytes that were taken.
+    /// Takes as many bytes as there is room for.
     fn write(&mut self, bytes: &[u8]) -> Result<usize, Failed>
         ensures bound { IfOk result (λ n. n ≤ length bytes.now) }
         ensures progress { 0 < length bytes.now → IfOk result (λ n. 0 < n) }

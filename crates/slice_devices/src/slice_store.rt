@@ -13,7 +13,7 @@ pub struct SliceFile<'a> {
     pub bytes: &'a [u8],
 }
 
-/// The files of a list. Of two files with the same name the first counts. The store tells its files, and no read fails.
+/// A store of the files in a list. If two files have the same name, the first one is read. The store tells its files, and no read fails.
 #[derive(Drop)]
 pub struct SliceStore<'a, 'b> {
     pub files: &'a [SliceFile<'b>],
@@ -42,7 +42,7 @@ fn find_file<'b>(files: &[SliceFile<'b>], name: &str) -> Option<&'b [u8]>
     None
 }
 
-// Copies the bytes from offset `offset` on to the front of a buffer: all that there are, or as many as fit. Answers how many it copied.
+// Copies bytes, from `offset` on, into the front of a buffer, until the bytes end or the buffer is full. Returns how many it copied.
 fn copy_front(bytes: &[u8], offset: u64, into: &mut [u8]) -> usize
     requires { 0 < length into.old }
     ensures count { result ≡ min (length bytes.now - offset) (length into.new) }

@@ -1,4 +1,4 @@
--- How much of a call is handed on.
+-- How many bytes of a call a slow device hands on.
 use Rattle.std.specs.Prelude.{ℕ, max, min}
 
 -- how many of the `wanted` bytes of a call are handed on: at most `most`, where 0 counts as 1

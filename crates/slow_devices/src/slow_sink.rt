@@ -6,8 +6,8 @@ ghost use Rattle.slow_devices.specs.Cuts.{most_bytes};
 
 use base_io::{Failed, MemSink, Sink};
 
-/// A sink over memory, which takes at most `most` bytes in each call; if `most` is 0, it counts as 1. The bytes taken, room, counts and failures are
-/// those of the inner sink.
+/// A sink that takes at most `most` bytes in each call. If `most` is 0, it counts as 1. The bytes taken, room, counts and failures are those of the
+/// inner sink.
 #[derive(Drop)]
 pub struct SlowSink {
     pub inner: MemSink,
@@ -30,7 +30,7 @@ impl Sink for SlowSink {
 
     ghost faults = { λ s. s.inner.faults };
 
-    /// Writes as every sink does. The inner sink takes the bytes that are handed on.
+    /// Hands at most `most` of the bytes on to the inner sink.
     fn write(&mut self, bytes: &[u8]) -> Result<usize, Failed>
         ensures bound { IfOk result (λ n. n ≤ length bytes.now) }
         ensures progress { 0 < length bytes.now → IfOk result (λ n. 0 < n) }
@@ -39,13 +39,13 @@ impl Sink for SlowSink {
         ensures later { self.old.inner.faults ≤ self.new.inner.faults }
         ensures failed { OnErr result (Rose self.old.inner.faults self.new.inner.faults) }
 
-        // A call fails exactly if the inner sink lists this call as one that fails, or if the call has bytes and finds no room.
+        // A call fails exactly if its number is in the inner sink's `fail_at`, or if it brings bytes and no room is left.
         ensures calls { self.new.inner.calls ≡ one_more self.old.inner.calls }
         ensures fail_at { self.new.inner.fail_at ≡ self.old.inner.fail_at }
         ensures fails { is_err result ≡ (is_failing_call self.new.inner.calls self.old.inner.fail_at
             || (nat_eq self.old.inner.room 0 && nat_lt 0 (length bytes.now))) }
 
-        // A call takes as many bytes as are handed on, and at most as many as there is room for.
+        // A call takes the bytes that are handed on, or as many of them as there is room for.
         ensures most { IfOk result (λ n. n ≡ min self.old.inner.room (most_bytes self.old.most (length bytes.now))) }
         ensures room { IfOk result (λ n. self.new.inner.room + n ≡ self.old.inner.room) }
         ensures kept_room { OnErr result (self.new.inner.room ≡ self.old.inner.room) }

@@ -7,7 +7,8 @@ ghost use Rattle.slow_devices.specs.Cuts.{most_bytes};
 
 use base_io::{MemStore, Store, StoreError};
 
-/// Files in memory. Each call gives at most `most` bytes; if `most` is 0, it counts as 1. Files, counts and failures are those of the inner store.
+/// A store of files in memory that gives at most `most` bytes in each call. If `most` is 0, it counts as 1. Files, counts and failures are those of
+/// the inner store.
 #[derive(Drop)]
 pub struct SlowStore {
     pub inner: MemStore,
@@ -15,7 +16,7 @@ pub struct SlowStore {
 }
 
 impl SlowStore {
-    /// A store that gives at most `most` bytes of the inner store's bytes in each call.
+    /// A store that gives at most `most` of the inner store's bytes in each call.
     pub fn new(inner: MemStore, most: u32) -> SlowStore
         requires { 0 < most }
         ensures inner { result.inner ≡ inner }
@@ -32,7 +33,7 @@ impl Store for SlowStore {
 
     ghost misses = { λ s. s.inner.misses };
 
-    /// Reads as every store does. The inner store reads the bytes that are handed on.
+    /// Lets the inner store read at most `most` bytes into the front of the buffer.
     fn read_at(&mut self, name: &str, at: u64, into: &mut [u8]) -> Result<usize, StoreError>
         requires place { at ≤ most_file }
         requires room { 0 < length into.old }
@@ -45,14 +46,15 @@ impl Store for SlowStore {
             → (self.new.inner.faults ≡ self.old.inner.faults) × (self.new.inner.misses ≡ one_more self.old.inner.misses) }
         ensures misses { (IsErrOf result StoreError.Missing → ⊥) → self.new.inner.misses ≡ self.old.inner.misses }
 
-        // A read gives the least of how many bytes there are, how many fit and how many are handed on.
+        // A read gives bytes until the file ends, the buffer is full or `most` bytes are read. Bytes of the buffer past the first `most` stay as they
+        // were.
         ensures most { IfOk result (λ n. (bytes : List ℕ) → file_of self.old.inner.files name.now ≡ Some bytes
             → n ≡ min (length bytes - at) (most_bytes self.old.most (length into.new))) }
         ensures behind { drop (most_bytes self.old.most (length into.old)) into.new
             ≡ drop (most_bytes self.old.most (length into.old)) into.old }
         ensures same_most { self.new.most ≡ self.old.most }
 
-        // A call fails exactly if the inner store lists this call as one that fails.
+        // A call fails exactly if its number is in the inner store's `fail_at`.
         ensures calls { self.new.inner.calls ≡ one_more self.old.inner.calls }
         ensures fail_at { self.new.inner.fail_at ≡ self.old.inner.fail_at }
         ensures fails { has_failed result ≡ is_failing_call self.new.inner.calls self.old.inner.fail_at }

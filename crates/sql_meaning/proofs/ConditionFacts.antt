@@ -1,4 +1,4 @@
--- A condition is made of parts. The lemmas carry facts of a condition to its parts, and say when a condition holds by its parts.
+-- The lemmas carry facts about a condition over to its parts. They also derive from its parts whether it holds.
 use Rattle.std.proofs.Common.{◌≡◌, ℕ, zero, suc, ◌+◌, ◌<◌, Bool, true, not, IsTrue, ◌↔◌, refl, inl, inr, List, [], ◌∷◌, length, map, get_or, ap, sym, ◌∙◌, subst, arith}
 use Rattle.std.specs.List.{flat_map, All, Any, AllByRecursion}
 use Rattle.std.proofs.lemmas.Bool.{false≢true, false_from_ne_true, or_cases, and_parts, and_from, or_right}
@@ -62,7 +62,7 @@ module _ (Q : Cond-F Cond → Type 0) where
   pub every_in_not : (cond inner c : Cond) → cond ≡ Not inner → c ≡ inner → every-Cond Q cond → every-Cond Q c
   every_in_not cond inner c is same h = subst (every-Cond Q) (sym same) (every_not Q inner (subst (every-Cond Q) is h))
 
--- ---- a condition holds by its parts
+-- ---- whether a condition holds, derived from its parts
 
 module _ (tables : Tables) (row_of : ℕ → ℕ) where
   abbrev is_true : Cond → Bool

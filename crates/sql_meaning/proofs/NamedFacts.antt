@@ -1,5 +1,4 @@
--- A condition that can be asked of a database (`IsWellTyped`) names only entries of the database, and a comparison of operands of one kind
--- can be asked.
+-- A well-typed condition (`IsWellTyped`) names only entries of the database. A comparison of operands of one kind is well typed.
 use Rattle.std.proofs.Common.{◌<◌, length, refl, subst}
 use Rattle.std.specs.List.{All}
 use Rattle.csv_tables.specs.declared.types.Database.{Database}

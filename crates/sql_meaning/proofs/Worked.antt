@@ -17,7 +17,7 @@ use Rattle.sql_meaning.specs.Tables.{cells_of, Tables, row_counts, tables_of}
 use Rattle.sql_meaning.proofs.NamedFacts.{can_ask}
 use Rattle.sql_meaning.proofs.ConditionFacts.{holds_and, holds_or, holds_not, holds_compare}
 
--- the comparison is of column X with a number
+-- whether the comparison of column X with this number holds in this row
 abbrev x_says : Op → ℕ → ℕ → Bool
 x_says op number row = comparison_holds one_two_three (λ entry. row) op (column_at 0 0) (operand.Int (pos number))
 
@@ -36,8 +36,8 @@ not_in = rows_by not_in_one_three (λ row. not (x_says op.Eq 1 row || (x_says op
     ∙ ap not (holds_or one_two_three (λ entry. row) (x_is op.Eq 1 ∷ x_is op.Eq 3 ∷ []))
     ∙ rw (one_says op.Eq 1 row, one_says op.Eq 3 row) refl)
 
-pub crossed : rows_where one_two_three from_three_to_one ≡ []
-crossed = rows_by from_three_to_one (λ row. x_says op.Ge 3 row && (x_says op.Le 1 row && true))
+pub ends_swapped : rows_where one_two_three from_three_to_one ≡ []
+ends_swapped = rows_by from_three_to_one (λ row. x_says op.Ge 3 row && (x_says op.Le 1 row && true))
     (λ row. holds_and one_two_three (λ entry. row) (x_is op.Ge 3 ∷ x_is op.Le 1 ∷ []) ∙ rw (one_says op.Ge 3 row, one_says op.Le 1 row) refl)
 
 pub thrice : rows_where one_two_three (Or (x_is op.Eq 2 ∷ x_is op.Eq 2 ∷ x_is op.Eq 2 ∷ [])) ≡ 1 ∷ []
@@ -64,7 +64,7 @@ triangle_chosen = filter_agree (λ choice. query_holds triangle T (slice_index c
 pub triangle_answer : answer triangle T ≡ (Int (pos 1) ∷ Int (pos 1) ∷ Int (pos 1) ∷ []) ∷ (Int (pos 1) ∷ Int (pos 2) ∷ Int (pos 1) ∷ []) ∷ (Int (pos 1) ∷ Int (pos 1) ∷ Int (pos 2) ∷ []) ∷ (Int (pos 2) ∷ Int (pos 1) ∷ Int (pos 1) ∷ []) ∷ []
 triangle_answer = ap (map (λ choice. selected triangle T (slice_index choice))) triangle_chosen
 
--- ---- its database
+-- ---- the triangle's database
 
 is_column : (from column : ℕ) → from < 3 → column < 2 → IsColumnOf triangle_tables (record { from = from; column = column })
 is_column zero column low within = record { entry = omega arith; exists = within }

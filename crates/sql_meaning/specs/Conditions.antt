@@ -19,7 +19,7 @@ abbrev pub column_value : Tables → (ℕ → ℕ) → ColumnRef → Value
 column_value tables row_of column =
     slice_index_or (slice_index_or (tables column.from) (row_of column.from) []) column.column (Int (pos 0))
 
--- the value of an operand: of a column in its entry's row, or of a literal
+-- the value of an operand, which is a literal or a column in its entry's row
 abbrev pub operand_value : Tables → (ℕ → ℕ) → Operand → Value
 operand_value tables row_of (operand.Column column) = column_value tables row_of column
 operand_value tables row_of (operand.Int number) = Int number

@@ -1,6 +1,6 @@
 -- When a database fits a query.
 use Rattle.std.specs.Prelude.{◌≡◌, ℕ, ◌<◌, ◌≤◌, Bool, List, length, map, All, Some, option_map, slice_get, slice_index, ⊤}
-use Rattle.limits.specs.Profile.{most_conjuncts, most_rows}
+use Rattle.limits.specs.Profile.{most_conjuncts, most_entries, most_rows}
 use Rattle.csv_tables.specs.Cells.{AreColumns}
 use Rattle.csv_tables.specs.declared.types.Cells.{Cells}
 use Rattle.csv_tables.specs.declared.types.Database.{Database}
@@ -13,7 +13,7 @@ use Rattle.query_types.specs.declared.types.Cond.{Cond}
 use Rattle.query_types.specs.declared.types.Query.{Query}
 use Rattle.sql_meaning.specs.Tables.{cells_of, row_counts, tables_of}
 
--- each column has one cell for each row, and in a column of texts each cell is the number of a text in the pool
+-- Each column has one cell for each row. In a column of texts each cell is the number of a text in the pool
 abbrev pub AreCells : List (List ℕ) → Cells → Type 0
 AreCells texts cells = AreColumns texts cells.rows cells.kinds cells.columns
 
@@ -33,20 +33,20 @@ pub record IsColumnOfKind (db : Database) (column : ColumnRef) (text : Bool) : T
   pub exists : IsColumnOf db column
   pub kind : option_map is_text (slice_get (cells_of db column.from).kinds column.column) ≡ Some text
 
--- the condition can be asked of the database: every comparison in it is between values of one kind, over columns that exist
+-- every comparison in the condition is between two numbers or two texts, and its columns exist in the database
 abbrev pub IsWellTyped : Database → Cond → Type 0
 IsWellTyped db cond = IsTyped (IsColumnOfKind db) cond
 
--- the cells of each table are right (`AreCells`), and each entry's slot is the number of a table
+-- the cells of each table are valid (`AreCells`), and each entry's slot is the number of a table
 pub record AreTables (db : Database) : Type 0 where
   pub cells : All (AreCells db.pool) db.cells
   pub slots : All (λ slot. slot < length db.cells) db.slots
 
--- the query is within its limits, and the database fits the query: each FROM entry has a slot, entries of the same table have the same slot, and no
+-- The query is within its limits, and the database fits the query. Each FROM entry has a slot, entries of the same table have the same slot, and no
 -- table has too many rows. All columns that the query names exist, with the kinds that its comparisons need
 pub record IsDatabaseOf (query : Query) (db : Database) : Type 0 where
   pub some : 0 < length query.from
-  pub few : length query.from ≤ 12
+  pub few : length query.from ≤ most_entries
   pub few_conjuncts : length query.conjuncts ≤ most_conjuncts
   pub entries : length db.slots ≡ length query.from
   pub tables : AreTables db

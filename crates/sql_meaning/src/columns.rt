@@ -53,7 +53,7 @@ pub fn value_of_column<'a>(column: &ColumnRef, db: &'a Database, rows: &[u32]) -
     value_in(&db.cells.as_slice()[slot], &db.pool, column.column, row)
 }
 
-/// The value of an operand: of a column in its entry's row, or of a literal.
+/// The value of an operand, which is a literal or a column in its entry's row.
 pub(crate) fn value_of_operand<'a>(
     operand: &'a Operand,
     db: &'a Database,

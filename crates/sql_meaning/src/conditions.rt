@@ -25,8 +25,8 @@ fn comparison_holds(op: Op, left: &Operand, right: &Operand, db: &Database, rows
     compares_as(op, compare_values(left, right))
 }
 
-/// Whether a condition holds. `rows` has the number of a row for each FROM entry, at the entry's number. The test allocates no memory; the
-/// recursion is as deep as the condition.
+/// Whether a condition holds. `rows[e]` is the number of the row that FROM entry e has. The test allocates no memory. Its recursion is as deep as
+/// the condition.
 pub fn holds(cond: &Cond, db: &Database, rows: &[u32]) -> bool
     requires tables { AreTables db.now }
     requires askable { IsWellTyped db.now cond.now }

@@ -1,4 +1,4 @@
-//! The definitions at small tables: theorems by computation.
+//! What the definitions give for small tables, as theorems that are proved by computation.
 ghost use Rattle.std.specs.Prelude.{◌≡◌, ◌∷◌, [], codes, pos};
 ghost use Rattle.std.specs.declared.cmp.Ordering.TheVariants.{Less, Greater};
 ghost use Rattle.csv_tables.specs.Values.{Int, Text, value_cmp};
@@ -9,10 +9,10 @@ ghost use Rattle.sql_meaning.specs.Databases.{IsDatabaseOf};
 ghost use Rattle.sql_meaning.specs.Examples.{from_three_to_one, not_in_one_three, one_two_three, rows_where, triangle, triangle_tables, x_is};
 ghost use Rattle.sql_meaning.specs.Tables.{tables_of};
 
-/// Conditions over a table with the rows 1, 2 and 3, which are numbered from 0.
+/// Conditions over a table of one column, with the values 1, 2 and 3 in its rows 0, 1 and 2. The results are row numbers.
 pub fn filters()
     ensures not_in { rows_where one_two_three not_in_one_three ≡ 1 ∷ [] }
-    ensures crossed { rows_where one_two_three from_three_to_one ≡ [] }
+    ensures ends_swapped { rows_where one_two_three from_three_to_one ≡ [] }
     ensures thrice { rows_where one_two_three (Or (x_is op.Eq 2 ∷ x_is op.Eq 2 ∷ x_is op.Eq 2 ∷ [])) ≡ 1 ∷ [] }
     ensures up_to { rows_where one_two_three (x_is op.Le 2) ≡ 0 ∷ 1 ∷ [] }
     ensures below { rows_where one_two_three (x_is op.Lt 2) ≡ 0 ∷ [] }
@@ -31,7 +31,7 @@ pub fn texts()
     ensures accent { value_cmp (Text (195 ∷ 169 ∷ [])) (Text (codes "z")) ≡ Greater }
 {}
 
-/// Three tables joined in a triangle: of 27 choices four are chosen.
+/// Each two of three tables are joined, in a triangle. Four of the 27 choices satisfy every conjunct.
 pub fn triangles()
     ensures fits { IsDatabaseOf triangle triangle_tables }
     ensures chosen { chosen triangle (tables_of triangle_tables)

@@ -1,10 +1,11 @@
-//! What a query means: when a condition holds, which choices of rows make an answer, and the answer itself, over whole tables as lists of rows.
+//! What a query means: when a condition holds, which choices of rows make an answer, and the answer itself. Tables are lists of rows.
 //! Nothing here knows of plans, bounds or hashing. The code that runs a query is proved against these definitions.
 //!
 //! In: a query (`query_types`) and a database (`csv_tables`) that has its tables (`IsDatabaseOf`). `holds` tests a condition
-//! on given rows and allocates nothing. `answer_slow` lists the choices of the answer by nested loops, for tests. Callers
-//! cite `tables_of`, `cond_holds`, `entries_named`, `choices_of`, `chosen`, `answer`, `conjuncts_of`, `level_over` for
-//! levels over given lists of rows, `level` and `scan` over whole tables, and the laws of `laws`.
+//! on given rows and allocates nothing. `answer_slow` lists the choices of the answer by nested loops, for tests.
+//!
+//! Contracts use `tables_of`, `cond_holds`, `entries_named`, `choices_of`, `chosen`, `answer` and `conjuncts_of`. In them `level_over` is a
+//! level over given lists of rows, and `level` and `scan` are over whole tables. `laws` has the laws.
 #![tactic(auto)]
 
 mod answer;

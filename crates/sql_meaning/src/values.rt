@@ -1,4 +1,4 @@
-//! Values that borrow their texts, and their order.
+//! Values that borrow their texts, and how they compare.
 ghost use Rattle.std.specs.Prelude.{◌≡◌};
 ghost use Rattle.csv_tables.specs.Values.{value_cmp};
 ghost use Rattle.sql_meaning.specs.Conditions.{compares};
@@ -15,7 +15,7 @@ pub enum ValueRef<'a> {
     Text(&'a str),
 }
 
-/// The order of two values.
+/// Whether value `a` is less than, equal to or greater than `b`.
 pub(crate) fn compare_values(a: ValueRef, b: ValueRef) -> Ordering
     ensures { result ≡ value_cmp (value_of_ref a.entry) (value_of_ref b.entry) }
 {

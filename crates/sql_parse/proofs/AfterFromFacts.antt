@@ -1,5 +1,4 @@
--- When the entries of FROM are known, the binder reads the query's clauses one after another: the SELECT list, the conditions of the parts of FROM, and the
--- condition of WHERE.
+-- The clauses of a query whose FROM entries are known. The code checks the SELECT list, then the ON conditions, and then the condition of WHERE.
 use Rattle.std.proofs.Common.{◌≡◌, ℕ, List, [], ◌++◌, Option, ap, subst, sym, ◌∙◌, append_assoc}
 use Rattle.std.specs.List.{flat_map}
 use Rattle.query_grammar.specs.declared.tree.FromItemNode.{FromItemNode}
@@ -10,7 +9,7 @@ use Rattle.query_types.specs.declared.types.Cond.{Cond}
 use Rattle.query_types.specs.declared.types.Source.{Source}
 use Rattle.query_names.specs.Answers.{IsNameError, or_first}
 use Rattle.query_names.specs.Scopes.{Scoped, whole_scope, conditions, on_conditions, where_condition}
-use Rattle.query_names.specs.Binding.{from_of, outs_offences_of, names_in, kinds_in, lists_in, members_in}
+use Rattle.query_names.specs.Binding.{from_of, outs_offences_of, names_in, kinds_in, long_lists_in, members_in}
 use Rattle.sql_parse.specs.AfterFrom.{names_after_from, kinds_after_from, lists_after_from, conjuncts_by}
 use Rattle.sql_parse.proofs.KindFacts.{flat_map-append}
 use Rattle.query_names.proofs.Walk.{error_after, name_error_append, or_first_append}
@@ -51,11 +50,11 @@ module _ (binder : Binder) (query : QueryNode) where
       sym (or_first_append old (flat_map (kinds_in binder) (on_conditions 0 query.parts)) (flat_map (kinds_in binder) (where_condition (from_of binder) query.filter)))
       ∙ ap (or_first old) (sym (split (kinds_in binder) (from_of binder) query))
 
-  pub lists_behind_are : (old : Option ℕ) → or_first (or_first old (flat_map lists_in (on_conditions 0 query.parts))) (flat_map lists_in (where_condition (from_of binder) query.filter)) ≡ or_first old (lists_after_from binder query)
+  pub lists_behind_are : (old : Option ℕ) → or_first (or_first old (flat_map long_lists_in (on_conditions 0 query.parts))) (flat_map long_lists_in (where_condition (from_of binder) query.filter)) ≡ or_first old (lists_after_from binder query)
   unfolding lists_after_from
   lists_behind_are old =
-      sym (or_first_append old (flat_map lists_in (on_conditions 0 query.parts)) (flat_map lists_in (where_condition (from_of binder) query.filter)))
-      ∙ ap (or_first old) (sym (split lists_in (from_of binder) query))
+      sym (or_first_append old (flat_map long_lists_in (on_conditions 0 query.parts)) (flat_map long_lists_in (where_condition (from_of binder) query.filter)))
+      ∙ ap (or_first old) (sym (split long_lists_in (from_of binder) query))
 
   pub conjuncts_are_both : conjuncts_by binder query ≡ flat_map (members_in binder) (on_conditions 0 query.parts) ++ flat_map (members_in binder) (where_condition (from_of binder) query.filter)
   unfolding conjuncts_by

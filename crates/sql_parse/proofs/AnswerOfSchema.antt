@@ -1,4 +1,4 @@
--- If `IsAnswer` allows a query as the answer to a text, the query is one over the schema.
+-- If `IsAnswer` allows a query as the result for a text, it is a query over the schema.
 use Rattle.std.proofs.Common.{◌≡◌, inl, inr, ℕ, ◌≤◌, List, [], ◌∷◌, ◌++◌, length, Result, Ok, Err, subst, sym, refl}
 use Rattle.std.specs.Prelude.{IfOk}
 use Rattle.limits.specs.Profile.{most_conjuncts, most_entries, most_outputs}
@@ -14,7 +14,7 @@ use Rattle.query_types.specs.Validity.{IsOf}
 use Rattle.query_names.specs.Names.{entries}
 use Rattle.query_names.specs.Offences.{name_offences, all_kind_offences}
 use Rattle.query_names.specs.Values.{conjuncts, query_of}
-use Rattle.sql_parse.specs.QueryOrRefusal.{over, first_list, refusal_at_first, name_error, kind_error, limit_refusals, long_lists, refusals, unless, query_or_refusal}
+use Rattle.sql_parse.specs.QueryOrRefusal.{refusal_if_above, first_list, refusal_at_first, name_error, kind_error, limit_refusals, long_lists, refusals, first_refusal_or, query_or_refusal}
 use Rattle.query_names.specs.Numbers.{number_offences}
 use Rattle.sql_parse.proofs.BindFacts.{not_over}
 use Rattle.sql_parse.specs.Reading.{lexemes_of, unless_number, IsAnswer}
@@ -33,7 +33,7 @@ no_place : (wrong : ℕ → QueryError) (places : List ℕ) → refusal_at_first
 no_place wrong [] none = refl
 no_place wrong (place ∷ rest) none = absurd cc
 
-pub unless_ok : (wrong : List QueryError) (value query : Query) → unless wrong value ≡ Ok query → (wrong ≡ []) × (value ≡ query)
+pub unless_ok : (wrong : List QueryError) (value query : Query) → first_refusal_or wrong value ≡ Ok query → (wrong ≡ []) × (value ≡ query)
 unless_ok [] value query is = (refl, cc)
 unless_ok (e ∷ rest) value query is = absurd cc
 
@@ -43,10 +43,10 @@ bound_of_schema schema text tokens tree query spelled is =
     let from : List Source = entries schema text tree in
     let names : List QueryError = refusal_at_first name_error (name_offences schema text from tree) in
     let kinds : List QueryError = refusal_at_first kind_error (all_kind_offences schema text from tree) in
-    let many_entries : List QueryError = over limit.FromEntries most_entries (length from) in
+    let many_entries : List QueryError = refusal_if_above limit.FromEntries most_entries (length from) in
     let lists : List QueryError = first_list (long_lists from tree) in
-    let many_conjuncts : List QueryError = over limit.Conjuncts most_conjuncts (length (conjuncts schema text from tree)) in
-    let many_outputs : List QueryError = over limit.Outputs most_outputs (length (query_of schema text tree).select) in
+    let many_conjuncts : List QueryError = refusal_if_above limit.Conjuncts most_conjuncts (length (conjuncts schema text from tree)) in
+    let many_outputs : List QueryError = refusal_if_above limit.Outputs most_outputs (length (query_of schema text tree).select) in
     let parts : (refusals schema text tree ≡ []) × (query_of schema text tree ≡ query) = unless_ok (refusals schema text tree) (query_of schema text tree) query is in
     let limits : limit_refusals (query_of schema text tree) (long_lists from tree) ≡ [] = none_behind (names ++ kinds) (limit_refusals (query_of schema text tree) (long_lists from tree)) parts.0 in
     let bad : names ++ kinds ≡ [] = none_before (names ++ kinds) (limit_refusals (query_of schema text tree) (long_lists from tree)) parts.0 in

@@ -1,11 +1,11 @@
--- A text is answered in stages: tokens, nesting, grammar, numbers, and the tree. The lemmas say what the answer is if the text fails in one of them.
+-- A text is read in stages: tokens, nesting, grammar, numbers, and the tree. The lemmas give the result for a text at the end of each stage.
 use Rattle.std.proofs.Common.{◌≡◌, inl, inr, ℕ, ◌-◌, ◌^◌, ◌<◌, ◌≤◌, min, All, List, [], ◌∷◌, length, Option, Some, None, Result, Err, ap, subst, sym, ◌∙◌, refl, arith}
 use Rattle.ll_grammars.specs.declared.lexeme.Lexeme.{Lexeme}
 use Rattle.ll_grammars.specs.Places.{IsSyntaxErrorAt}
 use Rattle.sql_tokens.specs.Words.{IsLexemeOf}
 use Rattle.query_grammar.specs.declared.tree.QueryNode.{QueryNode}
 use Rattle.query_grammar.specs.Grammar.{QuerySpecification}
-use Rattle.query_grammar.specs.Lexemes.{IsQueryOf}
+use Rattle.query_grammar.specs.Lexemes.{IsQueryWith}
 use Rattle.query_grammar.specs.Nesting.{nesting}
 use Rattle.query_grammar.proofs.Kept.{is_query_of}
 use Rattle.schema_types.specs.declared.types.Schema.{Schema}
@@ -17,7 +17,7 @@ use Rattle.query_names.specs.Numbers.{number_offences}
 use Rattle.sql_parse.specs.QueryOrRefusal.{query_or_refusal}
 use Rattle.query_names.specs.Answers.{first}
 use Rattle.sql_parse.specs.Refusing.{Answers}
-use Rattle.sql_parse.specs.Reading.{least, unless_number, IsAnswer}
+use Rattle.sql_parse.specs.Reading.{earlier_offset, unless_number, IsAnswer}
 use Rattle.sql_parse.specs.Stages.{AreLexemes, IsLexRefusal, least_of}
 
 pub unlexed : (schema : Schema) (text : List ℕ) (e : QueryError) → IsLexRefusal text e → IsAnswer schema text (Err e)
@@ -27,7 +27,7 @@ unlexed schema text (error.Name place) bad = absurd bad
 unlexed schema text (error.Kind place) bad = absurd bad
 unlexed schema text (error.Limit which n) bad = absurd bad
 
-least_is : (place : ℕ) (others : List ℕ) → least_of place (first others) ≡ least place others
+least_is : (place : ℕ) (others : List ℕ) → least_of place (first others) ≡ earlier_offset place others
 least_is place [] = refl
 least_is place (other ∷ rest) = refl
 
@@ -59,7 +59,7 @@ module _ (schema : Schema) (text : List ℕ) (lexemes : List Lexeme) (are : AreL
       place = place;
       wrong = subst (λ l. IsSyntaxErrorAt QuerySpecification l (length text) place) are.are wrong;
       refused = ap (λ n. Err (error.Syntax (least_of place n))) is ∙ ap (λ p. Err (error.Syntax p)) (least_is place (number_offences text lexemes))
-          ∙ ap (λ l. Err (error.Syntax (least place (number_offences text l)))) are.are;
+          ∙ ap (λ l. Err (error.Syntax (earlier_offset place (number_offences text l)))) are.are;
     }))))
 
     module _ (tree : QueryNode) (spells : QuerySpecification lexemes tree) where
@@ -80,5 +80,5 @@ module _ (schema : Schema) (text : List ℕ) (lexemes : List Lexeme) (are : AreL
       spelled answer none (inl memory) = inl memory
       spelled answer none (inr is) = by answer (is ∙ sym (no_number (number_offences text lexemes) (query_or_refusal schema text tree) none))
 
-pub lie_in : (text : List ℕ) (lexemes : List Lexeme) (tree : QueryNode) → QuerySpecification lexemes tree → All (IsLexemeOf text) lexemes → IsQueryOf (IsLexemeOf text) tree
+pub lie_in : (text : List ℕ) (lexemes : List Lexeme) (tree : QueryNode) → QuerySpecification lexemes tree → All (IsLexemeOf text) lexemes → IsQueryWith (IsLexemeOf text) tree
 lie_in text lexemes tree spells within = is_query_of (IsLexemeOf text) lexemes tree spells within

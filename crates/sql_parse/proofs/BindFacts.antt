@@ -1,4 +1,4 @@
--- The binder finds the refusals and the query that the specification gives for the text.
+-- The code finds the query or the refusal that `query_or_refusal` gives for the text.
 use Rattle.std.proofs.Common.{◌≡◌, inl, inr, ℕ, ◌-◌, ◌^◌, ◌≤◌, min, Bool, true, false, nat_lt, cond, List, [], ◌∷◌, ◌++◌, length, Option, Some, None, Ok, Err, ap, sym, ◌∙◌, refl, append_assoc, arith}
 use Rattle.std.proofs.lemmas.Grind.{common_steps}
 use Rattle.std.proofs.lemmas.Bool.{ltb-false}
@@ -20,9 +20,9 @@ use Rattle.query_names.specs.Names.{entries, from_offences}
 use Rattle.query_names.specs.Scopes.{whole_scope, conditions}
 use Rattle.query_names.specs.Offences.{outs_offences, name_offences_in, name_offences, all_kind_offences}
 use Rattle.query_names.specs.Values.{conjuncts, selected, query_of}
-use Rattle.sql_parse.specs.QueryOrRefusal.{refusal, over, first_list, refusal_at_first, name_error, kind_error, limit_refusals, long_lists, refusals, unless, query_or_refusal}
+use Rattle.sql_parse.specs.QueryOrRefusal.{refusal, refusal_if_above, first_list, refusal_at_first, name_error, kind_error, limit_refusals, long_lists, refusals, first_refusal_or, query_or_refusal}
 use Rattle.query_names.specs.Answers.{first}
-use Rattle.query_names.specs.Binding.{schema_of, from_of, names_in, kinds_in, lists_in, members_in, outs_offences_of, test_offences_of, kind_offences_of, members_by}
+use Rattle.query_names.specs.Binding.{schema_of, from_of, names_in, kinds_in, long_lists_in, members_in, outs_offences_of, test_offences_of, kind_offences_of, members_by}
 use Rattle.sql_parse.specs.AfterFrom.{names_after_from, kinds_after_from, lists_after_from, conjuncts_by}
 use Rattle.sql_parse.specs.Outputs.{selected_by, capped}
 use Rattle.sql_parse.specs.Refusing.{too_long_list, limits_passed, limits_by, late_refusals, refusals_after_from, IsFirstOf, Answers}
@@ -62,7 +62,7 @@ no_place wrong (place ∷ rest) none = absurd cc
 
 -- ---- limits
 
-pub not_over : (which : LimitKind) (most n : ℕ) → over which most n ≡ [] → n ≤ most
+pub not_over : (which : LimitKind) (most n : ℕ) → refusal_if_above which most n ≡ [] → n ≤ most
 not_over which most n none = at (nat_lt most n) refl none where
   at : (more : Bool) → more ≡ nat_lt most n → cond more (refusal which n ∷ []) [] ≡ [] → n ≤ most
   at true is none = absurd cc
@@ -74,7 +74,7 @@ same_test n = grind (arith, common_steps)
 cut_twice : (n : ℕ) → min (min n (2 ^ 64 - 1)) (2 ^ 64 - 1) ≡ min n (2 ^ 64 - 1)
 cut_twice n = grind (arith, common_steps)
 
-over_capped : (n : ℕ) → over limit.Outputs most_outputs (capped n) ≡ over limit.Outputs most_outputs n
+over_capped : (n : ℕ) → refusal_if_above limit.Outputs most_outputs (capped n) ≡ refusal_if_above limit.Outputs most_outputs n
 over_capped n = ap (λ b. cond b (refusal limit.Outputs (capped n) ∷ []) []) (same_test n) ∙ ap (λ m. cond (nat_lt 1024 n) (error.Limit limit.Outputs m ∷ []) []) (cut_twice n)
 
 no_list : (lists : List ℕ) → first (first_list lists) ≡ None → first lists ≡ None
@@ -83,18 +83,18 @@ no_list (n ∷ rest) none = absurd cc
 
 module _ (from counted conjuncts outputs : ℕ) where
   abbrev due : List ℕ → List QueryError
-  due lists = over limit.FromEntries most_entries from ++ first_list lists ++ over limit.Conjuncts most_conjuncts conjuncts ++ over limit.Outputs most_outputs outputs
+  due lists = refusal_if_above limit.FromEntries most_entries from ++ first_list lists ++ refusal_if_above limit.Conjuncts most_conjuncts conjuncts ++ refusal_if_above limit.Outputs most_outputs outputs
 
   passed_by : (many : Bool) (lists : List ℕ) → many ≡ nat_lt most_entries from → (from ≤ 12 → first lists ≡ None → counted ≡ conjuncts)
-      → first (cond many (refusal limit.FromEntries from ∷ []) [] ++ too_long_list (first lists) ++ over limit.Conjuncts most_conjuncts counted ++ over limit.Outputs most_outputs (capped outputs))
-      ≡ first (cond many (refusal limit.FromEntries from ∷ []) [] ++ first_list lists ++ over limit.Conjuncts most_conjuncts conjuncts ++ over limit.Outputs most_outputs outputs)
+      → first (cond many (refusal limit.FromEntries from ∷ []) [] ++ too_long_list (first lists) ++ refusal_if_above limit.Conjuncts most_conjuncts counted ++ refusal_if_above limit.Outputs most_outputs (capped outputs))
+      ≡ first (cond many (refusal limit.FromEntries from ∷ []) [] ++ first_list lists ++ refusal_if_above limit.Conjuncts most_conjuncts conjuncts ++ refusal_if_above limit.Outputs most_outputs outputs)
   passed_by true lists is same = refl
   passed_by false (n ∷ rest) is same = refl
   passed_by false [] is same =
-      ap (λ n. first (over limit.Conjuncts most_conjuncts n ++ over limit.Outputs most_outputs (capped outputs))) (same (ltb-false most_entries from (sym is)) refl)
-      ∙ ap (λ l. first (over limit.Conjuncts most_conjuncts conjuncts ++ l)) (over_capped outputs)
+      ap (λ n. first (refusal_if_above limit.Conjuncts most_conjuncts n ++ refusal_if_above limit.Outputs most_outputs (capped outputs))) (same (ltb-false most_entries from (sym is)) refl)
+      ∙ ap (λ l. first (refusal_if_above limit.Conjuncts most_conjuncts conjuncts ++ l)) (over_capped outputs)
 
-  -- `counted` needs to be the number of conjuncts only if no earlier limit is passed
+  -- `counted` needs to be the number of conjuncts only if no earlier limit is exceeded
   passed : (lists : List ℕ) → (from ≤ 12 → first lists ≡ None → counted ≡ conjuncts) → first (limits_passed from (first lists) counted (capped outputs)) ≡ first (due lists)
   passed lists same = passed_by (nat_lt most_entries from) lists refl same
 
@@ -148,16 +148,16 @@ module _ (binder : Binder) (query : QueryNode) where
 
   module _ (is : None ≡ first (late_refusals binder query)) where
     abbrev many : List QueryError
-    many = over limit.FromEntries most_entries (length (from_of binder))
+    many = refusal_if_above limit.FromEntries most_entries (length (from_of binder))
 
     abbrev lists : List QueryError
     lists = first_list (lists_after_from binder query)
 
     abbrev conjs : List QueryError
-    conjs = over limit.Conjuncts most_conjuncts (length (conjuncts_by binder query))
+    conjs = refusal_if_above limit.Conjuncts most_conjuncts (length (conjuncts_by binder query))
 
     abbrev outs : List QueryError
-    outs = over limit.Outputs most_outputs (length (selected_by binder query.outs))
+    outs = refusal_if_above limit.Outputs most_outputs (length (selected_by binder query.outs))
 
     no_limit : first (((many ++ lists) ++ conjs) ++ outs) ≡ None
     unfolding late_refusals limits_by
@@ -182,16 +182,16 @@ names_after schema text from query = outs_offences schema text from (whole_scope
 
 abbrev limits_after : Schema → List ℕ → List Source → QueryNode → List QueryError
 limits_after schema text from query =
-    over limit.FromEntries most_entries (length from)
+    refusal_if_above limit.FromEntries most_entries (length from)
     ++ first_list (long_lists from query)
-    ++ over limit.Conjuncts most_conjuncts (length (conjuncts schema text from query))
-    ++ over limit.Outputs most_outputs (length (selected schema text from query.outs))
+    ++ refusal_if_above limit.Conjuncts most_conjuncts (length (conjuncts schema text from query))
+    ++ refusal_if_above limit.Outputs most_outputs (length (selected schema text from query.outs))
 
 unfoldable refusals_after : Schema → List ℕ → List Source → QueryNode → List QueryError
 refusals_after schema text from query = refusal_at_first name_error (names_after schema text from query) ++ (refusal_at_first kind_error (all_kind_offences schema text from query) ++ limits_after schema text from query)
 
 refusals_by : (binder : Binder) (query : QueryNode) → refusals_after_from binder query ≡ refusals_after (schema_of binder) binder.text.now (from_of binder) query
-unfolding refusals_after refusals_after_from late_refusals limits_by names_after_from kinds_after_from lists_after_from conjuncts_by selected_by names_in kinds_in lists_in members_in outs_offences_of test_offences_of kind_offences_of members_by all_kind_offences long_lists conjuncts
+unfolding refusals_after refusals_after_from late_refusals limits_by names_after_from kinds_after_from lists_after_from conjuncts_by selected_by names_in kinds_in long_lists_in members_in outs_offences_of test_offences_of kind_offences_of members_by all_kind_offences long_lists conjuncts
 refusals_by binder query = refl
 
 conjuncts_are : (binder : Binder) (query : QueryNode) → conjuncts_by binder query ≡ conjuncts (schema_of binder) binder.text.now (from_of binder) query
@@ -211,11 +211,11 @@ module _ (schema : Schema) (text : List ℕ) (query : QueryNode) where
       ++ refusal_at_first kind_error (all_kind_offences schema text from query) ++ limits_after schema text from query) none
       ∙ append_assoc (refusal_at_first name_error (names_after schema text from query)) (refusal_at_first kind_error (all_kind_offences schema text from query)) (limits_after schema text from query)
 
-  unless_first : (wrong : List QueryError) (value : Query) (e : QueryError) → first wrong ≡ Some e → unless wrong value ≡ Err e
+  unless_first : (wrong : List QueryError) (value : Query) (e : QueryError) → first wrong ≡ Some e → first_refusal_or wrong value ≡ Err e
   unless_first [] value e is = absurd cc
   unless_first (x ∷ xs) value e is = let same : x ≡ e = cc in ap (λ y. Err y) same
 
-  unless_none : (wrong : List QueryError) (value : Query) → first wrong ≡ None → unless wrong value ≡ Ok value
+  unless_none : (wrong : List QueryError) (value : Query) → first wrong ≡ None → first_refusal_or wrong value ≡ Ok value
   unless_none [] value none = refl
   unless_none (x ∷ xs) value none = absurd cc
 

@@ -1,4 +1,4 @@
--- If no name and no kind is wrong in a condition, its meaning names only columns that exist, and each comparison has two operands of the same kind.
+-- If a condition has no wrong name or kind, its meaning names only columns that exist. Each comparison in it has two operands of one kind.
 use Rattle.std.proofs.Common.{◌≡◌, ℕ, Bool, true, false, List, [], ◌∷◌, ◌++◌, All, map, Option, Some, None, ap, subst, sym, ◌∙◌, refl, append_assoc}
 use Rattle.std.specs.Prelude.{is_none}
 use Rattle.std.specs.List.{flat_map}
@@ -60,7 +60,7 @@ same_kind true true is = refl
 same_kind true false is = sym is
 same_kind false b is = is
 
--- ---- what a condition means
+-- ---- meanings whose conditions name only columns that exist
 
 pub record IsMeaningOf (schema : Schema) (from : List Source) (m : Meaning) : Type 0 where
   pub whole : IsCondOf schema from m.whole

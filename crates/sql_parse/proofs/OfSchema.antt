@@ -1,4 +1,4 @@
--- If no name and no kind of a query offends, the query is one over the schema.
+-- If a query has no wrong name and no wrong kind, it is a query over the schema.
 use Rattle.std.proofs.Common.{◌≡◌, ℕ, suc, ◌+◌, ◌<◌, ◌≤◌, false, List, [], ◌∷◌, ◌++◌, All, length, map, Option, Some, None, ap, subst, sym, ◌∙◌, refl, arith}
 use Rattle.std.specs.Prelude.{is_none, slice_get, unwrap_or}
 use Rattle.std.specs.List.{flat_map}

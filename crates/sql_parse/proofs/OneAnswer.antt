@@ -1,10 +1,10 @@
--- A text has at most one answer, apart from the answer that memory ran out.
+-- A text has at most one result, apart from `NoMemory`.
 use Rattle.std.proofs.Common.{◌≡◌, ◌⊎◌, inl, inr, ℕ, ◌<◌, ◌≤◌, List, [], ◌∷◌, ◌++◌, length, Result, Err, ap, subst, sym, ◌∙◌, refl, arith, append_assoc}
 use Rattle.std.proofs.lemmas.List.{append-nil}
 use Rattle.ll_grammars.specs.declared.lexeme.Lexeme.{Lexeme}
 use Rattle.ll_grammars.specs.Language.{Language, IsViablePrefix, Fails, GoesWrong}
 use Rattle.ll_grammars.specs.Places.{IsSyntaxErrorAt}
-use Rattle.ll_grammars.specs.Rules.{place}
+use Rattle.ll_grammars.specs.Rules.{next_token_start}
 use Rattle.query_grammar.specs.declared.tree.QueryNode.{QueryNode}
 use Rattle.query_grammar.specs.Grammar.{QuerySpecification}
 use Rattle.query_grammar.specs.Nesting.{nesting}
@@ -19,9 +19,9 @@ use Rattle.query_names.specs.declared.errors.QueryError.TheVariants as error
 use Rattle.query_types.specs.declared.types.Query.{Query}
 use Rattle.query_names.specs.Numbers.{number_offences}
 use Rattle.sql_parse.specs.QueryOrRefusal.{query_or_refusal, refusal}
-use Rattle.sql_parse.specs.Reading.{lexemes_of, least, unless_number, IsUnlexed, IsTooDeep, IsUnspelled, IsSpelled, IsAnswer}
+use Rattle.sql_parse.specs.Reading.{lexemes_of, earlier_offset, unless_number, IsUnlexed, IsTooDeep, IsUnspelled, IsSpelled, IsAnswer}
 
--- ---- a list goes wrong at one position at most
+-- ---- a list of tokens has a syntax error at one position at most
 
 record Longer (front rest front' rest' : List Lexeme) : Type 0 where
   next : Lexeme
@@ -77,9 +77,9 @@ module _ {A : Type 0} (L : Language A) where
         fails (record { more = rest; value = value; spelled = subst (λ l. L l value) (whole ∙ sym (append_assoc wrong.front (t ∷ []) rest)) spells })
 
   one_syntax_place : (tokens : List Lexeme) (text_len at other : ℕ) → IsSyntaxErrorAt L tokens text_len at → IsSyntaxErrorAt L tokens text_len other → at ≡ other
-  one_syntax_place tokens text_len at other a b = a.here ∙ ap (λ r. place r text_len) (one_rest tokens a.rest b.rest a.wrong b.wrong) ∙ sym b.here
+  one_syntax_place tokens text_len at other a b = a.here ∙ ap (λ r. next_token_start r text_len) (one_rest tokens a.rest b.rest a.wrong b.wrong) ∙ sym b.here
 
--- ---- one answer
+-- ---- at most one result
 
 module _ (schema : Schema) (text : List ℕ) (a b : Result Query QueryError) where
   both_unlexed : IsUnlexed schema text a → IsUnlexed schema text b → a ≡ b
@@ -93,8 +93,8 @@ module _ (schema : Schema) (text : List ℕ) (a b : Result Query QueryError) whe
       let same : x.tokens ≡ y.tokens = one_list text x.tokens y.tokens x.lexed y.lexed in
       let there : IsSyntaxErrorAt QuerySpecification (lexemes_of text y.tokens) (length text) x.place = subst (λ ts. IsSyntaxErrorAt QuerySpecification (lexemes_of text ts) (length text) x.place) same x.wrong in
       x.refused
-      ∙ ap (λ ts. Err (error.Syntax (least x.place (number_offences text (lexemes_of text ts))))) same
-      ∙ ap (λ at. Err (error.Syntax (least at (number_offences text (lexemes_of text y.tokens))))) (one_syntax_place QuerySpecification (lexemes_of text y.tokens) (length text) x.place y.place there y.wrong)
+      ∙ ap (λ ts. Err (error.Syntax (earlier_offset x.place (number_offences text (lexemes_of text ts))))) same
+      ∙ ap (λ at. Err (error.Syntax (earlier_offset at (number_offences text (lexemes_of text y.tokens))))) (one_syntax_place QuerySpecification (lexemes_of text y.tokens) (length text) x.place y.place there y.wrong)
       ∙ sym y.refused
 
   both_spelled : IsSpelled schema text a → IsSpelled schema text b → a ≡ b

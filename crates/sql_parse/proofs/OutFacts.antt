@@ -64,9 +64,9 @@ few_columns schema i table valid found =
     let one : IsValidTable table = subst IsValidTable (get_or_from_slice_get schema.tables i table table is) (valid.tables i table (slice_get_within schema.tables i table is)) in
     one.few
 
--- ---- what is counted and built
+-- ---- outputs that are counted and built
 
--- the outputs are always counted, and built unless the limit on outputs or the limit on FROM entries is passed
+-- all outputs are counted. They are built unless there are too many outputs or FROM entries
 pub record IsCountedAndBuilt (binder : Binder) (found : Selected) (list : List Out) : Type 0 where
   pub count : found.count ≡ capped (length list)
   pub outs : length (from_of binder) ≤ 12 → found.count ≤ most_outputs → found.outs ≡ list
@@ -108,7 +108,7 @@ named_small from scope alias e is few =
     let below : e.number < length from = slice_get_within from e.number there.source there.there in
     omega arith
 
--- ---- the items of the list
+-- ---- the items of the SELECT list
 
 pub selected_listed : (binder : Binder) (list : List OutNode) → selected_by binder (outs.Listed list) ≡ flat_map (outs_by binder) list
 unfolding selected_by outs_by

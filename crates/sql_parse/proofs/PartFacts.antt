@@ -1,4 +1,4 @@
--- The lemmas are about the conditions and sources of part i of FROM, and about those of the parts after it.
+-- Part i of FROM is item i of its list, with its joins. The lemmas split the conditions and sources of part i from those of the parts after it.
 use Rattle.std.proofs.Common.{◌≡◌, ℕ, suc, ◌+◌, ◌<◌, List, ◌++◌, length, drop, get_or, ap, ◌∙◌, arith}
 use Rattle.std.proofs.lemmas.Grind.{flat_map-append}
 use Rattle.std.proofs.lemmas.List.{length-append, length-map}

@@ -1,4 +1,4 @@
--- A text of the grammar names at least one entry in FROM.
+-- A query text that the grammar allows has at least one entry in FROM.
 use Rattle.std.proofs.Common.{◌≡◌, ℕ, ◌<◌, List, [], ◌∷◌, length, map, ap, subst, ◌∙◌, arith}
 use Rattle.std.specs.List.{flat_map}
 use Rattle.ll_grammars.specs.declared.lexeme.Lexeme.{Lexeme}

@@ -1,4 +1,4 @@
--- The lemmas find the FROM entries of a syntax tree, and say what follows for a binder that has these entries.
+-- The FROM entries of a syntax tree, and what follows for a binder that has these entries.
 use Rattle.std.proofs.Common.{◌≡◌, ℕ, ◌≤◌, All, List, [], ◌∷◌, length, map, None, Result, Ok, Err, ap, subst, sym, ◌∙◌, arith}
 use Rattle.std.specs.Prelude.{IfErr}
 use Rattle.std.specs.List.{flat_map}
@@ -9,7 +9,7 @@ use Rattle.query_grammar.specs.declared.tree.JoinedNode.{JoinedNode}
 use Rattle.query_grammar.specs.declared.tree.FromItemNode.{FromItemNode}
 use Rattle.query_grammar.specs.declared.tree.QueryNode.{QueryNode}
 use Rattle.query_grammar.specs.declared.tree.SourceNode.{SourceNode}
-use Rattle.query_grammar.specs.Lexemes.{IsSourceOf, IsJoinOf, IsPartOf, IsQueryOf}
+use Rattle.query_grammar.specs.Lexemes.{IsSourceWith, IsJoinWith, IsFromItemWith, IsQueryWith}
 use Rattle.schema_types.specs.declared.types.Schema.{Schema}
 use Rattle.query_names.specs.declared.binder.Binder.{Binder}
 use Rattle.query_names.specs.declared.errors.QueryError.{QueryError}
@@ -26,24 +26,24 @@ use Rattle.sql_parse.specs.Refusing.{refusals_after_from, IsFirstOf, Answers}
 use Rattle.sql_parse.proofs.BindFacts.{behind_by, value_by}
 
 module _ (P : Lexeme → Type 0) where
-  joined_lie_in : (joins : List JoinedNode) → All (IsJoinOf P) joins → All (IsSourceOf P) (map (λ join. join.source) joins)
-  joined_lie_in [] lie = All-nil (IsSourceOf P)
-  joined_lie_in (join ∷ rest) lie = All-cons (IsSourceOf P) join.source (map (λ join. join.source) rest) (All-head (IsJoinOf P) join rest lie).0 (joined_lie_in rest (All-tail (IsJoinOf P) join rest lie))
+  joined_lie_in : (joins : List JoinedNode) → All (IsJoinWith P) joins → All (IsSourceWith P) (map (λ join. join.source) joins)
+  joined_lie_in [] lie = All-nil (IsSourceWith P)
+  joined_lie_in (join ∷ rest) lie = All-cons (IsSourceWith P) join.source (map (λ join. join.source) rest) (All-head (IsJoinWith P) join rest lie).0 (joined_lie_in rest (All-tail (IsJoinWith P) join rest lie))
 
-  part_lies_in : (part : FromItemNode) → IsPartOf P part → All (IsSourceOf P) (sources_of part)
-  part_lies_in part lies = All-cons (IsSourceOf P) part.first (map (λ join. join.source) part.joins) lies.0 (joined_lie_in part.joins lies.1)
+  part_lies_in : (part : FromItemNode) → IsFromItemWith P part → All (IsSourceWith P) (sources_of part)
+  part_lies_in part lies = All-cons (IsSourceWith P) part.first (map (λ join. join.source) part.joins) lies.0 (joined_lie_in part.joins lies.1)
 
-  parts_lie_in : (parts : List FromItemNode) → All (IsPartOf P) parts → All (IsSourceOf P) (flat_map sources_of parts)
-  parts_lie_in [] lie = All-nil (IsSourceOf P)
+  parts_lie_in : (parts : List FromItemNode) → All (IsFromItemWith P) parts → All (IsSourceWith P) (flat_map sources_of parts)
+  parts_lie_in [] lie = All-nil (IsSourceWith P)
   parts_lie_in (part ∷ rest) lie =
-      All-append (IsSourceOf P) (sources_of part) (flat_map sources_of rest) (part_lies_in part (All-head (IsPartOf P) part rest lie)) (parts_lie_in rest (All-tail (IsPartOf P) part rest lie))
+      All-append (IsSourceWith P) (sources_of part) (flat_map sources_of rest) (part_lies_in part (All-head (IsFromItemWith P) part rest lie)) (parts_lie_in rest (All-tail (IsFromItemWith P) part rest lie))
 
-  pub sources_lie_in : (query : QueryNode) → IsQueryOf P query → All (IsSourceOf P) (flat_map sources_of query.parts)
-  unfolding IsQueryOf
+  pub sources_lie_in : (query : QueryNode) → IsQueryWith P query → All (IsSourceWith P) (flat_map sources_of query.parts)
+  unfolding IsQueryWith
   sources_lie_in query lies = parts_lie_in query.parts lies.1
 
-  pub all_lie_in : (query : QueryNode) (sources : List SourceNode) → sources ≡ flat_map sources_of query.parts → IsQueryOf P query → All (IsSourceOf P) sources
-  all_lie_in query sources is lies = subst (All (IsSourceOf P)) (sym is) (sources_lie_in query lies)
+  pub all_lie_in : (query : QueryNode) (sources : List SourceNode) → sources ≡ flat_map sources_of query.parts → IsQueryWith P query → All (IsSourceWith P) sources
+  all_lie_in query sources is lies = subst (All (IsSourceWith P)) (sym is) (sources_lie_in query lies)
 
 module _ (schema : Schema) (text : List ℕ) (query : QueryNode) (from : List Source) where
   pub ends_within : from ≡ entries schema text query → length (flat_map sources_of query.parts) ≤ length from

@@ -1,4 +1,4 @@
--- What a syntax tree gives: a query, or the first refusal: for a name, for a kind (a number compared with a text) or for a limit.
+-- The query that a syntax tree means, or the first refusal: for a name, for a kind (a number compared with a text) or for a limit.
 use Rattle.std.specs.Prelude.{ℕ, ◌-◌, ◌^◌, nat_lt, min, if◌then◌else◌, List, [], ◌∷◌, ◌++◌, length, Result, Ok, Err}
 use Rattle.std.specs.List.{flat_map}
 use Rattle.limits.specs.Profile.{most_conjuncts, most_entries, most_outputs}
@@ -23,13 +23,13 @@ refusal which n = error.Limit which (min n (2 ^ 64 - 1))
 abbrev pub too_long_in : Scoped → List ℕ
 too_long_in c = flat_map too_long (tests c.condition)
 
--- the lengths of the lists of IN that are too long, in text order
+-- the lengths of the IN lists that are too long, in text order
 unfoldable pub long_lists : List Source → QueryNode → List ℕ
 long_lists from query = flat_map too_long_in (conditions from query)
 
--- ---- the refusals for limits that are passed, the one that is reported first at the front
-abbrev pub over : LimitKind → ℕ → ℕ → List QueryError
-over which most n = if nat_lt most n then refusal which n ∷ [] else []
+-- ---- the refusals for exceeded limits, in the order in which they are reported
+abbrev pub refusal_if_above : LimitKind → ℕ → ℕ → List QueryError
+refusal_if_above which most n = if nat_lt most n then refusal which n ∷ [] else []
 
 abbrev pub first_list : List ℕ → List QueryError
 first_list [] = []
@@ -37,12 +37,12 @@ first_list (n ∷ rest) = refusal limit.InValues n ∷ []
 
 abbrev pub limit_refusals : Query → List ℕ → List QueryError
 limit_refusals query lists =
-    over limit.FromEntries most_entries (length query.from)
+    refusal_if_above limit.FromEntries most_entries (length query.from)
     ++ first_list lists
-    ++ over limit.Conjuncts most_conjuncts (length query.conjuncts)
-    ++ over limit.Outputs most_outputs (length query.select)
+    ++ refusal_if_above limit.Conjuncts most_conjuncts (length query.conjuncts)
+    ++ refusal_if_above limit.Outputs most_outputs (length query.select)
 
--- ---- names, then kinds, then limits
+-- ---- all refusals: for names, then for kinds, then for limits
 
 abbrev pub refusal_at_first : (ℕ → QueryError) → List ℕ → List QueryError
 refusal_at_first wrong [] = []
@@ -62,10 +62,10 @@ module _ (schema : Schema) (text : List ℕ) (query : QueryNode) where
       ++ refusal_at_first kind_error (all_kind_offences schema text from query)
       ++ limit_refusals (query_of schema text query) (long_lists from query)
 
-abbrev pub unless : {A : Type 0} → List QueryError → A → Result A QueryError
-unless [] value = Ok value
-unless (wrong ∷ rest) value = Err wrong
+abbrev pub first_refusal_or : {A : Type 0} → List QueryError → A → Result A QueryError
+first_refusal_or [] value = Ok value
+first_refusal_or (wrong ∷ rest) value = Err wrong
 
 -- the query, or the first refusal
 unfoldable pub query_or_refusal : Schema → List ℕ → QueryNode → Result Query QueryError
-query_or_refusal schema text query = unless (refusals schema text query) (query_of schema text query)
+query_or_refusal schema text query = first_refusal_or (refusals schema text query) (query_of schema text query)

@@ -1,4 +1,4 @@
--- What reading a query text may answer.
+-- The results that reading a query text may have.
 use Rattle.std.specs.Prelude.{◌≡◌, ◌⊎◌, ℕ, ◌<◌, ◌≤◌, min, List, [], ◌∷◌, length, map, Result, Err}
 use Rattle.ll_grammars.specs.declared.lexeme.Lexeme.{Lexeme}
 use Rattle.ll_grammars.specs.Places.{IsSyntaxErrorAt}
@@ -25,39 +25,39 @@ abbrev pub most_nesting : ℕ
 most_nesting = 64
 
 -- the lesser of `place` and the first of the other byte offsets, if there is one
-abbrev pub least : ℕ → List ℕ → ℕ
-least place [] = place
-least place (other ∷ rest) = min place other
+abbrev pub earlier_offset : ℕ → List ℕ → ℕ
+earlier_offset place [] = place
+earlier_offset place (other ∷ rest) = min place other
 
--- the list has the byte offsets of numbers outside the range. If there are any, the first of them is refused; otherwise the answer stays
+-- the list has the byte offsets of numbers outside the range. The first of them is refused. If the list is empty, `answer` stays
 abbrev pub unless_number : List ℕ → Result Query QueryError → Result Query QueryError
 unless_number [] answer = answer
 unless_number (place ∷ rest) answer = Err (error.Syntax place)
 
 module _ (schema : Schema) (text : List ℕ) (answer : Result Query QueryError) where
-  -- the text can't be cut into tokens, and goes wrong at byte `place`
+  -- the text can't be cut into tokens. Its first error is at byte `place`
   pub record IsUnlexed : Type 0 where
     pub place : ℕ
     pub bad : IsBad text place
     pub refused : answer ≡ Err (error.Syntax place)
 
-  -- more parentheses are open at once than may be
+  -- more parentheses are open at once than the limit allows
   pub record IsTooDeep : Type 0 where
     pub tokens : List Token
     pub lexed : IsLexed text tokens
     pub deep : most_nesting < nesting (lexemes_of text tokens)
     pub refused : answer ≡ Err (refusal limit.Nesting (nesting (lexemes_of text tokens)))
 
-  -- the tokens aren't a query of the grammar. The refusal is at the byte where they go wrong, or at an earlier number outside the range
+  -- the tokens spell no query. The refusal is at their syntax error, or at an earlier number outside the range
   pub record IsUnspelled : Type 0 where
     pub tokens : List Token
     pub lexed : IsLexed text tokens
     pub shallow : nesting (lexemes_of text tokens) ≤ most_nesting
     pub place : ℕ
     pub wrong : IsSyntaxErrorAt QuerySpecification (lexemes_of text tokens) (length text) place
-    pub refused : answer ≡ Err (error.Syntax (least place (number_offences text (lexemes_of text tokens))))
+    pub refused : answer ≡ Err (error.Syntax (earlier_offset place (number_offences text (lexemes_of text tokens))))
 
-  -- the tokens are a query of the grammar. A number outside the range is refused first; otherwise names, kinds and limits decide the answer
+  -- the tokens spell a query. A number outside the range is refused first; otherwise names, kinds and limits decide the answer
   pub record IsSpelled : Type 0 where
     pub tokens : List Token
     pub lexed : IsLexed text tokens
@@ -66,6 +66,6 @@ module _ (schema : Schema) (text : List ℕ) (answer : Result Query QueryError) 
     pub spelled : QuerySpecification (lexemes_of text tokens) tree
     pub answered : answer ≡ unless_number (number_offences text (lexemes_of text tokens)) (query_or_refusal schema text tree)
 
-  -- the answers that a text may have. The answer that memory ran out may come at any time
+  -- the results that a text may have. `NoMemory` is always allowed
   abbrev pub IsAnswer : Type 0
   IsAnswer = (answer ≡ Err error.NoMemory) ⊎ IsUnlexed ⊎ IsTooDeep ⊎ IsUnspelled ⊎ IsSpelled

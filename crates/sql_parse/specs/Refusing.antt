@@ -7,30 +7,30 @@ use Rattle.query_names.specs.declared.binder.Binder.{Binder}
 use Rattle.query_names.specs.declared.errors.QueryError.{QueryError}
 use Rattle.query_names.specs.declared.errors.QueryError.TheVariants as error
 use Rattle.query_types.specs.declared.types.Query.{Query}
-use Rattle.sql_parse.specs.QueryOrRefusal.{refusal, over, first_list, refusal_at_first, name_error, kind_error}
+use Rattle.sql_parse.specs.QueryOrRefusal.{refusal, refusal_if_above, first_list, refusal_at_first, name_error, kind_error}
 use Rattle.query_names.specs.Answers.{first}
 use Rattle.query_names.specs.Binding.{from_of}
 use Rattle.sql_parse.specs.AfterFrom.{names_after_from, kinds_after_from, lists_after_from, conjuncts_by}
 use Rattle.sql_parse.specs.Outputs.{selected_by}
 
--- ---- the limits that are passed, given the numbers of entries, conjuncts and outputs, and the length of the first list of IN that is too long
+-- ---- the exceeded limits. Given are the numbers of entries, conjuncts and outputs, and the length of the first IN list that is too long
 abbrev pub too_long_list : Option ℕ → List QueryError
 too_long_list None = []
 too_long_list (Some n) = refusal limit.InValues n ∷ []
 
 abbrev pub limits_passed : ℕ → Option ℕ → ℕ → ℕ → List QueryError
 limits_passed entries list conjuncts outputs =
-    over limit.FromEntries most_entries entries
+    refusal_if_above limit.FromEntries most_entries entries
     ++ too_long_list list
-    ++ over limit.Conjuncts most_conjuncts conjuncts
-    ++ over limit.Outputs most_outputs outputs
+    ++ refusal_if_above limit.Conjuncts most_conjuncts conjuncts
+    ++ refusal_if_above limit.Outputs most_outputs outputs
 
 unfoldable pub limits_by : Binder → QueryNode → List QueryError
 limits_by binder query =
-    over limit.FromEntries most_entries (length (from_of binder))
+    refusal_if_above limit.FromEntries most_entries (length (from_of binder))
     ++ first_list (lists_after_from binder query)
-    ++ over limit.Conjuncts most_conjuncts (length (conjuncts_by binder query))
-    ++ over limit.Outputs most_outputs (length (selected_by binder query.outs))
+    ++ refusal_if_above limit.Conjuncts most_conjuncts (length (conjuncts_by binder query))
+    ++ refusal_if_above limit.Outputs most_outputs (length (selected_by binder query.outs))
 
 -- the refusals for kinds, then for limits
 unfoldable pub late_refusals : Binder → QueryNode → List QueryError
@@ -40,10 +40,10 @@ late_refusals binder query = refusal_at_first kind_error (kinds_after_from binde
 unfoldable pub refusals_after_from : Binder → QueryNode → List QueryError
 refusals_after_from binder query = refusal_at_first name_error (names_after_from binder query) ++ late_refusals binder query
 
--- `e` is the first of the refusals. The answer that memory ran out may come at any time
+-- `e` is the first of the refusals, or NoMemory
 abbrev pub IsFirstOf : List QueryError → QueryError → Type 0
 IsFirstOf refusals e = (e ≡ error.NoMemory) ⊎ (first refusals ≡ Some e)
 
--- the answer is `due`. The answer that memory ran out may come at any time
+-- the answer is `due`, or NoMemory
 abbrev pub Answers : Result Query QueryError → Result Query QueryError → Type 0
 Answers due answer = (answer ≡ Err error.NoMemory) ⊎ (answer ≡ due)

@@ -1,4 +1,4 @@
--- What the stages of reading a query text answer.
+-- The results of the stages of reading a query text.
 use Rattle.std.specs.Prelude.{◌≡◌, ℕ, min, List, map, Option, Some, None, ⊤}
 use Rattle.ll_grammars.specs.declared.lexeme.Lexeme.{Lexeme}
 use Rattle.sql_tokens.specs.declared.token.Token.{Token}
@@ -7,13 +7,13 @@ use Rattle.sql_tokens.specs.Words.{lexeme_of}
 use Rattle.query_names.specs.declared.errors.QueryError.{QueryError}
 use Rattle.query_names.specs.declared.errors.QueryError.TheVariants as error
 
--- the list has the text's tokens, as `Lexeme`s, which grammars take
+-- these are the text's tokens, as `Lexeme`s, which grammars take
 pub record AreLexemes (text : List ℕ) (lexemes : List Lexeme) : Type 0 where
   pub tokens : List Token
   pub lexed : IsLexed text tokens
   pub are : lexemes ≡ map (lexeme_of text) tokens
 
--- why a text has no tokens
+-- why the lexer found no tokens
 abbrev pub IsLexRefusal : List ℕ → QueryError → Type 0
 IsLexRefusal text (error.Syntax at) = IsBad text at
 IsLexRefusal text error.NoMemory = ⊤

@@ -1,8 +1,8 @@
-//! What a syntax tree gives: a query, or the first refusal: for a name, for a kind (a number compared with a text) or for a limit.
+//! Makes a query of a syntax tree, or finds the first refusal: for a name, for a kind (a number compared with a text) or for a limit.
 ghost use Rattle.std.specs.Prelude.{◌≡◌, [], Ok, Err, IfOk, IfErr};
 ghost use Rattle.schema_types.specs.Validity.{IsValid};
 ghost use Rattle.sql_tokens.specs.Words.{IsLexemeOf};
-ghost use Rattle.query_grammar.specs.Lexemes.{IsQueryOf};
+ghost use Rattle.query_grammar.specs.Lexemes.{IsQueryWith};
 ghost use Rattle.query_names.specs.Names.{entries, from_offences};
 ghost use Rattle.query_names.specs.Answers.{IsNameError};
 ghost use Rattle.sql_parse.specs.QueryOrRefusal.{query_or_refusal};
@@ -16,7 +16,7 @@ use query_types::{Cond, Out, Query};
 use schema_types::Schema;
 use std::alloc::Global;
 
-/// The FROM entries of a query text, or the first name in FROM that offends.
+/// The FROM entries of a query text, or the first wrong name in FROM.
 #[tactic(auto, using(crate::proofs::TreeFacts::sources_lie_in), unfolding(query_names::specs::Names::entries, query_names::specs::Names::from_offences))]
 fn entries_of(
     alloc: Global,
@@ -24,7 +24,7 @@ fn entries_of(
     text: &[u8],
     query: &QueryNode,
 ) -> Result<Entries, QueryError>
-    requires { IsQueryOf (IsLexemeOf text.now) query.now }
+    requires { IsQueryWith (IsLexemeOf text.now) query.now }
     ensures entries { IfOk result (λ found. found.sources ≡ entries catalog.now.schema.now text.now query.now) }
     ensures names { IfOk result (λ _. from_offences catalog.now.schema.now text.now query.now ≡ []) }
     ensures err { IfErr result (IsNameError (from_offences catalog.now.schema.now text.now query.now)) }
@@ -33,7 +33,7 @@ fn entries_of(
     read_entries(alloc, catalog, text, sources.as_slice())
 }
 
-/// The conjuncts and the outputs of a query whose FROM entries don't offend, or the first refusal.
+/// The conjuncts and the outputs of a query without a wrong name in FROM, or the first refusal.
 #[tactic(auto, using(crate::proofs::TreeFacts::behind_refused, crate::proofs::TreeFacts::answered, crate::proofs::TreeFacts::ends_within))]
 fn bind_after_from(
     alloc: Global,
@@ -43,7 +43,7 @@ fn bind_after_from(
     query: &QueryNode,
 ) -> Result<(Seq<Cond>, Seq<Out>), QueryError>
     requires valid { IsValid catalog.now.schema.now }
-    requires tokens { IsQueryOf (IsLexemeOf text.now) query.now }
+    requires tokens { IsQueryWith (IsLexemeOf text.now) query.now }
     requires from { from.now.sources ≡ entries catalog.now.schema.now text.now query.now }
     requires names { from_offences catalog.now.schema.now text.now query.now ≡ [] }
     ensures ok { IfOk result (λ found.
@@ -69,7 +69,7 @@ pub fn bind(
     query: &QueryNode,
 ) -> Result<Query, QueryError>
     requires valid { IsValid schema.now }
-    requires tokens { IsQueryOf (IsLexemeOf text.now) query.now }
+    requires tokens { IsQueryWith (IsLexemeOf text.now) query.now }
     ensures { Answers (query_or_refusal schema.now text.now query.now) result }
 {
     let catalog = Catalog::new(alloc, schema)?;

@@ -1,11 +1,11 @@
-//! Query texts: from the bytes of a query file to a query over a schema, or the first refusal.
+//! Reads the bytes of a query file into a query over a schema, or finds the first refusal.
 //!
-//! This is the stage after the schema is read (`schema_types`). The crates below this crate make the tokens of the text
-//! (`sql_tokens`), the syntax tree (`query_grammar`), and the meaning of names and conditions (`query_names`). This crate
-//! reads outputs, tests limits, and decides which refusal comes first. The answer is a `Query` of `query_types`.
+//! This is the stage after the schema is read (`schema_types`). Other crates find the tokens of the text (`sql_tokens`), build the syntax tree
+//! (`query_grammar`), and resolve names and conditions (`query_names`). This crate reads outputs, tests limits, and decides which refusal comes
+//! first. The result is a `Query` of `query_types`.
 //!
-//! Callers cite three definitions. `IsAnswer` (in `specs/Reading.antt`) says which answers a text may have, and gives each refusal with its offset.
-//! The law `one_answer` says that only one answer is possible, unless memory runs out. `query_or_refusal` (in `specs/QueryOrRefusal.antt`) is the
+//! Contracts use three definitions. `IsAnswer` (in `specs/Reading.antt`) says which results a text may have, and gives each refusal with its offset.
+//! The law `one_answer` says that only one result is possible, unless memory runs out. `query_or_refusal` (in `specs/QueryOrRefusal.antt`) is the
 //! query of a syntax tree over a schema, or the first refusal. Every query that was read satisfies `IsOf` (of `query_types`). So a caller writes
 //!
 //! ```text

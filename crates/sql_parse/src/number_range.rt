@@ -1,4 +1,4 @@
-//! Numbers outside the signed 64-bit range (SQL-92 5.3).
+//! Finds numbers outside the signed 64-bit range (SQL-92 5.3).
 ghost use Rattle.std.specs.Prelude.{◌≡◌, ◌^◌, ◌-◌, All};
 ghost use Rattle.sql_tokens.specs.Words.{IsLexemeOf};
 ghost use Rattle.query_names.specs.Answers.{first};

@@ -1,9 +1,9 @@
-//! The outputs of a query (SQL-92 7.9). They are counted, and built as long as neither the limit on outputs nor the limit on FROM entries is passed.
+//! Counts the outputs of a query (SQL-92 7.9), and builds them unless there are too many outputs or FROM entries.
 ghost use Rattle.std.specs.Prelude.{◌≡◌, ◌≤◌, ◌<◌, ◌+◌, ◌++◌, ◌∷◌, [], true, false, IfOk, length};
-ghost use Rattle.limits.specs.Profile.{most_outputs};
+ghost use Rattle.limits.specs.Profile.{most_entries, most_outputs};
 ghost use Rattle.schema_types.specs.Validity.{IsValid};
 ghost use Rattle.sql_tokens.specs.Words.{IsLexemeOf, name_of};
-ghost use Rattle.query_grammar.specs.Lexemes.{IsNameOf};
+ghost use Rattle.query_grammar.specs.Lexemes.{IsNameWith};
 ghost use Rattle.query_names.specs.Values.{outs_from, resolved_column};
 ghost use Rattle.query_names.specs.Binding.{schema_of, from_of};
 ghost use Rattle.sql_parse.specs.Outputs.{outs_of_entry_by, capped};
@@ -17,8 +17,8 @@ use schema_types::Column;
 use sql_tokens::name;
 use std::alloc::Global;
 
-/// How many outputs were found, or `u64::MAX` if there are more. `outs` has the outputs, as long as neither the limit on outputs nor the limit on FROM
-/// entries is passed.
+/// `count` is the number of outputs that were found, or `u64::MAX` if there are more. `outs` has these outputs, unless there are too many outputs or
+/// FROM entries.
 #[derive(Drop)]
 pub struct Selected {
     pub outs: Seq<Out>,
@@ -37,13 +37,14 @@ impl Selected {
         }
     }
 
-    /// Counts `more` outputs, and says whether these are to be built. If a limit is passed, the query is refused later, so no memory is taken for them.
+    /// Counts `more` outputs, and returns whether they are to be built. If a limit is exceeded, the query is refused later, so no memory is taken for
+    /// them.
     fn count_more(&mut self, binder: &Binder<'_>, more: u64) -> bool
         ensures count { self.new.count ≡ capped (self.old.count + more) }
         ensures outs { self.new.outs ≡ self.old.outs }
-        ensures few { result ≡ true → length (from_of binder.now) ≤ 12 }
+        ensures few { result ≡ true → length (from_of binder.now) ≤ most_entries }
         ensures within { result ≡ true → self.new.count ≤ most_outputs }
-        ensures beyond { result ≡ false → length (from_of binder.now) ≤ 12 → most_outputs < self.new.count }
+        ensures beyond { result ≡ false → length (from_of binder.now) ≤ most_entries → most_outputs < self.new.count }
     {
         self.count = self.count.saturating_add(more);
         binder.entries.sources.len() <= MOST_ENTRIES && self.count <= MOST_OUTPUTS as u64
@@ -93,9 +94,9 @@ fn columns_of<'a>(binder: &'a Binder<'_>, entry: Entry) -> &'a [Column]
 #[tactic(auto, using(crate::proofs::OutFacts::columns_counted))]
 pub fn add_entry(binder: &Binder<'_>, entry: Entry, found: &mut Selected) -> Result<(), NoMemory>
     requires valid { IsValid (schema_of binder.now) }
-    requires small { length (from_of binder.now) ≤ 12 → entry.number < 256 }
+    requires small { length (from_of binder.now) ≤ most_entries → entry.number < 256 }
     ensures count { IfOk result (λ _. found.new.count ≡ capped (found.old.count + length (outs_of_entry_by binder.now entry))) }
-    ensures outs { IfOk result (λ _. length (from_of binder.now) ≤ 12 → found.new.count ≤ most_outputs
+    ensures outs { IfOk result (λ _. length (from_of binder.now) ≤ most_entries → found.new.count ≤ most_outputs
         → found.new.outs ≡ found.old.outs ++ outs_of_entry_by binder.now entry) }
 {
     let columns = columns_of(binder, entry);
@@ -105,17 +106,17 @@ pub fn add_entry(binder: &Binder<'_>, entry: Entry, found: &mut Selected) -> Res
     add_columns(binder.alloc, entry.number as u8, columns, &mut found.outs)
 }
 
-/// Adds a column, by the name that this token spells.
+/// Adds a column as an output. `token` spells the output's name.
 pub fn add_column(
     binder: &Binder<'_>,
     column: EntryColumn,
     token: &Lexeme,
     found: &mut Selected,
 ) -> Result<(), NoMemory>
-    requires small { length (from_of binder.now) ≤ 12 → column.from < 256 }
-    requires token { IsNameOf (IsLexemeOf binder.now.text.now) token.now }
+    requires small { length (from_of binder.now) ≤ most_entries → column.from < 256 }
+    requires token { IsNameWith (IsLexemeOf binder.now.text.now) token.now }
     ensures count { IfOk result (λ _. found.new.count ≡ capped (found.old.count + 1)) }
-    ensures outs { IfOk result (λ _. length (from_of binder.now) ≤ 12 → found.new.count ≤ most_outputs
+    ensures outs { IfOk result (λ _. length (from_of binder.now) ≤ most_entries → found.new.count ≤ most_outputs
         → found.new.outs ≡ found.old.outs ++ record {
           column = resolved_column (Some column);
           name = name_of binder.now.text.now token.now;

@@ -3,7 +3,7 @@ ghost use Rattle.std.specs.Prelude.{◌≡◌, ◌≤◌, Some, None, IfOk, IfEr
 ghost use Rattle.std.specs.List.{flat_map};
 ghost use Rattle.schema_types.specs.Validity.{IsValid};
 ghost use Rattle.sql_tokens.specs.Words.{IsLexemeOf};
-ghost use Rattle.query_grammar.specs.Lexemes.{IsQueryOf};
+ghost use Rattle.query_grammar.specs.Lexemes.{IsQueryWith};
 ghost use Rattle.query_names.specs.declared.errors.QueryError.TheVariants as error;
 ghost use Rattle.query_names.specs.Names.{sources_of};
 ghost use Rattle.query_names.specs.Answers.{first};
@@ -16,7 +16,7 @@ use crate::clauses::check_clauses;
 use base_io::Seq;
 use limits::{MOST_CONJUNCTS, MOST_ENTRIES, MOST_OUTPUTS};
 use query_grammar::QueryNode;
-use query_names::{Binder, HeldOffences, QueryError};
+use query_names::{Binder, LateOffences, QueryError};
 use query_types::{Cond, Out};
 use schema_types::LimitKind;
 
@@ -26,7 +26,7 @@ fn limit(which: LimitKind, found: u64) -> Option<QueryError>
     Some(QueryError::Limit { which, found })
 }
 
-/// The first limit that is passed.
+/// The first limit that is exceeded.
 fn first_limit(
     entries: u64,
     list: Option<usize>,
@@ -56,14 +56,14 @@ pub fn after_from(
 ) -> Result<(Seq<Cond>, Seq<Out>), QueryError>
     requires valid { IsValid (schema_of binder.now) }
     requires ends { length (flat_map sources_of query.now.parts) ≤ length (from_of binder.now) }
-    requires tokens { IsQueryOf (IsLexemeOf binder.now.text.now) query.now }
+    requires tokens { IsQueryWith (IsLexemeOf binder.now.text.now) query.now }
     ensures none { IfOk result (λ _. first (refusals_after_from binder.now query.now) ≡ None) }
     ensures conjuncts { IfOk result (λ found. found.0 ≡ conjuncts_by binder.now query.now) }
     ensures outputs { IfOk result (λ found. found.1 ≡ selected_by binder.now query.now.outs) }
     ensures err { IfErr result (IsFirstOf (refusals_after_from binder.now query.now)) }
 {
     let visible = binder.all_visible()?;
-    let mut held = HeldOffences {
+    let mut held = LateOffences {
         kind: None,
         list: None,
     };

@@ -1,4 +1,4 @@
-//! Query texts as a whole.
+//! Reads a query text.
 ghost use Rattle.std.specs.Prelude.{◌≡◌, ◌≤◌, All, IfOk, IfErr, length};
 ghost use Rattle.limits.specs.Profile.{most_text};
 ghost use Rattle.schema_types.specs.Validity.{IsValid};
@@ -42,7 +42,7 @@ fn least_of(at: u32, number: Option<u32>) -> u32
     }
 }
 
-/// The answer to the tokens of a text.
+/// The query that the tokens of a text mean, or the first refusal.
 #[tactic(auto, using(crate::proofs::Answered::too_deep, crate::proofs::Answered::unspelled, crate::proofs::Answered::wrong_number, crate::proofs::Answered::spelled, crate::proofs::Answered::lie_in))]
 fn answer(
     alloc: Global,
@@ -77,8 +77,8 @@ fn answer(
 }
 
 /// Reads a query text over a schema (SQL-92 6.3, 6.4, 7.4 to 7.9 and 8 in this profile): its query, or the first refusal. Tokens are tested first,
-/// then the limit on nesting, the grammar and the range of numbers, names, kinds, and the other limits. A refusal has the byte offset of the
-/// first offence; a byte order mark counts. The text has at most 1,048,576 bytes.
+/// then the limit on nesting. Then come the grammar and the range of numbers, names, kinds, and the other limits. A refusal that isn't for a limit
+/// has the byte offset of the first error; a byte order mark counts. The text has at most 1,048,576 bytes.
 #[tactic(auto, using(crate::proofs::AnswerOfSchema::answer_of_schema, crate::proofs::Answered::unlexed))]
 pub fn read_query(alloc: Global, schema: &Schema, text: &[u8]) -> Result<Query, QueryError>
     requires valid { IsValid schema.now }

@@ -1,10 +1,10 @@
-//! The SELECT list: its names, each resolved once, and the outputs that it gives.
+//! Resolves the names of the SELECT list, each once, and gathers the outputs that the list gives.
 ghost use Rattle.std.specs.Prelude.{◌≡◌, ◌≤◌, ◌+◌, ◌++◌, [], All, IfOk, IfErr, length};
 ghost use Rattle.std.specs.List.{flat_map};
-ghost use Rattle.limits.specs.Profile.{most_outputs};
+ghost use Rattle.limits.specs.Profile.{most_entries, most_outputs};
 ghost use Rattle.schema_types.specs.Validity.{IsValid};
 ghost use Rattle.sql_tokens.specs.Words.{IsLexemeOf};
-ghost use Rattle.query_grammar.specs.Lexemes.{IsOutOf, IsOutListOf};
+ghost use Rattle.query_grammar.specs.Lexemes.{IsOutWith, IsOutListWith};
 ghost use Rattle.query_names.specs.Answers.{IsNameError};
 ghost use Rattle.query_names.specs.Scopes.{whole_scope};
 ghost use Rattle.query_names.specs.Binding.{FirstTwoAreEnough, schema_of, from_of, out_offences_of, outs_offences_of};
@@ -16,12 +16,12 @@ use query_grammar::{OutNode, OutsNode};
 use query_names::{Binder, Entry, QueryError, Visible};
 use sql_tokens::name;
 
-/// The columns of all entries.
+/// The outputs of `*`: the columns of all entries.
 #[tactic(auto, using(crate::proofs::OutFacts::none_before, crate::proofs::OutFacts::all_before))]
 fn all_outputs(binder: &Binder<'_>) -> Result<Selected, NoMemory>
     requires valid { IsValid (schema_of binder.now) }
     ensures count { IfOk result (λ found. found.count ≡ capped (length (all_outs_by binder.now))) }
-    ensures outs { IfOk result (λ found. length (from_of binder.now) ≤ 12 → found.count ≤ most_outputs
+    ensures outs { IfOk result (λ found. length (from_of binder.now) ≤ most_entries → found.count ≤ most_outputs
         → found.outs ≡ all_outs_by binder.now) }
 {
     let mut found = Selected::new(binder.alloc);
@@ -43,10 +43,10 @@ fn add_out(
     requires shows { FirstTwoAreEnough binder.now visible.now }
     requires all { visible.now.scope ≡ whole_scope (from_of binder.now) }
     requires valid { IsValid (schema_of binder.now) }
-    requires tokens { IsOutOf (IsLexemeOf binder.now.text.now) out.now }
+    requires tokens { IsOutWith (IsLexemeOf binder.now.text.now) out.now }
     ensures names { IfOk result (λ _. out_offences_of binder.now visible.now.scope out.now ≡ []) }
     ensures count { IfOk result (λ _. found.new.count ≡ capped (found.old.count + length (outs_by binder.now out.now))) }
-    ensures outs { IfOk result (λ _. length (from_of binder.now) ≤ 12 → found.new.count ≤ most_outputs
+    ensures outs { IfOk result (λ _. length (from_of binder.now) ≤ most_entries → found.new.count ≤ most_outputs
         → found.new.outs ≡ found.old.outs ++ outs_by binder.now out.now) }
     ensures err { IfErr result (IsNameError (out_offences_of binder.now visible.now.scope out.now)) }
 {
@@ -75,10 +75,10 @@ fn listed(binder: &Binder<'_>, visible: &Visible, list: &[OutNode]) -> Result<Se
     requires shows { FirstTwoAreEnough binder.now visible.now }
     requires all { visible.now.scope ≡ whole_scope (from_of binder.now) }
     requires valid { IsValid (schema_of binder.now) }
-    requires tokens { All (IsOutOf (IsLexemeOf binder.now.text.now)) list.now }
+    requires tokens { All (IsOutWith (IsLexemeOf binder.now.text.now)) list.now }
     ensures names { IfOk result (λ _. flat_map (out_offences_of binder.now visible.now.scope) list.now ≡ []) }
     ensures count { IfOk result (λ found. found.count ≡ capped (length (flat_map (outs_by binder.now) list.now))) }
-    ensures outs { IfOk result (λ found. length (from_of binder.now) ≤ 12 → found.count ≤ most_outputs
+    ensures outs { IfOk result (λ found. length (from_of binder.now) ≤ most_entries → found.count ≤ most_outputs
         → found.outs ≡ flat_map (outs_by binder.now) list.now) }
     ensures err { IfErr result (IsNameError (flat_map (out_offences_of binder.now visible.now.scope) list.now)) }
 {
@@ -99,10 +99,10 @@ pub fn select(
     requires shows { FirstTwoAreEnough binder.now visible.now }
     requires all { visible.now.scope ≡ whole_scope (from_of binder.now) }
     requires valid { IsValid (schema_of binder.now) }
-    requires tokens { IsOutListOf (IsLexemeOf binder.now.text.now) outs.now }
+    requires tokens { IsOutListWith (IsLexemeOf binder.now.text.now) outs.now }
     ensures names { IfOk result (λ _. outs_offences_of binder.now visible.now.scope outs.now ≡ []) }
     ensures count { IfOk result (λ found. found.count ≡ capped (length (selected_by binder.now outs.now))) }
-    ensures outs { IfOk result (λ found. length (from_of binder.now) ≤ 12 → found.count ≤ most_outputs
+    ensures outs { IfOk result (λ found. length (from_of binder.now) ≤ most_entries → found.count ≤ most_outputs
         → found.outs ≡ selected_by binder.now outs.now) }
     ensures err { IfErr result (IsNameError (outs_offences_of binder.now visible.now.scope outs.now)) }
 {

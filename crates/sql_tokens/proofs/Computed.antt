@@ -1,4 +1,4 @@
--- If a text begins with a separator, a token or an offence, as `Lexing` defines them, `piece` computes it.
+-- If a text begins with a separator, a token or an error, as `Lexing` defines them, `piece` computes it.
 use Rattle.std.proofs.Common.{◌≡◌, ◌≢◌, ℕ, suc, ◌+◌, ◌<◌, ◌≤◌, true, false, ◌&&◌, ◌||◌, eqb, List, [], ◌∷◌, ◌++◌, length, Option, Some, None, refl, sym, ap, ◌∙◌, inl, inr, ⊎_elim, arith, append_assoc, length-append}
 use Rattle.std.proofs.lemmas.Bool.{and_parts, and_left, or_parts, or_cases, eqb-true, ne_eqb, le-ltb, lt-ltb, false≢true}
 use Rattle.std.specs.Prelude.{slice_index}
@@ -7,9 +7,9 @@ use Rattle.std.proofs.Math.Bool.{and-false}
 use Rattle.sql_tokens.specs.declared.token.TokenKind.{TokenKind}
 use Rattle.sql_tokens.specs.declared.token.TokenKind.TheVariants as kind
 use Rattle.sql_tokens.specs.declared.pieces.TextPiece.TheVariants as piece_
-use Rattle.sql_tokens.specs.Tokens.{is_blank, is_letter, is_digit, is_word_byte, is_in_line, is_plain, is_sign, is_pair, is_quote, begins_some, begins_with, IsEnclosed, IsIdentifier, IsLiteral, IsToken, goes_on, IsSeparator}
+use Rattle.sql_tokens.specs.Tokens.{is_blank, is_letter, is_digit, is_word_byte, is_in_line, is_not_control, is_one_byte_symbol, is_two_byte_symbol, is_quote, begins_some, begins_with, IsEnclosed, IsIdentifier, IsLiteral, IsToken, goes_on, IsSeparator}
 use Rattle.sql_tokens.specs.Lexing.{Closes, IsOffence, HasControlByte}
-use Rattle.sql_tokens.specs.Pieces.{closed, identifier_to, identifier, literal_to, literal, symbol, piece}
+use Rattle.sql_tokens.specs.Pieces.{closing_length, identifier_to, identifier, literal_to, literal, symbol, piece}
 use Rattle.sql_tokens.proofs.Characters.{letter_no_blank, digit_no_blank, digit_no_letter, sign_no_blank, sign_no_letter, sign_no_digit, sign_no_double, sign_no_single, pair_first, pair_no_minus, pair_zero, other_no_minus, other_no_pair}
 use Rattle.sql_tokens.proofs.RunFacts.{run_len, prefix_all}
 use Rattle.sql_tokens.proofs.Quoting.{closes_complete, closes_at_once, closed_seen}
@@ -65,21 +65,21 @@ identifier_is : (rest body more : List ℕ) → Closes 34 rest body more → ide
 unfolding identifier
 identifier_is rest body more c = ap (λ (o : Option ℕ). identifier_to o rest) (closes_complete 34 rest body more c)
 
-identifier_good : (rest : List ℕ) (n : ℕ) → n ≢ 1 → n ≤ prefix_len is_plain rest → identifier_to (Some n) rest ≡ piece_.Token kind.Quoted (n + 1)
-identifier_good rest n some le = let a = ne_eqb n 1 some in let b = le-ltb (prefix_len is_plain rest) n le in rw (a, b) refl
+identifier_good : (rest : List ℕ) (n : ℕ) → n ≢ 1 → n ≤ prefix_len is_not_control rest → identifier_to (Some n) rest ≡ piece_.Token kind.Quoted (n + 1)
+identifier_good rest n some le = let a = ne_eqb n 1 some in let b = le-ltb (prefix_len is_not_control rest) n le in rw (a, b) refl
 
-identifier_bad : (rest : List ℕ) (n : ℕ) → n ≢ 1 → prefix_len is_plain rest < n → identifier_to (Some n) rest ≡ piece_.Wrong (prefix_len is_plain rest + 1)
-identifier_bad rest n some lt = let a = ne_eqb n 1 some in let b = lt-ltb (prefix_len is_plain rest) n lt in rw (a, b) refl
+identifier_bad : (rest : List ℕ) (n : ℕ) → n ≢ 1 → prefix_len is_not_control rest < n → identifier_to (Some n) rest ≡ piece_.Wrong (prefix_len is_not_control rest + 1)
+identifier_bad rest n some lt = let a = ne_eqb n 1 some in let b = lt-ltb (prefix_len is_not_control rest) n lt in rw (a, b) refl
 
 -- ---- signs
 
-sign_piece : (b : ℕ) (rest : List ℕ) → is_sign b ≡ true → is_pair b (slice_index rest 0) ≡ false → (eqb b 45 && eqb (slice_index rest 0) 45) ≡ false → piece (b ∷ rest) ≡ piece_.Token kind.Symbol 1
+sign_piece : (b : ℕ) (rest : List ℕ) → is_one_byte_symbol b ≡ true → is_two_byte_symbol b (slice_index rest 0) ≡ false → (eqb b 45 && eqb (slice_index rest 0) 45) ≡ false → piece (b ∷ rest) ≡ piece_.Token kind.Symbol 1
 unfolding piece symbol
 sign_piece b rest e f g =
     let h = sign_no_blank b e in let i = sign_no_letter b e in let j = sign_no_digit b e in let k = sign_no_double b e in let l = sign_no_single b e in
     rw (h, i, j, k, l, g, f, e) refl
 
-pair_piece : (b c : ℕ) (rest : List ℕ) → is_pair b c ≡ true → piece (b ∷ c ∷ rest) ≡ piece_.Token kind.Symbol 2
+pair_piece : (b c : ℕ) (rest : List ℕ) → is_two_byte_symbol b c ≡ true → piece (b ∷ c ∷ rest) ≡ piece_.Token kind.Symbol 2
 unfolding piece symbol
 pair_piece b c rest f =
     let e = pair_first b c f in
@@ -100,7 +100,7 @@ quoted_piece bytes rest f ends =
     let body : List ℕ = f.first ∷ f.others in
     let inside : List ℕ = body ++ 34 ∷ rest in
     let c : Closes 34 inside body rest = record { whole = refl; doubled = f.enclosed.doubled; ends = ends } in
-    let l : prefix_len is_plain inside ≡ length body + prefix_len is_plain (34 ∷ rest) = prefix_all is_plain body (34 ∷ rest) f.plain in
+    let l : prefix_len is_not_control inside ≡ length body + prefix_len is_not_control (34 ∷ rest) = prefix_all is_not_control body (34 ∷ rest) f.plain in
     ap piece (enclosed_rest 34 bytes body rest f.enclosed) ∙ identifier_piece inside ∙ identifier_is inside body rest c
     ∙ identifier_good inside (length body + 1) (λ e. absurd (omega arith)) (omega arith) ∙ ap (λ (n : ℕ). piece_.Token kind.Quoted n) (enclosed_len 34 bytes body f.enclosed)
 
@@ -119,19 +119,19 @@ token_front kind.Quoted bytes rest form ends = quoted_piece bytes rest form ends
 token_front kind.Text bytes rest form ends = text_piece bytes rest form ends
 token_front kind.Symbol [] rest form ends = absurd (false≢true form)
 token_front kind.Symbol (b ∷ []) [] form ends = sign_piece b [] form (pair_zero b) (and-false (eqb b 45))
-token_front kind.Symbol (b ∷ []) (c ∷ rest) form ends = let parts = or_parts (is_pair b c) (eqb b 45 && eqb c 45) ends in sign_piece b (c ∷ rest) form parts.0 parts.1
+token_front kind.Symbol (b ∷ []) (c ∷ rest) form ends = let parts = or_parts (is_two_byte_symbol b c) (eqb b 45 && eqb c 45) ends in sign_piece b (c ∷ rest) form parts.0 parts.1
 token_front kind.Symbol (b ∷ c ∷ []) rest form ends = pair_piece b c rest form
 token_front kind.Symbol (b ∷ c ∷ d ∷ more) rest form ends = absurd (false≢true form)
 
 pub token_piece : (k : TokenKind) (text bytes rest : List ℕ) → text ≡ bytes ++ rest → IsToken k bytes → goes_on k bytes rest ≡ false → piece text ≡ piece_.Token k (length bytes)
 token_piece k text bytes rest whole form ends = ap piece whole ∙ token_front k bytes rest form ends
 
--- ---- offences
+-- ---- errors
 
 none_piece : (b : ℕ) (rest : List ℕ) → begins_some b ≡ false → piece (b ∷ rest) ≡ piece_.Wrong 0
 unfolding piece symbol
 none_piece b rest none =
-    let p = or_parts (is_blank b || is_letter b || is_digit b || is_quote b) (is_sign b) none in
+    let p = or_parts (is_blank b || is_letter b || is_digit b || is_quote b) (is_one_byte_symbol b) none in
     let q = or_parts (is_blank b || is_letter b || is_digit b) (is_quote b) p.0 in
     let r = or_parts (is_blank b || is_letter b) (is_digit b) q.0 in
     let s = or_parts (is_blank b) (is_letter b) r.0 in
@@ -141,26 +141,26 @@ none_piece b rest none =
     let blank = s.0 in let letter = s.1 in let digit = r.1 in let double = t.0 in let unquoted = t.1 in let sign = p.1 in
     rw (blank, letter, digit, double, unquoted, minus, pair, sign) refl
 
-never_none : (q : ℕ) (rest : List ℕ) → ((body more : List ℕ) → Closes q rest body more → ⊥) → closed q rest ≡ None
-never_none q rest never = at (closed q rest) refl where
-  at : (o : Option ℕ) → closed q rest ≡ o → closed q rest ≡ None
+never_none : (q : ℕ) (rest : List ℕ) → ((body more : List ℕ) → Closes q rest body more → ⊥) → closing_length q rest ≡ None
+never_none q rest never = at (closing_length q rest) refl where
+  at : (o : Option ℕ) → closing_length q rest ≡ o → closing_length q rest ≡ None
   at None e = e
   at (Some n) e = let c = closed_seen q rest n e in absurd (never c.body c.more c.closes)
 
-open_identifier : (rest : List ℕ) → closed 34 rest ≡ None → piece (34 ∷ rest) ≡ piece_.Wrong 0
+open_identifier : (rest : List ℕ) → closing_length 34 rest ≡ None → piece (34 ∷ rest) ≡ piece_.Wrong 0
 unfolding piece identifier
 open_identifier rest e = ap (λ (o : Option ℕ). identifier_to o rest) e
 
-open_literal : (rest : List ℕ) → closed 39 rest ≡ None → piece (39 ∷ rest) ≡ piece_.Wrong 0
+open_literal : (rest : List ℕ) → closing_length 39 rest ≡ None → piece (39 ∷ rest) ≡ piece_.Wrong 0
 unfolding piece literal
 open_literal rest e = ap literal_to e
 
 unclosed_piece : (q : ℕ) (rest : List ℕ) → is_quote q ≡ true → ((body more : List ℕ) → Closes q rest body more → ⊥) → piece (q ∷ rest) ≡ piece_.Wrong 0
 unclosed_piece q rest is never =
-    let none : closed q rest ≡ None = never_none q rest never in
+    let none : closing_length q rest ≡ None = never_none q rest never in
     ⊎_elim
-    (λ (e : eqb q 34 ≡ true). (let f : q ≡ 34 = eqb-true q 34 e in ap (λ (x : ℕ). piece (x ∷ rest)) f ∙ open_identifier rest (ap (λ (x : ℕ). closed x rest) (sym f) ∙ none)))
-    (λ (e : eqb q 39 ≡ true). (let f : q ≡ 39 = eqb-true q 39 e in ap (λ (x : ℕ). piece (x ∷ rest)) f ∙ open_literal rest (ap (λ (x : ℕ). closed x rest) (sym f) ∙ none)))
+    (λ (e : eqb q 34 ≡ true). (let f : q ≡ 34 = eqb-true q 34 e in ap (λ (x : ℕ). piece (x ∷ rest)) f ∙ open_identifier rest (ap (λ (x : ℕ). closing_length x rest) (sym f) ∙ none)))
+    (λ (e : eqb q 39 ≡ true). (let f : q ≡ 39 = eqb-true q 39 e in ap (λ (x : ℕ). piece (x ∷ rest)) f ∙ open_literal rest (ap (λ (x : ℕ). closing_length x rest) (sym f) ∙ none)))
     (or_cases (eqb q 34) (eqb q 39) is)
 
 empty_piece : (more : List ℕ) → begins_with (λ b. eqb b 34) more ≡ false → piece (34 ∷ 34 ∷ more) ≡ piece_.Wrong 0
@@ -170,8 +170,8 @@ empty_piece more ends = ap (λ (o : Option ℕ). identifier_to o (34 ∷ more)) 
 control_piece : (text : List ℕ) (offset : ℕ) (h : HasControlByte text offset) → piece text ≡ piece_.Wrong offset
 control_piece text offset h =
     let body : List ℕ = h.front ++ h.control ∷ h.others in
-    let l : prefix_len is_plain h.rest ≡ length h.front =
-    run_len is_plain h.front ((h.control ∷ h.others) ++ 34 ∷ h.more) h.rest (h.closes.whole ∙ append_assoc h.front (h.control ∷ h.others) (34 ∷ h.more)) h.plain h.is in
+    let l : prefix_len is_not_control h.rest ≡ length h.front =
+    run_len is_not_control h.front ((h.control ∷ h.others) ++ 34 ∷ h.more) h.rest (h.closes.whole ∙ append_assoc h.front (h.control ∷ h.others) (34 ∷ h.more)) h.plain h.is in
     let n : length body ≡ length h.front + suc (length h.others) = length-append h.front (h.control ∷ h.others) in
     let o : offset ≡ 1 + length h.front = h.here in
     ap piece h.whole ∙ identifier_piece h.rest ∙ identifier_is h.rest body h.more h.closes

@@ -1,4 +1,4 @@
--- The piece that `piece` computes at the front of a text is a separator, a token or an offence, as `Lexing` defines them.
+-- The piece that `piece` computes at the front of a text is a separator, a token or an error, as `Lexing` defines them.
 use Rattle.std.proofs.Common.{◌≡◌, ◌≢◌, ℕ, ◌+◌, ◌≤◌, Bool, true, false, cond, ◌&&◌, eqb, ltb, List, [], ◌∷◌, ◌++◌, length, Option, Some, None, refl, sym, ap, ◌∙◌, subst, inl, inr, ⊎_elim, arith, append_assoc, length-append}
 use Rattle.std.proofs.lemmas.Bool.{and_parts, and_from, or_from, eqb-true, ltb-true, ltb-false, eqb-false, false≢true}
 use Rattle.std.specs.Prelude.{slice_index}
@@ -7,9 +7,9 @@ use Rattle.sql_tokens.specs.declared.token.TokenKind.{TokenKind}
 use Rattle.sql_tokens.specs.declared.token.TokenKind.TheVariants as kind
 use Rattle.sql_tokens.specs.declared.pieces.TextPiece.{TextPiece}
 use Rattle.sql_tokens.specs.declared.pieces.TextPiece.TheVariants as piece_
-use Rattle.sql_tokens.specs.Tokens.{is_blank, is_letter, is_digit, is_word_byte, is_in_line, is_plain, is_sign, is_pair, IsToken, goes_on, IsSeparator}
+use Rattle.sql_tokens.specs.Tokens.{is_blank, is_letter, is_digit, is_word_byte, is_in_line, is_not_control, is_one_byte_symbol, is_two_byte_symbol, IsToken, goes_on, IsSeparator}
 use Rattle.sql_tokens.specs.Lexing.{Closes, IsOffence}
-use Rattle.sql_tokens.specs.Pieces.{closed, identifier_to, identifier, literal_to, literal, symbol, piece}
+use Rattle.sql_tokens.specs.Pieces.{closing_length, identifier_to, identifier, literal_to, literal, symbol, piece}
 use Rattle.sql_tokens.proofs.Characters.{pair_zero}
 use Rattle.sql_tokens.proofs.RunFacts.{run, run_len, IsRun, first_or_all, HasFirst, prefix_all}
 use Rattle.sql_tokens.proofs.Quoting.{closes_complete, closed_seen, ClosesAt}
@@ -91,7 +91,7 @@ sees_comment b (c ∷ rest) e =
 
 -- ---- quotes
 
-never_closed : (q : ℕ) (rest : List ℕ) → closed q rest ≡ None → (body more : List ℕ) → Closes q rest body more → ⊥
+never_closed : (q : ℕ) (rest : List ℕ) → closing_length q rest ≡ None → (body more : List ℕ) → Closes q rest body more → ⊥
 never_closed q rest none body more c = none_some (length body + 1) (sym none ∙ closes_complete q rest body more c) where
   none_some : (m : ℕ) → ◌≡◌ {A = Option ℕ} None (Some m) → ⊥
   none_some m h = cc
@@ -99,7 +99,7 @@ never_closed q rest none body more c = none_some (length body + 1) (sym none ∙
 enclosed_whole : (q : ℕ) (rest body more : List ℕ) → rest ≡ body ++ q ∷ more → q ∷ rest ≡ (q ∷ (body ++ q ∷ [])) ++ more
 enclosed_whole q rest body more e = ap (λ (x : List ℕ). q ∷ x) (e ∙ sym (append_assoc body (q ∷ []) more))
 
-sees_literal_to : (rest : List ℕ) (o : Option ℕ) → closed 39 rest ≡ o → Sees (39 ∷ rest) (literal_to o)
+sees_literal_to : (rest : List ℕ) (o : Option ℕ) → closing_length 39 rest ≡ o → Sees (39 ∷ rest) (literal_to o)
 sees_literal_to rest None e = inr (inl (record { quote = 39; rest = rest; whole = refl; is = refl; never = never_closed 39 rest e; here = refl }))
 sees_literal_to rest (Some n) e = at (closed_seen 39 rest n e) where
   at : ClosesAt 39 rest n → Sees (39 ∷ rest) (piece_.Token kind.Text (n + 1))
@@ -114,11 +114,11 @@ sees_literal_to rest (Some n) e = at (closed_seen 39 rest n e) where
 
 sees_literal : (rest : List ℕ) → Sees (39 ∷ rest) (literal rest)
 unfolding literal
-sees_literal rest = sees_literal_to rest (closed 39 rest) refl
+sees_literal rest = sees_literal_to rest (closing_length 39 rest) refl
 
-sees_name : (rest : List ℕ) (n : ℕ) (c : ClosesAt 34 rest n) → list_all is_plain c.body ≡ true → n ≢ 1 → Sees (34 ∷ rest) (piece_.Token kind.Quoted (n + 1))
+sees_name : (rest : List ℕ) (n : ℕ) (c : ClosesAt 34 rest n) → list_all is_not_control c.body ≡ true → n ≢ 1 → Sees (34 ∷ rest) (piece_.Token kind.Quoted (n + 1))
 sees_name rest n c plain some = at c.body c.closes c.len plain where
-  at : (body : List ℕ) → Closes 34 rest body c.more → n ≡ length body + 1 → list_all is_plain body ≡ true → Sees (34 ∷ rest) (piece_.Token kind.Quoted (n + 1))
+  at : (body : List ℕ) → Closes 34 rest body c.more → n ≡ length body + 1 → list_all is_not_control body ≡ true → Sees (34 ∷ rest) (piece_.Token kind.Quoted (n + 1))
   at [] closes len plain = absurd (some (omega arith))
   at (b ∷ body) closes len plain = record {
     bytes = 34 ∷ (b ∷ body ++ 34 ∷ []);
@@ -135,18 +135,18 @@ sees_empty rest n c one = at c.body c.closes (let l : n ≡ length c.body + 1 = 
   at [] closes len = inr (inr (inl (record { more = c.more; whole = ap (λ (x : List ℕ). 34 ∷ x) closes.whole; ends = closes.ends; here = refl })))
   at (b ∷ body) closes len = absurd (omega arith)
 
-plain_len : (rest : List ℕ) (n : ℕ) (c : ClosesAt 34 rest n) → list_all is_plain c.body ≡ true → n ≤ prefix_len is_plain rest
+plain_len : (rest : List ℕ) (n : ℕ) (c : ClosesAt 34 rest n) → list_all is_not_control c.body ≡ true → n ≤ prefix_len is_not_control rest
 plain_len rest n c all =
-    let e : prefix_len is_plain rest ≡ length c.body + prefix_len is_plain (34 ∷ c.more) = ap (prefix_len is_plain) c.closes.whole ∙ prefix_all is_plain c.body (34 ∷ c.more) all in
+    let e : prefix_len is_not_control rest ≡ length c.body + prefix_len is_not_control (34 ∷ c.more) = ap (prefix_len is_not_control) c.closes.whole ∙ prefix_all is_not_control c.body (34 ∷ c.more) all in
     let l : n ≡ length c.body + 1 = c.len in
     omega arith
 
-control_len : (rest : List ℕ) (n : ℕ) (c : ClosesAt 34 rest n) (h : HasFirst is_plain c.body) → prefix_len is_plain rest ≡ length h.front
+control_len : (rest : List ℕ) (n : ℕ) (c : ClosesAt 34 rest n) (h : HasFirst is_not_control c.body) → prefix_len is_not_control rest ≡ length h.front
 control_len rest n c h =
-    run_len is_plain h.front ((h.stop ∷ h.others) ++ 34 ∷ c.more) rest
+    run_len is_not_control h.front ((h.stop ∷ h.others) ++ 34 ∷ c.more) rest
     (c.closes.whole ∙ ap (λ (x : List ℕ). x ++ 34 ∷ c.more) h.whole ∙ append_assoc h.front (h.stop ∷ h.others) (34 ∷ c.more)) h.all h.is
 
-sees_control : (rest : List ℕ) (n : ℕ) (c : ClosesAt 34 rest n) (h : HasFirst is_plain c.body) → Sees (34 ∷ rest) (piece_.Wrong (prefix_len is_plain rest + 1))
+sees_control : (rest : List ℕ) (n : ℕ) (c : ClosesAt 34 rest n) (h : HasFirst is_not_control c.body) → Sees (34 ∷ rest) (piece_.Wrong (prefix_len is_not_control rest + 1))
 sees_control rest n c h = inr (inr (inr (record {
   front = h.front;
   control = h.stop;
@@ -163,40 +163,40 @@ sees_control rest n c h = inr (inr (inr (record {
 sees_closed : (rest : List ℕ) (n : ℕ) → ClosesAt 34 rest n → Sees (34 ∷ rest) (identifier_to (Some n) rest)
 sees_closed rest n c =
     sees_cond (34 ∷ rest) (eqb n 1) _ _ (λ e. sees_empty rest n c (eqb-true n 1 e))
-    (λ e. sees_cond (34 ∷ rest) (ltb (prefix_len is_plain rest) n) _ _
-    (λ f. ⊎_elim (λ (all : list_all is_plain c.body ≡ true). absurd (let le = plain_len rest n c all in let lt = ltb-true (prefix_len is_plain rest) n f in omega arith)) (λ (h : HasFirst is_plain c.body). sees_control rest n c h) (first_or_all is_plain c.body))
-    (λ f. ⊎_elim (λ (all : list_all is_plain c.body ≡ true). sees_name rest n c all (eqb-false n 1 e))
-    (λ (h : HasFirst is_plain c.body). absurd (let l = control_len rest n c h in let k : n ≡ length c.body + 1 = c.len in let le = ltb-false (prefix_len is_plain rest) n f in let whole = ap length h.whole in omega (arith, length-append h.front (h.stop ∷ h.others))))
-    (first_or_all is_plain c.body)))
+    (λ e. sees_cond (34 ∷ rest) (ltb (prefix_len is_not_control rest) n) _ _
+    (λ f. ⊎_elim (λ (all : list_all is_not_control c.body ≡ true). absurd (let le = plain_len rest n c all in let lt = ltb-true (prefix_len is_not_control rest) n f in omega arith)) (λ (h : HasFirst is_not_control c.body). sees_control rest n c h) (first_or_all is_not_control c.body))
+    (λ f. ⊎_elim (λ (all : list_all is_not_control c.body ≡ true). sees_name rest n c all (eqb-false n 1 e))
+    (λ (h : HasFirst is_not_control c.body). absurd (let l = control_len rest n c h in let k : n ≡ length c.body + 1 = c.len in let le = ltb-false (prefix_len is_not_control rest) n f in let whole = ap length h.whole in omega (arith, length-append h.front (h.stop ∷ h.others))))
+    (first_or_all is_not_control c.body)))
 
-sees_identifier_to : (rest : List ℕ) (o : Option ℕ) → closed 34 rest ≡ o → Sees (34 ∷ rest) (identifier_to o rest)
+sees_identifier_to : (rest : List ℕ) (o : Option ℕ) → closing_length 34 rest ≡ o → Sees (34 ∷ rest) (identifier_to o rest)
 sees_identifier_to rest None e = inr (inl (record { quote = 34; rest = rest; whole = refl; is = refl; never = never_closed 34 rest e; here = refl }))
 sees_identifier_to rest (Some n) e = sees_closed rest n (closed_seen 34 rest n e)
 
 sees_identifier : (rest : List ℕ) → Sees (34 ∷ rest) (identifier rest)
 unfolding identifier
-sees_identifier rest = sees_identifier_to rest (closed 34 rest) refl
+sees_identifier rest = sees_identifier_to rest (closing_length 34 rest) refl
 
 -- ---- signs
 
-sees_pair : (b : ℕ) (rest : List ℕ) → is_pair b (slice_index rest 0) ≡ true → Sees (b ∷ rest) (piece_.Token kind.Symbol 2)
+sees_pair : (b : ℕ) (rest : List ℕ) → is_two_byte_symbol b (slice_index rest 0) ≡ true → Sees (b ∷ rest) (piece_.Token kind.Symbol 2)
 sees_pair b [] e = absurd (let h = pair_zero b in false≢true (sym h ∙ e))
 sees_pair b (c ∷ rest) e = record { bytes = b ∷ c ∷ []; rest = rest; whole = refl; form = e; ends = refl; len = refl }
 
-sees_sign : (b : ℕ) (rest : List ℕ) → is_sign b ≡ true → is_pair b (slice_index rest 0) ≡ false → (eqb b 45 && eqb (slice_index rest 0) 45) ≡ false → Sees (b ∷ rest) (piece_.Token kind.Symbol 1)
+sees_sign : (b : ℕ) (rest : List ℕ) → is_one_byte_symbol b ≡ true → is_two_byte_symbol b (slice_index rest 0) ≡ false → (eqb b 45 && eqb (slice_index rest 0) 45) ≡ false → Sees (b ∷ rest) (piece_.Token kind.Symbol 1)
 sees_sign b [] e f g = record { bytes = b ∷ []; rest = []; whole = refl; form = e; ends = refl; len = refl }
-sees_sign b (c ∷ rest) e f g = record { bytes = b ∷ []; rest = c ∷ rest; whole = refl; form = e; ends = or_from (is_pair b c) (eqb b 45 && eqb c 45) f g; len = refl }
+sees_sign b (c ∷ rest) e f g = record { bytes = b ∷ []; rest = c ∷ rest; whole = refl; form = e; ends = or_from (is_two_byte_symbol b c) (eqb b 45 && eqb c 45) f g; len = refl }
 
-sees_none : (b : ℕ) (rest : List ℕ) → is_blank b ≡ false → is_letter b ≡ false → is_digit b ≡ false → eqb b 34 ≡ false → eqb b 39 ≡ false → is_sign b ≡ false → Sees (b ∷ rest) (piece_.Wrong 0)
+sees_none : (b : ℕ) (rest : List ℕ) → is_blank b ≡ false → is_letter b ≡ false → is_digit b ≡ false → eqb b 34 ≡ false → eqb b 39 ≡ false → is_one_byte_symbol b ≡ false → Sees (b ∷ rest) (piece_.Wrong 0)
 sees_none b rest e f g h i j = inl (record { first = b; rest = rest; whole = refl; none = rw (e, f, g, h, i, j) refl; here = refl })
 
 sees_symbol : (b : ℕ) (rest : List ℕ) → is_blank b ≡ false → is_letter b ≡ false → is_digit b ≡ false → eqb b 34 ≡ false → eqb b 39 ≡ false → (eqb b 45 && eqb (slice_index rest 0) 45) ≡ false → Sees (b ∷ rest) (symbol b rest)
 unfolding symbol
 sees_symbol b rest e f g h i j =
-    sees_cond (b ∷ rest) (is_pair b (slice_index rest 0)) _ _ (λ k. sees_pair b rest k)
-    (λ k. sees_cond (b ∷ rest) (is_sign b) _ _ (λ l. sees_sign b rest l k j) (λ l. sees_none b rest e f g h i l))
+    sees_cond (b ∷ rest) (is_two_byte_symbol b (slice_index rest 0)) _ _ (λ k. sees_pair b rest k)
+    (λ k. sees_cond (b ∷ rest) (is_one_byte_symbol b) _ _ (λ l. sees_sign b rest l k j) (λ l. sees_none b rest e f g h i l))
 
--- ---- all
+-- ---- the piece at the front of any text
 
 pub sees_piece : (b : ℕ) (rest : List ℕ) → Sees (b ∷ rest) (piece (b ∷ rest))
 unfolding piece

@@ -1,4 +1,4 @@
--- The code makes the terminals of a text's tokens one by one.
+-- Steps of the loop that gives each token its terminal.
 use Rattle.std.proofs.Common.{◌≡◌, ℕ, ◌<◌, List, map, length, get_or, sym, subst}
 use Rattle.std.proofs.lemmas.List.Elements.{All-get_or, All-same, All-map, All-weaker}
 use Rattle.std.specs.List.{All}

@@ -4,8 +4,8 @@ use Rattle.std.proofs.lemmas.Bool.{and_parts, or_parts, false≢true}
 use Rattle.std.specs.List.{prefix_len, list_all}
 use Rattle.sql_tokens.specs.declared.token.TokenKind.{TokenKind}
 use Rattle.sql_tokens.specs.declared.token.TokenKind.TheVariants as kind
-use Rattle.sql_tokens.specs.Tokens.{is_letter, is_digit, is_word_byte, is_sign, is_pair, begins_with, are_doubled, IsEnclosed, IsToken, goes_on}
-use Rattle.sql_tokens.specs.Pieces.{closed, further}
+use Rattle.sql_tokens.specs.Tokens.{is_letter, is_digit, is_word_byte, is_one_byte_symbol, is_two_byte_symbol, begins_with, are_doubled, IsEnclosed, IsToken, goes_on}
+use Rattle.sql_tokens.specs.Pieces.{closing_length, further}
 use Rattle.sql_tokens.proofs.Characters.{digit_no_letter, sign_no_letter, sign_no_digit, sign_no_double, sign_no_single, pair_first}
 use Rattle.sql_tokens.proofs.RunFacts.{prefix_all, prefix_none}
 use Rattle.sql_tokens.proofs.Quoting.{closed_front, closes_len, closed_seen, further_some, ClosesAt}
@@ -35,7 +35,7 @@ same_kind _ _ e = absurd (omega arith)
 head_is : (q b : ℕ) (rest inside : List ℕ) → b ∷ rest ≡ q ∷ inside → b ≡ q
 head_is q b rest inside e = cc
 
-lead_sign : (b : ℕ) → is_sign b ≡ true → lead b ≡ 4
+lead_sign : (b : ℕ) → is_one_byte_symbol b ≡ true → lead b ≡ 4
 lead_sign b e = let f = sign_no_letter b e in let g = sign_no_digit b e in let h = sign_no_double b e in let i = sign_no_single b e in rw (f, g, h, i) refl
 
 lead_is : (k : TokenKind) (b : ℕ) (rest : List ℕ) → IsToken k (b ∷ rest) → lead b ≡ code k
@@ -48,7 +48,7 @@ lead_is kind.Symbol b [] form = lead_sign b form
 lead_is kind.Symbol b (c ∷ []) form = lead_sign b (pair_first b c form)
 lead_is kind.Symbol b (c ∷ d ∷ rest) form = absurd (false≢true form)
 
--- ---- two fronts of one kind
+-- ---- two tokens of one kind at the front of the same text
 
 run_longest : (p : ℕ → Bool) (token rest longer more : List ℕ) → token ++ rest ≡ longer ++ more → list_all p token ≡ true → begins_with p rest ≡ false → list_all p longer ≡ true → length longer ≤ length token
 run_longest p token rest longer more same all ends all' =
@@ -63,8 +63,8 @@ tails b c xs ys e = cc
 -- the quote that ends `body` has no further quote after it. So it isn't half of a doubled quote, and `other` doesn't go past it
 body_longest : (q : ℕ) (body rest other more : List ℕ) → body ++ q ∷ rest ≡ other ++ q ∷ more → are_doubled q body ≡ true → begins_with (λ b. eqb b q) rest ≡ false → are_doubled q other ≡ true → length other ≤ length body
 body_longest q body rest other more same doubled ends doubled' =
-    let e : further (length other) (closed q (q ∷ more)) ≡ Some (length body + 1) = sym (closed_front q other (q ∷ more) doubled') ∙ ap (closed q) (sym same) ∙ closes_len q body rest doubled ends in
-    let m = further_some (length other) (closed q (q ∷ more)) (length body + 1) e in
+    let e : further (length other) (closing_length q (q ∷ more)) ≡ Some (length body + 1) = sym (closed_front q other (q ∷ more) doubled') ∙ ap (closing_length q) (sym same) ∙ closes_len q body rest doubled ends in
+    let m = further_some (length other) (closing_length q (q ∷ more)) (length body + 1) e in
     at m.0 m.2 (closed_seen q (q ∷ more) m.0 m.1) where
       at : (n : ℕ) → length body + 1 ≡ length other + n → ClosesAt q (q ∷ more) n → length other ≤ length body
       at n s c = let l : n ≡ length c.body + 1 = c.len in omega arith
@@ -80,13 +80,13 @@ enclosed_longest q token body rest longer other more same e ends f =
 second_is : (b c d : ℕ) (rest more : List ℕ) → b ∷ rest ≡ c ∷ d ∷ more → rest ≡ d ∷ more
 second_is b c d rest more e = cc
 
-sign_longest : (b c d : ℕ) (rest more : List ℕ) → b ∷ rest ≡ c ∷ d ∷ more → is_pair c d ≡ true → goes_on kind.Symbol (b ∷ []) rest ≡ false → ⊥
+sign_longest : (b c d : ℕ) (rest more : List ℕ) → b ∷ rest ≡ c ∷ d ∷ more → is_two_byte_symbol c d ≡ true → goes_on kind.Symbol (b ∷ []) rest ≡ false → ⊥
 sign_longest b c d [] more same pair ends = absurd cc
 sign_longest b c d (x ∷ rest) more same pair ends =
-    let parts = or_parts (is_pair b x) (eqb b 45 && eqb x 45) ends in
+    let parts = or_parts (is_two_byte_symbol b x) (eqb b 45 && eqb x 45) ends in
     let e : b ≡ c = head_is c b (x ∷ rest) (d ∷ more) same in
     let f : x ≡ d = head_is d x rest more (second_is b c d (x ∷ rest) more same) in
-    false≢true (sym parts.0 ∙ ap (λ (y : ℕ). is_pair y x) e ∙ ap (is_pair c) f ∙ pair)
+    false≢true (sym parts.0 ∙ ap (λ (y : ℕ). is_two_byte_symbol y x) e ∙ ap (is_two_byte_symbol c) f ∙ pair)
 
 symbol_longest : (token rest longer more : List ℕ) → token ++ rest ≡ longer ++ more → IsToken kind.Symbol token → goes_on kind.Symbol token rest ≡ false → IsToken kind.Symbol longer → length longer ≤ length token
 symbol_longest [] rest longer more same form ends form' = absurd (false≢true form)

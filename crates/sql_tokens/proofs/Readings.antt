@@ -1,4 +1,4 @@
--- The walk over pieces (`tokens_at`) and the relation (`Leads` to an end or an offence) agree.
+-- The walk over pieces (`tokens_at`) agrees with the relation (`Leads`, to the end or to an error).
 use Rattle.std.proofs.Common.{◌≡◌, ℕ, zero, suc, ◌+◌, ◌<◌, ◌≤◌, false, List, [], ◌∷◌, ◌++◌, length, drop, Ok, Err, refl, sym, ap, ◌∙◌, subst, inl, inr, arith, length-append, length-drop}
 use Rattle.std.proofs.lemmas.Bool.{false≢true}
 use Rattle.std.proofs.lemmas.List.{drop_at, append-nil}
@@ -9,12 +9,12 @@ use Rattle.sql_tokens.specs.declared.pieces.TextPiece.{TextPiece}
 use Rattle.sql_tokens.specs.declared.pieces.TextPiece.TheVariants as piece_
 use Rattle.sql_tokens.specs.Tokens.{IsToken, goes_on, IsSeparator}
 use Rattle.sql_tokens.specs.Lexing.{Leads, stay, over_gap, over_token, IsOffence, IsOffenceAt}
-use Rattle.sql_tokens.specs.Pieces.{piece, Walked, before, step, tokens_at, with_front}
+use Rattle.sql_tokens.specs.Pieces.{piece, Walked, with_first, step, tokens_at, with_front}
 use Rattle.sql_tokens.proofs.Fronts.{Sees, sees_piece}
 use Rattle.sql_tokens.proofs.Computed.{gap_piece, token_piece, offence_piece}
 use Rattle.sql_tokens.proofs.Walk.{tokens_step, piece_long, HasBytes, walk_start}
 
--- ---- the answer of the walk satisfies the relation
+-- ---- the result of the walk satisfies the relation
 
 abbrev pub IsRightAnswer : ℕ → List ℕ → Walked → Type 0
 IsRightAnswer at text (Ok tokens) = Leads at text tokens (at + length text) []
@@ -41,7 +41,7 @@ told_gap at text bytes rest (Err place) whole s told = record {
 }
 
 told_token : (at : ℕ) (text bytes rest : List ℕ) (k : TokenKind) (walked : Walked) → text ≡ bytes ++ rest → IsToken k bytes → goes_on k bytes rest ≡ false → IsRightAnswer (at + length bytes) rest walked
-    → IsRightAnswer at text (before (record { kind = k; start = at; end = at + length bytes }) walked)
+    → IsRightAnswer at text (with_first (record { kind = k; start = at; end = at + length bytes }) walked)
 told_token at text bytes rest k (Ok tokens) whole form ends told =
     let l = split_len text bytes rest whole in
     let t : Token = record { kind = k; start = at; end = at + length bytes } in
@@ -56,7 +56,7 @@ told_token at text bytes rest k (Err place) whole form ends told = record {
   here = told.here;
 }
 
--- the first n bytes of `text` are the piece `bytes`, and `walked` is the walk's answer for the bytes after it
+-- the first n bytes of `text` are the piece `bytes`, and `walked` is the walk's result for the bytes after it
 right_answer_on : (at n : ℕ) (text bytes rest : List ℕ) (walked : Walked) → text ≡ bytes ++ rest → n ≡ length bytes → IsRightAnswer (at + n) (drop n text) walked → IsRightAnswer (at + length bytes) rest walked
 right_answer_on at n text bytes rest walked whole len told =
     let left : drop n text ≡ rest = ap (drop n) whole ∙ drop_at bytes rest n (sym len) in
@@ -68,9 +68,9 @@ told_step at text (piece_.Separator n) s long told some =
     (right_answer_on at n text s.bytes s.rest (tokens_at (at + n) (drop n text)) s.whole s.len (told (at + n) (drop n text) (omega (arith, length-drop n text))))
 told_step at text (piece_.Token k n) s long told some =
     let walked : Walked = tokens_at (at + n) (drop n text) in
-    let here : IsRightAnswer at text (before (record { kind = k; start = at; end = at + length s.bytes }) walked) =
+    let here : IsRightAnswer at text (with_first (record { kind = k; start = at; end = at + length s.bytes }) walked) =
     told_token at text s.bytes s.rest k walked s.whole s.form s.ends (right_answer_on at n text s.bytes s.rest walked s.whole s.len (told (at + n) (drop n text) (omega (arith, length-drop n text)))) in
-    subst (λ (x : ℕ). IsRightAnswer at text (before (record { kind = k; start = at; end = at + x }) walked)) (sym s.len) here
+    subst (λ (x : ℕ). IsRightAnswer at text (with_first (record { kind = k; start = at; end = at + x }) walked)) (sym s.len) here
 told_step at text (piece_.Wrong n) s long told some = record { tokens = []; to = at; rest = text; offset = n; leads = stay at text; offence = s; here = refl }
 
 told_empty : (at : ℕ) → IsRightAnswer at [] (tokens_at at [])
@@ -87,7 +87,7 @@ told_up_to (suc n) at (b ∷ rest) le =
 pub told : (at : ℕ) (text : List ℕ) → IsRightAnswer at text (tokens_at at text)
 told at text = told_up_to (length text) at text (omega arith)
 
--- ---- an answer that satisfies the relation is the answer of the walk
+-- ---- a result that satisfies the relation is the result of the walk
 
 separator_len : (bytes rest : List ℕ) → IsSeparator bytes rest → 0 < length bytes
 separator_len bytes rest (inl s) = let l = ap length s.whole in omega arith
@@ -113,7 +113,7 @@ walk_one : (at : ℕ) (text : List ℕ) → 0 < length text → tokens_at at tex
 walk_one at [] some = absurd (omega arith)
 walk_one at (b ∷ rest) some = tokens_step at b rest
 
-before_front : (t : Token) (tokens : List Token) (walked : Walked) → before t (with_front tokens walked) ≡ with_front (t ∷ tokens) walked
+before_front : (t : Token) (tokens : List Token) (walked : Walked) → with_first t (with_front tokens walked) ≡ with_front (t ∷ tokens) walked
 before_front t tokens (Ok ts) = refl
 before_front t tokens (Err place) = refl
 
@@ -130,8 +130,8 @@ leads_walk at text tokens to last (over_token a t bytes rest k ts o la whole for
     let some : 0 < length bytes = token_len k bytes form in
     let this : Token = record { kind = k; start = at; end = at + length bytes } in
     walk_one at text (omega arith) ∙ ap (λ (p : TextPiece). step tokens_at at p text) (token_piece k text bytes rest whole form ends)
-    ∙ ap (λ (x : List ℕ). before this (tokens_at (at + length bytes) x)) (ap (drop (length bytes)) whole ∙ drop_at bytes rest (length bytes) refl)
-    ∙ ap (before this) (leads_walk (at + length bytes) rest ts to last l) ∙ before_front this ts (tokens_at to last)
+    ∙ ap (λ (x : List ℕ). with_first this (tokens_at (at + length bytes) x)) (ap (drop (length bytes)) whole ∙ drop_at bytes rest (length bytes) refl)
+    ∙ ap (with_first this) (leads_walk (at + length bytes) rest ts to last l) ∙ before_front this ts (tokens_at to last)
 
 pub offence_walk : (at : ℕ) (text : List ℕ) (offset : ℕ) → IsOffence text offset → tokens_at at text ≡ Err (at + offset)
 offence_walk at text offset h = walk_one at text (offence_len text offset h) ∙ ap (λ (p : TextPiece). step tokens_at at p text) (offence_piece text offset h)

@@ -1,4 +1,4 @@
--- A run is the longest prefix of a text whose characters all pass a test.
+-- A run is the longest prefix of a text whose bytes all pass a test.
 use Rattle.std.proofs.Common.{◌≡◌, ℕ, ◌+◌, Bool, true, false, List, [], ◌∷◌, ◌++◌, length, refl, ap, ◌∙◌, inl, inr, arith}
 use Rattle.std.proofs.lemmas.Bool.{and_parts, and_from}
 use Rattle.std.specs.Prelude.{◌⊎◌}

@@ -28,7 +28,7 @@ in_order at text tokens to last (over_token a t bytes rest k ts o la whole form 
     let some : 0 < length bytes = token_len k bytes form in
     (omega arith, omega arith, in_order (at + length bytes) rest ts to last l)
 
--- ---- ends that are ASCII
+-- ---- bytes that end with an ASCII character
 
 pub record EndsAscii (bytes : List ℕ) : Type 0 where
   pub init : List ℕ
@@ -60,7 +60,7 @@ token_ends_ascii kind.Symbol (b ∷ c ∷ d ∷ rest) form = absurd (false≢tru
 token_ends_ascii kind.Quoted bytes form = enclosed_ends_ascii 34 bytes (form.first ∷ form.others) (omega arith) form.enclosed
 token_ends_ascii kind.Text bytes form = enclosed_ends_ascii 39 bytes form.body (omega arith) form.enclosed
 
--- ---- where a text is cut
+-- ---- the byte after a token or separator begins a character
 
 cut_after_ascii : (text bytes rest : List ℕ) → text ≡ bytes ++ rest → IsUtf8 text → EndsAscii bytes → IsCharBoundary text (length bytes)
 cut_after_ascii text bytes rest whole utf8 e =

@@ -1,4 +1,4 @@
--- `unquote` takes two quotes in a row for one, part by part.
+-- Steps of the loop of `unquote`, which turns two quotes in a row into one.
 use Rattle.std.proofs.Common.{◌≡◌, ◌≢◌, ℕ, suc, ◌+◌, ◌<◌, List, [], ◌∷◌, ◌++◌, length, get_or, drop, refl, sym, subst, ap, ◌∙◌, arith, append_assoc}
 use Rattle.std.proofs.lemmas.Bool.{eq-eqb, ne_eqb}
 use Rattle.std.proofs.lemmas.List.{append-nil, get_or_at, length-append, drop_at, length_push}

@@ -8,8 +8,8 @@ use Rattle.sql_tokens.specs.declared.token.TokenKind.{TokenKind}
 use Rattle.sql_tokens.specs.declared.token.TokenKind.TheVariants as kind
 use Rattle.sql_tokens.specs.declared.pieces.TextPiece.{TextPiece}
 use Rattle.sql_tokens.specs.declared.pieces.TextPiece.TheVariants as piece_
-use Rattle.sql_tokens.specs.Tokens.{is_blank, is_letter, is_digit, is_plain, is_sign, is_pair}
-use Rattle.sql_tokens.specs.Pieces.{closed, identifier_to, identifier, literal_to, literal, symbol, piece, Walked, before, step, pieces_up_to, tokens_at, with_front}
+use Rattle.sql_tokens.specs.Tokens.{is_blank, is_letter, is_digit, is_not_control, is_one_byte_symbol, is_two_byte_symbol}
+use Rattle.sql_tokens.specs.Pieces.{closing_length, identifier_to, identifier, literal_to, literal, symbol, piece, Walked, with_first, step, pieces_up_to, tokens_at, with_front}
 
 abbrev pub HasBytes : TextPiece → Type 0
 HasBytes (piece_.Separator n) = 1 ≤ n
@@ -22,22 +22,22 @@ long_cond false x y l m = m
 
 identifier_long : (rest : List ℕ) → HasBytes (identifier rest)
 unfolding identifier
-identifier_long rest = at (closed 34 rest) where
+identifier_long rest = at (closing_length 34 rest) where
   at : (o : Option ℕ) → HasBytes (identifier_to o rest)
   at None = omega arith
-  at (Some n) = long_cond (eqb n 1) (piece_.Wrong 0) (cond (ltb (prefix_len is_plain rest) n) (piece_.Wrong (prefix_len is_plain rest + 1)) (piece_.Token kind.Quoted (n + 1))) (omega arith)
-      (long_cond (ltb (prefix_len is_plain rest) n) (piece_.Wrong (prefix_len is_plain rest + 1)) (piece_.Token kind.Quoted (n + 1)) (omega arith) (omega arith))
+  at (Some n) = long_cond (eqb n 1) (piece_.Wrong 0) (cond (ltb (prefix_len is_not_control rest) n) (piece_.Wrong (prefix_len is_not_control rest + 1)) (piece_.Token kind.Quoted (n + 1))) (omega arith)
+      (long_cond (ltb (prefix_len is_not_control rest) n) (piece_.Wrong (prefix_len is_not_control rest + 1)) (piece_.Token kind.Quoted (n + 1)) (omega arith) (omega arith))
 
 literal_long : (rest : List ℕ) → HasBytes (literal rest)
 unfolding literal
-literal_long rest = at (closed 39 rest) where
+literal_long rest = at (closing_length 39 rest) where
   at : (o : Option ℕ) → HasBytes (literal_to o)
   at None = omega arith
   at (Some n) = omega arith
 
 symbol_long : (b : ℕ) (rest : List ℕ) → HasBytes (symbol b rest)
 unfolding symbol
-symbol_long b rest = long_cond (is_pair b (slice_index rest 0)) _ _ (omega arith) (long_cond (is_sign b) (piece_.Token kind.Symbol 1) (piece_.Wrong 0) (omega arith) (omega arith))
+symbol_long b rest = long_cond (is_two_byte_symbol b (slice_index rest 0)) _ _ (omega arith) (long_cond (is_one_byte_symbol b) (piece_.Token kind.Symbol 1) (piece_.Wrong 0) (omega arith) (omega arith))
 
 pub piece_long : (b : ℕ) (rest : List ℕ) → HasBytes (piece (b ∷ rest))
 unfolding piece
@@ -57,7 +57,7 @@ up_none n at (b ∷ bytes) h = absurd (omega arith)
 step_same : (n m at : ℕ) (b : ℕ) (rest : List ℕ) → ((at : ℕ) (bytes : List ℕ) → length bytes ≤ n → length bytes ≤ m → pieces_up_to n at bytes ≡ pieces_up_to m at bytes)
     → length rest ≤ n → length rest ≤ m → (p : TextPiece) → HasBytes p → step (pieces_up_to n) at p (b ∷ rest) ≡ step (pieces_up_to m) at p (b ∷ rest)
 step_same n m at b rest ih le le' (piece_.Separator k) l = ih (at + k) (drop k (b ∷ rest)) (omega (arith, length-drop k (b ∷ rest))) (omega (arith, length-drop k (b ∷ rest)))
-step_same n m at b rest ih le le' (piece_.Token t k) l = ap (before (record { kind = t; start = at; end = at + k })) (ih (at + k) (drop k (b ∷ rest)) (omega (arith, length-drop k (b ∷ rest))) (omega (arith, length-drop k (b ∷ rest))))
+step_same n m at b rest ih le le' (piece_.Token t k) l = ap (with_first (record { kind = t; start = at; end = at + k })) (ih (at + k) (drop k (b ∷ rest)) (omega (arith, length-drop k (b ∷ rest))) (omega (arith, length-drop k (b ∷ rest))))
 step_same n m at b rest ih le le' (piece_.Wrong k) l = refl
 
 up_same : (n m at : ℕ) (bytes : List ℕ) → length bytes ≤ n → length bytes ≤ m → pieces_up_to n at bytes ≡ pieces_up_to m at bytes
@@ -69,7 +69,7 @@ up_same (suc n) (suc m) at (b ∷ rest) le le' = step_same n m at b rest (up_sam
 step_on : (at b : ℕ) (rest : List ℕ) (p : TextPiece) → HasBytes p → step (pieces_up_to (length rest)) at p (b ∷ rest) ≡ step tokens_at at p (b ∷ rest)
 unfolding tokens_at
 step_on at b rest (piece_.Separator k) l = up_same (length rest) (length (drop k (b ∷ rest))) (at + k) (drop k (b ∷ rest)) (omega (arith, length-drop k (b ∷ rest))) (omega arith)
-step_on at b rest (piece_.Token t k) l = ap (before (record { kind = t; start = at; end = at + k })) (up_same (length rest) (length (drop k (b ∷ rest))) (at + k) (drop k (b ∷ rest)) (omega (arith, length-drop k (b ∷ rest))) (omega arith))
+step_on at b rest (piece_.Token t k) l = ap (with_first (record { kind = t; start = at; end = at + k })) (up_same (length rest) (length (drop k (b ∷ rest))) (at + k) (drop k (b ∷ rest)) (omega (arith, length-drop k (b ∷ rest))) (omega arith))
 step_on at b rest (piece_.Wrong k) l = refl
 
 pub tokens_step : (at b : ℕ) (rest : List ℕ) → tokens_at at (b ∷ rest) ≡ step tokens_at at (piece (b ∷ rest)) (b ∷ rest)
@@ -78,7 +78,7 @@ tokens_step at b rest = step_on at b rest (piece (b ∷ rest)) (piece_long b res
 
 -- ---- the steps of the loop
 
-front_before : (ts : List Token) (t : Token) (r : Walked) → with_front ts (before t r) ≡ with_front (ts ++ t ∷ []) r
+front_before : (ts : List Token) (t : Token) (r : Walked) → with_front ts (with_first t r) ≡ with_front (ts ++ t ∷ []) r
 front_before ts t (Ok us) = ap (λ x. Ok x) (sym (append_assoc ts (t ∷ []) us))
 front_before ts t (Err at) = refl
 
@@ -98,7 +98,7 @@ pub walk_token : (ts : List Token) (at b : ℕ) (rest : List ℕ) (k : TokenKind
     → with_front (ts ++ record { kind = k; start = at; end = at + n } ∷ []) (tokens_at (at + n) (drop n (b ∷ rest))) ≡ total
 walk_token ts at b rest k n total so_far e =
     let t : Token = record { kind = k; start = at; end = at + n } in
-    let one : tokens_at at (b ∷ rest) ≡ before t (tokens_at (at + n) (drop n (b ∷ rest))) = tokens_step at b rest ∙ ap (λ p. step tokens_at at p (b ∷ rest)) e in
+    let one : tokens_at at (b ∷ rest) ≡ with_first t (tokens_at (at + n) (drop n (b ∷ rest))) = tokens_step at b rest ∙ ap (λ p. step tokens_at at p (b ∷ rest)) e in
     sym (front_before ts t (tokens_at (at + n) (drop n (b ∷ rest)))) ∙ ap (with_front ts) (sym one) ∙ so_far
 
 pub walk_wrong : (ts : List Token) (at b : ℕ) (rest : List ℕ) (n : ℕ) (total : Walked) → with_front ts (tokens_at at (b ∷ rest)) ≡ total → piece (b ∷ rest) ≡ piece_.Wrong n → total ≡ Err (at + n)

@@ -1,4 +1,4 @@
--- For a whole text, the walk starts after the byte order mark. Its answer is the one that the relation allows.
+-- The walk over a complete text starts after the byte order mark. It gives the only result that the relation allows.
 use Rattle.std.proofs.Common.{◌≡◌, ℕ, suc, ◌+◌, ◌-◌, ◌≤◌, Bool, true, false, cond, ◌&&◌, eqb, List, [], ◌∷◌, length, take, drop, Ok, Err, Result, IfOk, IfErr, refl, sym, ap, ◌∙◌, subst, inl, inr, arith, length-drop}
 use Rattle.std.proofs.lemmas.Bool.{and_parts, eqb-true, false≢true}
 use Rattle.std.proofs.lemmas.List.{take_rest, take-append-drop, length-take-le}
@@ -12,11 +12,11 @@ use Rattle.sql_tokens.specs.declared.token.LexError.{LexError}
 use Rattle.sql_tokens.specs.declared.token.LexError.TheVariants as error
 use Rattle.sql_tokens.specs.Words.{IsTokenOf}
 use Rattle.sql_tokens.specs.Lexing.{Leads, mark_len, IsLexed, IsBadToken, IsBad, IsRefusal, TokensAreInOrder, HasItsForm}
-use Rattle.sql_tokens.specs.Pieces.{Walked, tokens_at, Gave}
+use Rattle.sql_tokens.specs.Pieces.{Walked, tokens_at, IsResultOf}
 use Rattle.sql_tokens.proofs.Readings.{IsRightAnswer, told, leads_all, offence_all}
 use Rattle.sql_tokens.proofs.SpanFacts.{in_order, within, have_forms}
 
--- ---- the mark
+-- ---- the byte order mark
 
 pub mark_within : (text : List ℕ) → mark_len text ≤ length text
 mark_within [] = omega arith
@@ -43,7 +43,7 @@ unmarked_utf8 (b ∷ []) utf8 = utf8
 unmarked_utf8 (b ∷ c ∷ []) utf8 = utf8
 unmarked_utf8 (b ∷ c ∷ d ∷ rest) utf8 = marked b c d rest (eqb b 239 && (eqb c 187 && eqb d 191)) refl utf8
 
--- ---- the walk's answer for a whole text
+-- ---- the walk's result for a complete text
 
 unmarked_len : (text : List ℕ) → mark_len text + length (drop (mark_len text) text) ≡ length text
 unmarked_len text = omega (arith, length-drop (mark_len text) text, mark_within text)
@@ -64,12 +64,12 @@ cut_is : (text : List ℕ) (start : ℕ) → start ≡ mark_len text → tokens_
 cut_is text start e = ap (tokens_at start) (take_rest text start) ∙ ap (λ (n : ℕ). tokens_at n (drop n text)) e
 
 module _ (text : List ℕ) (start : ℕ) (is : start ≡ mark_len text) (utf8 : IsUtf8 text) where
-  pub gave_lexed : (result : Result (List Token) LexError) → Gave result (tokens_at start (take (length text - start) (drop start text))) → IfOk result (λ tokens. IsLexed text tokens)
+  pub gave_lexed : (result : Result (List Token) LexError) → IsResultOf result (tokens_at start (take (length text - start) (drop start text))) → IfOk result (λ tokens. IsLexed text tokens)
   gave_lexed (Ok tokens) gave = lexed text tokens utf8 (sym (cut_is text start is) ∙ gave)
   gave_lexed (Err (error.Bad at)) gave = tt
   gave_lexed (Err error.NoMemory) gave = tt
 
-  pub gave_refused : (result : Result (List Token) LexError) → Gave result (tokens_at start (take (length text - start) (drop start text))) → IfErr result (λ e. IsRefusal text e)
+  pub gave_refused : (result : Result (List Token) LexError) → IsResultOf result (tokens_at start (take (length text - start) (drop start text))) → IfErr result (λ e. IsRefusal text e)
   gave_refused (Ok tokens) gave = tt
   gave_refused (Err (error.Bad at)) gave = inr (refused text at utf8 (sym (cut_is text start is) ∙ gave))
   gave_refused (Err error.NoMemory) gave = tt

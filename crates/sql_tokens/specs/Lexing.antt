@@ -1,4 +1,4 @@
--- The tokens of a text, and the first offence of a text that can't be cut into tokens.
+-- The tokens of a text, and the first error of a text that can't be cut into tokens. In names an error is an `offence`.
 use Rattle.std.specs.Prelude.{◌≡◌, ℕ, ◌+◌, ◌<◌, ◌≤◌, true, false, ◌&&◌, ◌==◌, if◌then◌else◌, List, [], ◌∷◌, ◌++◌, length, drop, ⊤, ◌⊎◌}
 use Rattle.std.specs.List.{list_all}
 use Rattle.std.specs.Str.{IsUtf8}
@@ -8,9 +8,9 @@ use Rattle.sql_tokens.specs.declared.token.TokenKind.{TokenKind}
 use Rattle.sql_tokens.specs.declared.token.LexError.{LexError}
 use Rattle.sql_tokens.specs.declared.token.LexError.TheVariants as error
 use Rattle.sql_tokens.specs.Words.{slice}
-use Rattle.sql_tokens.specs.Tokens.{is_plain, is_quote, begins_some, begins_with, are_doubled, IsToken, goes_on, IsSeparator}
+use Rattle.sql_tokens.specs.Tokens.{is_not_control, is_quote, begins_some, begins_with, are_doubled, IsToken, goes_on, IsSeparator}
 
--- from byte `at`, where the rest of the text is `text`, separators and the tokens lead to byte `to`, where the rest of the text is `last`
+-- separators and the tokens lead from byte `at` to byte `to`. The rest of the text is `text` at byte `at`, and `last` at byte `to`
 pub data Leads : ℕ → List ℕ → List Token → ℕ → List ℕ → Type 0 where
   stay : (at : ℕ) (text : List ℕ) → Leads at text [] at text
   over_gap : (at : ℕ) (text bytes rest : List ℕ) (tokens : List Token) (to : ℕ) (last : List ℕ)
@@ -21,7 +21,7 @@ pub data Leads : ℕ → List ℕ → List Token → ℕ → List ℕ → Type 0
       → Leads (at + length bytes) rest tokens to last
       → Leads at text (record { kind = kind; start = at; end = at + length bytes } ∷ tokens) to last
 
--- ---- offences
+-- ---- errors
 
 -- after the opening quote come a body, the closing quote, and then `more`
 pub record Closes (quote : ℕ) (rest body more : List ℕ) : Type 0 where
@@ -62,15 +62,15 @@ pub record HasControlByte (text : List ℕ) (offset : ℕ) : Type 0 where
   pub more : List ℕ
   pub whole : text ≡ 34 ∷ rest
   pub closes : Closes 34 rest (front ++ control ∷ others) more
-  pub plain : list_all is_plain front ≡ true
-  pub is : is_plain control ≡ false
+  pub plain : list_all is_not_control front ≡ true
+  pub is : is_not_control control ≡ false
   pub here : offset ≡ 1 + length front
 
--- the text goes wrong in its first piece, after `offset` bytes
+-- the text's first piece has an error, after `offset` bytes
 abbrev pub IsOffence : List ℕ → ℕ → Type 0
 IsOffence text offset = BeginsNone text offset ⊎ (IsUnclosed text offset ⊎ (IsEmptyName text offset ⊎ HasControlByte text offset))
 
--- separators and tokens lead to an offence
+-- separators and tokens lead to an error, which is at byte `at`
 pub record IsOffenceAt (start : ℕ) (text : List ℕ) (at : ℕ) : Type 0 where
   pub tokens : List Token
   pub to : ℕ
@@ -80,14 +80,14 @@ pub record IsOffenceAt (start : ℕ) (text : List ℕ) (at : ℕ) : Type 0 where
   pub offence : IsOffence rest offset
   pub here : at ≡ to + offset
 
--- ---- whole texts
+-- ---- complete texts
 
 -- the length of the byte order mark at the very start
 abbrev pub mark_len : List ℕ → ℕ
 mark_len (b ∷ c ∷ d ∷ rest) = if (b == 239) && ((c == 187) && (d == 191)) then 3 else 0
 mark_len text = 0
 
--- the list has the tokens of the text
+-- these are the tokens of the text
 pub record IsLexed (text : List ℕ) (tokens : List Token) : Type 0 where
   pub utf8 : IsUtf8 text
   pub leads : Leads (mark_len text) (drop (mark_len text) text) tokens (length text) []
@@ -101,16 +101,16 @@ pub record IsBadToken (text : List ℕ) (at : ℕ) : Type 0 where
   pub utf8 : IsUtf8 text
   pub offence : IsOffenceAt (mark_len text) (drop (mark_len text) text) at
 
--- the byte at which the text goes wrong; bad UTF-8 comes before all else
+-- the first error of the text is at byte `at`. Bytes that aren't UTF-8 come before any other error
 abbrev pub IsBad : List ℕ → ℕ → Type 0
 IsBad text at = IsBadUtf8 text at ⊎ IsBadToken text at
 
--- an error that may be answered in place of tokens
+-- whether this error may be returned in place of tokens
 abbrev pub IsRefusal : List ℕ → LexError → Type 0
 IsRefusal text (error.Bad at) = IsBad text at
 IsRefusal text error.NoMemory = ⊤
 
--- the tokens follow one another from byte `at` to byte `end`, and each token has at least one byte
+-- the tokens follow one another between the bytes `at` and `end`, and each token has at least one byte
 abbrev pub TokensAreInOrder : ℕ → ℕ → List Token → Type 0
 TokensAreInOrder at end [] = at ≤ end
 TokensAreInOrder at end (t ∷ ts) = (at ≤ t.start) × (t.start < t.end) × TokensAreInOrder t.end end ts

@@ -10,45 +10,45 @@ use Rattle.sql_tokens.specs.declared.pieces.TextPiece.{TextPiece}
 use Rattle.sql_tokens.specs.declared.pieces.TextPiece.TheVariants as piece_
 use Rattle.sql_tokens.specs.declared.runs.ByteClass.{ByteClass}
 use Rattle.sql_tokens.specs.declared.runs.ByteClass.TheVariants as run
-use Rattle.sql_tokens.specs.Tokens.{is_blank, is_letter, is_digit, is_word_byte, is_in_line, is_plain, is_sign, is_pair}
+use Rattle.sql_tokens.specs.Tokens.{is_blank, is_letter, is_digit, is_word_byte, is_in_line, is_not_control, is_one_byte_symbol, is_two_byte_symbol}
 
 abbrev pub is_in : ByteClass → ℕ → Bool
 is_in run.Word b = is_word_byte b
 is_in run.Digits b = is_digit b
-is_in run.Line b = is_in_line b
-is_in run.Plain b = is_plain b
+is_in run.NotLineFeed b = is_in_line b
+is_in run.Plain b = is_not_control b
 
 abbrev pub further : ℕ → Option ℕ → Option ℕ
 further k None = None
 further k (Some n) = Some (k + n)
 
 -- the number of bytes up to the closing quote, including this quote
-unfoldable pub closed : ℕ → List ℕ → Option ℕ
-closed quote [] = None
-closed quote (b ∷ []) = if b == quote then Some 1 else None
-closed quote (b ∷ c ∷ rest) = if b == quote then (if c == quote then further 2 (closed quote rest) else Some 1)
-    else further 1 (closed quote (c ∷ rest))
+unfoldable pub closing_length : ℕ → List ℕ → Option ℕ
+closing_length quote [] = None
+closing_length quote (b ∷ []) = if b == quote then Some 1 else None
+closing_length quote (b ∷ c ∷ rest) = if b == quote then (if c == quote then further 2 (closing_length quote rest) else Some 1)
+    else further 1 (closing_length quote (c ∷ rest))
 
--- the piece of a delimited identifier, from the number of bytes up to its closing quote and the bytes after its opening quote
+-- what a delimited identifier gives. The first argument is the number of bytes up to its closing quote, `rest` are the bytes after its opening quote
 abbrev pub identifier_to : Option ℕ → List ℕ → TextPiece
 identifier_to None rest = piece_.Wrong 0
 identifier_to (Some n) rest =
     if n == 1 then piece_.Wrong 0
-    else (if nat_lt (prefix_len is_plain rest) n then piece_.Wrong (prefix_len is_plain rest + 1) else piece_.Token kind.Quoted (n + 1))
+    else (if nat_lt (prefix_len is_not_control rest) n then piece_.Wrong (prefix_len is_not_control rest + 1) else piece_.Token kind.Quoted (n + 1))
 
 unfoldable pub identifier : List ℕ → TextPiece
-identifier rest = identifier_to (closed 34 rest) rest
+identifier rest = identifier_to (closing_length 34 rest) rest
 
 abbrev pub literal_to : Option ℕ → TextPiece
 literal_to None = piece_.Wrong 0
 literal_to (Some n) = piece_.Token kind.Text (n + 1)
 
 unfoldable pub literal : List ℕ → TextPiece
-literal rest = literal_to (closed 39 rest)
+literal rest = literal_to (closing_length 39 rest)
 
 unfoldable pub symbol : ℕ → List ℕ → TextPiece
-symbol b rest = if is_pair b (slice_index rest 0) then piece_.Token kind.Symbol 2
-    else (if is_sign b then piece_.Token kind.Symbol 1 else piece_.Wrong 0)
+symbol b rest = if is_two_byte_symbol b (slice_index rest 0) then piece_.Token kind.Symbol 2
+    else (if is_one_byte_symbol b then piece_.Token kind.Symbol 1 else piece_.Wrong 0)
 
 -- what a text begins with
 unfoldable pub piece : List ℕ → TextPiece
@@ -62,7 +62,7 @@ piece (b ∷ rest) =
     else (if (b == 45) && (slice_index rest 0 == 45) then piece_.Separator (prefix_len is_in_line rest + 1)
     else symbol b rest)))))
 
--- a separator or a token has at least one byte, and at most all bytes that there are; an offence is at one of these bytes
+-- a separator or a token has at least one byte and at most all bytes that there are; an error is at one of these bytes
 abbrev pub Fits : TextPiece → ℕ → Type 0
 Fits (piece_.Separator n) len = (1 ≤ n) × (n ≤ len)
 Fits (piece_.Token k n) len = (1 ≤ n) × (n ≤ len)
@@ -71,13 +71,13 @@ Fits (piece_.Wrong n) len = n < len
 abbrev pub Walked : Type 0
 Walked = Result (List Token) ℕ
 
-abbrev pub before : Token → Walked → Walked
-before t (Ok ts) = Ok (t ∷ ts)
-before t (Err at) = Err at
+abbrev pub with_first : Token → Walked → Walked
+with_first t (Ok ts) = Ok (t ∷ ts)
+with_first t (Err at) = Err at
 
 abbrev pub step : (ℕ → List ℕ → Walked) → ℕ → TextPiece → List ℕ → Walked
 step others at (piece_.Separator n) bytes = others (at + n) (drop n bytes)
-step others at (piece_.Token k n) bytes = before (record { kind = k; start = at; end = at + n }) (others (at + n) (drop n bytes))
+step others at (piece_.Token k n) bytes = with_first (record { kind = k; start = at; end = at + n }) (others (at + n) (drop n bytes))
 step others at (piece_.Wrong n) bytes = Err (at + n)
 
 abbrev pub pieces_up_to : ℕ → ℕ → List ℕ → Walked
@@ -85,7 +85,7 @@ pieces_up_to zero at bytes = Ok []
 pieces_up_to (suc n) at [] = Ok []
 pieces_up_to (suc n) at (b ∷ rest) = step (pieces_up_to n) at (piece (b ∷ rest)) (b ∷ rest)
 
--- the tokens of the bytes, or the byte at which they go wrong. The first of the bytes is byte `at` of the text
+-- the tokens of the bytes, or the byte of the first error. The first of the bytes is byte `at` of the text
 unfoldable pub tokens_at : ℕ → List ℕ → Walked
 tokens_at at bytes = pieces_up_to (length bytes) at bytes
 
@@ -93,8 +93,8 @@ abbrev pub with_front : List Token → Walked → Walked
 with_front front (Ok ts) = Ok (front ++ ts)
 with_front front (Err at) = Err at
 
--- what a walk over the pieces gave
-abbrev pub Gave : Result (List Token) LexError → Walked → Type 0
-Gave (Ok ts) walked = walked ≡ Ok ts
-Gave (Err (error.Bad at)) walked = walked ≡ Err at
-Gave (Err error.NoMemory) walked = ⊤
+-- the code's result is that of the walk over the pieces, unless memory ran out
+abbrev pub IsResultOf : Result (List Token) LexError → Walked → Type 0
+IsResultOf (Ok ts) walked = walked ≡ Ok ts
+IsResultOf (Err (error.Bad at)) walked = walked ≡ Err at
+IsResultOf (Err error.NoMemory) walked = ⊤

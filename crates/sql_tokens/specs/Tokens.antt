@@ -26,17 +26,17 @@ abbrev pub is_in_line : ℕ → Bool
 is_in_line b = not (b == 10)
 
 -- no control character below U+0020
-abbrev pub is_plain : ℕ → Bool
-is_plain b = nat_le 32 b
+abbrev pub is_not_control : ℕ → Bool
+is_not_control b = nat_le 32 b
 
 -- = < > ( ) , . ; * + -
-abbrev pub is_sign : ℕ → Bool
-is_sign b = (b == 61) || (b == 60) || (b == 62) || (b == 40) || (b == 41) || (b == 44) || (b == 46) || (b == 59) || (b == 42)
+abbrev pub is_one_byte_symbol : ℕ → Bool
+is_one_byte_symbol b = (b == 61) || (b == 60) || (b == 62) || (b == 40) || (b == 41) || (b == 44) || (b == 46) || (b == 59) || (b == 42)
     || (b == 43) || (b == 45)
 
 -- <> <= >=
-abbrev pub is_pair : ℕ → ℕ → Bool
-is_pair b c = ((b == 60) && (c == 62)) || ((b == 60) && (c == 61)) || ((b == 62) && (c == 61))
+abbrev pub is_two_byte_symbol : ℕ → ℕ → Bool
+is_two_byte_symbol b c = ((b == 60) && (c == 62)) || ((b == 60) && (c == 61)) || ((b == 62) && (c == 61))
 
 -- " and '
 abbrev pub is_quote : ℕ → Bool
@@ -44,9 +44,9 @@ is_quote b = (b == 34) || (b == 39)
 
 -- a character with which a token or a separator may begin
 abbrev pub begins_some : ℕ → Bool
-begins_some b = is_blank b || is_letter b || is_digit b || is_quote b || is_sign b
+begins_some b = is_blank b || is_letter b || is_digit b || is_quote b || is_one_byte_symbol b
 
--- the first character passes the test
+-- whether the first character passes the test
 abbrev pub begins_with : (ℕ → Bool) → List ℕ → Bool
 begins_with test [] = false
 begins_with test (b ∷ rest) = test b
@@ -63,8 +63,8 @@ is_number (b ∷ rest) = is_digit b && list_all is_digit rest
 
 abbrev pub is_symbol : List ℕ → Bool
 is_symbol [] = false
-is_symbol (b ∷ []) = is_sign b
-is_symbol (b ∷ c ∷ []) = is_pair b c
+is_symbol (b ∷ []) = is_one_byte_symbol b
+is_symbol (b ∷ c ∷ []) = is_two_byte_symbol b c
 is_symbol (b ∷ c ∷ d ∷ rest) = false
 
 -- the quotes among the bytes come in pairs, one directly after the other
@@ -83,7 +83,7 @@ pub record IsIdentifier (bytes : List ℕ) : Type 0 where
   pub first : ℕ
   pub others : List ℕ
   pub enclosed : IsEnclosed 34 bytes (first ∷ others)
-  pub plain : list_all is_plain (first ∷ others) ≡ true
+  pub plain : list_all is_not_control (first ∷ others) ≡ true
 
 -- a text literal: any characters in quotes
 pub record IsLiteral (bytes : List ℕ) : Type 0 where
@@ -98,19 +98,19 @@ IsToken kind.Number bytes = is_number bytes ≡ true
 IsToken kind.Text bytes = IsLiteral bytes
 IsToken kind.Symbol bytes = is_symbol bytes ≡ true
 
--- a sign and the byte after it make a symbol of two characters, or begin a comment
-abbrev pub sign_goes_on : List ℕ → List ℕ → Bool
-sign_goes_on (b ∷ []) (c ∷ rest) = is_pair b c || ((b == 45) && (c == 45))
-sign_goes_on bytes rest = false
+-- a symbol of one byte and the byte after it make a symbol of two bytes, or begin a comment
+abbrev pub symbol_goes_on : List ℕ → List ℕ → Bool
+symbol_goes_on (b ∷ []) (c ∷ rest) = is_two_byte_symbol b c || ((b == 45) && (c == 45))
+symbol_goes_on bytes rest = false
 
--- the token could go on with the bytes after it, so it isn't the whole token: the longest token that fits is taken, and a closing quote has no
--- further quote directly after it
+-- whether the token goes on with the bytes after it. If so, it isn't complete: the longest token that fits is taken, and a closing quote has no quote
+-- directly after it
 abbrev pub goes_on : TokenKind → List ℕ → List ℕ → Bool
 goes_on kind.Word bytes rest = begins_with is_word_byte rest
 goes_on kind.Quoted bytes rest = begins_with (λ b. b == 34) rest
 goes_on kind.Number bytes rest = begins_with is_digit rest
 goes_on kind.Text bytes rest = begins_with (λ b. b == 39) rest
-goes_on kind.Symbol bytes rest = sign_goes_on bytes rest
+goes_on kind.Symbol bytes rest = symbol_goes_on bytes rest
 
 -- ---- separators
 

@@ -1,4 +1,4 @@
--- The terminal of a token, by which grammars know it, and the name, the text or the number that the token stands for.
+-- The terminal of a token, and the name, text or number that the token spells.
 use Rattle.std.specs.Prelude.{ℕ, ◌+◌, ◌-◌, ◌*◌, ◌≤◌, Bool, ◌==◌, if◌then◌else◌, List, [], ◌∷◌, ◌++◌, map, length, slice_index, slice_range, codes}
 use denote.Ref.{Bor}
 use Rattle.std.specs.Char.{to_ascii_uppercase}
@@ -46,7 +46,7 @@ grammar_words =
     ∷ (codes "SET", terminal.Set) ∷ (codes "SMALLINT", terminal.Smallint) ∷ (codes "TABLE", terminal.Table)
     ∷ (codes "UNIQUE", terminal.Unique) ∷ (codes "UPDATE", terminal.Update) ∷ (codes "VARCHAR", terminal.Varchar)
     ∷ (codes "VARYING", terminal.Varying) ∷ (codes "WHERE", terminal.Where)
-    -- these four are names wherever no rule expects them
+    -- these four are names wherever the grammar doesn't expect them
     ∷ (codes "KEY", terminal.Key) ∷ (codes "NO", terminal.No) ∷ (codes "ACTION", terminal.Action)
     ∷ (codes "CASCADE", terminal.Cascade) ∷ []
 
@@ -61,13 +61,13 @@ reserved_words =
 abbrev pub reserved : List ℕ → List ℕ × Terminal
 reserved word = (word, terminal.Reserved)
 
--- the words that have another terminal than `Name`
+-- the words whose terminal isn't `Name`
 abbrev pub keywords : List (List ℕ × Terminal)
 keywords = grammar_words ++ map reserved reserved_words
 
--- a word and its terminal, as the code lists them
-abbrev pub entry_of : Bor (List ℕ) × Terminal → List ℕ × Terminal
-entry_of entry = (entry.0.now, entry.1)
+-- an entry of the code's list: a word and its terminal
+abbrev pub word_and_terminal : Bor (List ℕ) × Terminal → List ℕ × Terminal
+word_and_terminal entry = (entry.0.now, entry.1)
 
 -- the terminal that a list gives to a word; a word that isn't in the list is a name
 abbrev pub terminal_in : List (List ℕ × Terminal) → List ℕ → Terminal
@@ -125,18 +125,18 @@ lexeme_of text token = record {
 
 -- ---- names, text literals and numbers
 
--- the characters after an opening quote, up to the closing quote; a doubled quote stands for one quote
+-- the characters after an opening quote, up to the closing quote; a doubled quote is read as one quote
 abbrev pub unquoted : ℕ → List ℕ → List ℕ
 unquoted quote [] = []
 unquoted quote (b ∷ []) = if b == quote then [] else b ∷ []
 unquoted quote (b ∷ c ∷ rest) = if b == quote then (if c == quote then quote ∷ unquoted quote rest else []) else b ∷ unquoted quote (c ∷ rest)
 
--- the name in a delimited identifier is what is between its quotes; a word is folded to upper case
+-- the name in a token: the characters between the quotes of a delimited identifier, or a word folded to upper case
 abbrev pub name_of_bytes : List ℕ → List ℕ
 name_of_bytes [] = []
 name_of_bytes (b ∷ rest) = if b == 34 then unquoted 34 rest else in_upper_case (b ∷ rest)
 
--- the name that a token stands for, as its bytes. Names are equal if their bytes are equal (SQL-92 5.2)
+-- the name that a token spells, as its bytes. Names are equal if their bytes are equal (SQL-92 5.2)
 unfoldable pub name_of : List ℕ → Lexeme → List ℕ
 name_of text lexeme = name_of_bytes (slice text lexeme.start lexeme.end)
 
@@ -145,14 +145,14 @@ literal_of_bytes [] = []
 literal_of_bytes (b ∷ rest) = if b == 39 then unquoted 39 rest else b ∷ rest
 
 -- the characters of a text literal, without its quotes
-unfoldable pub literal_of : List ℕ → Lexeme → List ℕ
-literal_of text lexeme = literal_of_bytes (slice text lexeme.start lexeme.end)
+unfoldable pub literal_text_of : List ℕ → Lexeme → List ℕ
+literal_text_of text lexeme = literal_of_bytes (slice text lexeme.start lexeme.end)
 
 -- the decimal value of the digits of `value` followed by these digits
 abbrev pub digits_from : ℕ → List ℕ → ℕ
 digits_from value [] = value
 digits_from value (b ∷ rest) = digits_from (value * 10 + (b - 48)) rest
 
--- the decimal value of any number of digits
+-- the decimal value of a list of digits
 unfoldable pub number_of : List ℕ → ℕ
 number_of bytes = digits_from 0 bytes

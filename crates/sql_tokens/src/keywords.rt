@@ -1,11 +1,11 @@
-//! Words that can't be names, or can't be names everywhere (SQL-92 5.2), and their terminals.
+//! Keywords and their terminals: words that can't be names, or can't be names everywhere (SQL-92 5.2).
 ghost use Rattle.std.specs.Prelude.{◌≡◌, map};
 ghost use Rattle.std.specs.Str.{bytes_eq};
-ghost use Rattle.sql_tokens.specs.Words.{entry_of, in_upper_case, keywords, terminal_in};
+ghost use Rattle.sql_tokens.specs.Words.{word_and_terminal, in_upper_case, keywords, terminal_in};
 
 use ll_grammars::Terminal;
 
-// Each word in upper case, with the terminal by which grammars know it.
+// Each keyword in upper case, with its terminal.
 const KEYWORDS: &[(&str, Terminal)] = &[
     ("AND", Terminal::And),
     ("AS", Terminal::As),
@@ -71,7 +71,7 @@ const KEYWORDS: &[(&str, Terminal)] = &[
     ("VALUES", Terminal::Reserved),
 ];
 
-/// Whether the bytes are this word, which is in upper case, with each letter in either case.
+/// Whether the bytes spell the word, with letters in either case. `word` is in upper case.
 #[tactic(auto, using(crate::proofs::Spelling::other_length, crate::proofs::Spelling::one_letter_more, crate::proofs::Spelling::another_letter, crate::proofs::Spelling::no_letter_left))]
 fn is_spelled(word: &[u8], bytes: &[u8]) -> bool
     ensures { result ≡ bytes_eq word.now (in_upper_case bytes.now) }
@@ -88,7 +88,7 @@ fn is_spelled(word: &[u8], bytes: &[u8]) -> bool
 }
 
 fn find(keywords: &[(&str, Terminal)], bytes: &[u8]) -> Terminal
-    ensures { result ≡ terminal_in (map entry_of keywords.now) (in_upper_case bytes.now) }
+    ensures { result ≡ terminal_in (map word_and_terminal keywords.now) (in_upper_case bytes.now) }
 {
     'all: for (word, terminal) in keywords {
         if is_spelled(word.as_bytes(), bytes) {

@@ -1,8 +1,8 @@
-//! The tokens of a text, from its front to its end.
+//! Finds the tokens of a text, from its first byte to its last.
 ghost use Rattle.std.specs.Prelude.{◌≡◌, ◌+◌, ◌<◌, ◌≤◌, drop, length, IfOk, IfErr, All};
 ghost use Rattle.limits.specs.Profile.{most_text};
 ghost use Rattle.sql_tokens.specs.Words.{IsTokenOf};
-ghost use Rattle.sql_tokens.specs.Pieces.{tokens_at, Gave};
+ghost use Rattle.sql_tokens.specs.Pieces.{tokens_at, IsResultOf};
 ghost use Rattle.sql_tokens.specs.Lexing.{mark_len, IsLexed, IsRefusal, TokensAreInOrder};
 
 use crate::pieces::{TextPiece, piece_at};
@@ -10,11 +10,11 @@ use crate::{LexError, Token};
 use base_io::Seq;
 use std::alloc::Global;
 
-/// The tokens of the text from byte `start` on, or the first byte at which the text goes wrong.
+/// The tokens of the bytes `text`, or the byte of the first error. The first of the bytes is byte `start` of the whole text.
 #[tactic(auto, using(crate::proofs::Walk::walk_gap, crate::proofs::Walk::walk_token, crate::proofs::Walk::walk_wrong, crate::proofs::Walk::walk_done, crate::proofs::Walk::walk_start))]
 fn tokens_from(alloc: Global, start: u32, text: &[u8]) -> Result<Seq<Token>, LexError>
     requires { start + length text.now ≤ most_text }
-    ensures { Gave result (tokens_at start text.now) }
+    ensures { IsResultOf result (tokens_at start text.now) }
 {
     let mut tokens = Seq::new(alloc);
     let mut rest = text;
@@ -56,8 +56,8 @@ fn mark_len_of(text: &[u8]) -> usize
 
 /// The tokens of a text. A byte order mark at the very start is skipped, but offsets count its bytes.
 ///
-/// Bytes that aren't UTF-8 are refused before anything else, at the first byte of the first bad
-/// sequence. Otherwise the first offence in text order is refused:
+/// Bytes that aren't UTF-8 are refused before anything else, at the first byte of the first bad sequence. Otherwise the first of these errors is
+/// refused:
 /// - a character that begins no token, at this character;
 /// - a quote that is never closed, or a delimited identifier without characters, at the opening quote;
 /// - a control character in a delimited identifier, at this character.

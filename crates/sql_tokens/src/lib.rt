@@ -1,10 +1,10 @@
-//! Tokens of schema and query texts (SQL-92 5.1 to 5.3, in this profile), and their terminals, by which grammars know them.
+//! The lexer of schema and query texts (SQL-92 5.1 to 5.3, in this profile): their tokens, and the terminals of tokens for the grammars.
 //!
-//! `tokens` finds the tokens of a whole text, or says at which byte the text goes wrong. `lexemes` gives each token its terminal. `name`, `literal` and
-//! `number` read a single token.
+//! `tokens` finds the tokens of a text, or the byte of its first error. `lexemes` gives each token its terminal. `name`, `literal` and `number` read
+//! a single token.
 //!
-//! Callers cite `IsLexed` and `IsBad` (which tokens a text has, and where it goes wrong), `lexeme_of`, `IsLexemeOf` (a lexeme lies in the text),
-//! `name_of`, `literal_of` and `number_of`. The laws are functions without a body.
+//! Contracts use `IsLexed` (the tokens of a text) and `IsBad` (the byte of its first error). For single tokens they use `lexeme_of`, `IsLexemeOf` (a
+//! lexeme lies in the text), `name_of`, `literal_text_of` and `number_of`. The laws are functions without a body.
 #![tactic(auto)]
 
 mod keywords;

@@ -1,12 +1,12 @@
-//! The names, text literals and numbers that tokens stand for.
+//! Reads names, text literals and numbers from their tokens.
 ghost use Rattle.std.specs.Prelude.{◌≡◌, ◌<◌, ◌-◌, ◌^◌, IfOk, min, string_bytes};
-ghost use Rattle.sql_tokens.specs.Words.{IsLexemeOf, slice, name_of, literal_of, number_of, unquoted, name_of_bytes, literal_of_bytes};
+ghost use Rattle.sql_tokens.specs.Words.{IsLexemeOf, slice, name_of, literal_text_of, number_of, unquoted, name_of_bytes, literal_of_bytes};
 
 use base_io::{Name, NoMemory};
 use ll_grammars::Lexeme;
 use std::alloc::Global;
 
-/// The token's part of the text.
+/// The bytes of a token in the text.
 fn part<'a>(text: &'a [u8], lexeme: &Lexeme) -> &'a str
     requires { IsLexemeOf text.now lexeme.now }
     ensures { result.now ≡ slice text.now lexeme.now.start lexeme.now.end }
@@ -17,7 +17,7 @@ fn part<'a>(text: &'a [u8], lexeme: &Lexeme) -> &'a str
     }
 }
 
-/// The characters before the closing quote. Two quotes in a row stand for one quote.
+/// The characters before the closing quote. Two quotes in a row are read as one.
 #[tactic(auto, using(crate::proofs::Unquoting::single_goes_on, crate::proofs::Unquoting::single_ends, crate::proofs::Unquoting::single_whole))]
 fn unquote(alloc: Global, quote: char, text: &str) -> Result<String, NoMemory>
     requires { quote < 128 }
@@ -57,8 +57,8 @@ fn literal_text(alloc: Global, bytes: &str) -> Result<String, NoMemory>
     }
 }
 
-/// The name that a token stands for (SQL-92 5.2): a word in upper case, or the characters of a delimited identifier as they are written, without the
-/// outer quotes. Two quotes in a row stand for one.
+/// The name that a token spells (SQL-92 5.2): a word in upper case, or the characters of a delimited identifier as they are written, without the
+/// outer quotes. Two quotes in a row are read as one.
 #[tactic(auto, unfolding(crate::specs::Words::name_of))]
 pub fn name(alloc: Global, text: &[u8], lexeme: &Lexeme) -> Result<Name, NoMemory>
     requires { IsLexemeOf text.now lexeme.now }
@@ -68,11 +68,11 @@ pub fn name(alloc: Global, text: &[u8], lexeme: &Lexeme) -> Result<Name, NoMemor
     Name::from_str(alloc, found.as_str())
 }
 
-/// The characters of a text literal (SQL-92 5.3). Two quotes in a row stand for one.
-#[tactic(auto, unfolding(crate::specs::Words::literal_of))]
+/// The characters of a text literal (SQL-92 5.3). Two quotes in a row are read as one.
+#[tactic(auto, unfolding(crate::specs::Words::literal_text_of))]
 pub fn literal(alloc: Global, text: &[u8], lexeme: &Lexeme) -> Result<Name, NoMemory>
     requires { IsLexemeOf text.now lexeme.now }
-    ensures { IfOk result (λ name. name ≡ literal_of text.now lexeme.now) }
+    ensures { IfOk result (λ name. name ≡ literal_text_of text.now lexeme.now) }
 {
     let found = literal_text(alloc, part(text, lexeme))?;
     Name::from_str(alloc, found.as_str())

@@ -1,13 +1,13 @@
-//! What a text begins with: a separator, a token or an offence.
+//! What a text begins with: a separator, a token or an error.
 ghost use Rattle.std.specs.Prelude.{◌≡◌, ◌∷◌, ◌+◌, ◌<◌, ◌≤◌, length, slice_index, IfSome};
 ghost use Rattle.limits.specs.Profile.{most_text};
-ghost use Rattle.sql_tokens.specs.Tokens.{is_blank, is_sign, is_pair};
-ghost use Rattle.sql_tokens.specs.Pieces.{closed, identifier, literal, symbol, piece, Fits};
+ghost use Rattle.sql_tokens.specs.Tokens.{is_blank, is_one_byte_symbol, is_two_byte_symbol};
+ghost use Rattle.sql_tokens.specs.Pieces.{closing_length, identifier, literal, symbol, piece, Fits};
 
 use crate::TokenKind;
 use crate::runs::ByteClass;
 
-/// What a text begins with: a separator or a token, with its number of bytes, or an offence, with the number of bytes before it.
+/// What a text begins with. A separator or a token has its number of bytes. An error (`Wrong`) has the number of bytes before it.
 #[derive(Clone, Copy, Debug)]
 pub enum TextPiece {
     Separator(usize),
@@ -15,10 +15,10 @@ pub enum TextPiece {
     Wrong(usize),
 }
 
-/// How many bytes there are up to the closing quote, including this quote.
+/// The number of bytes up to and including the closing quote.
 #[tactic(auto, using(crate::proofs::Closing::closed_keeps_one, crate::proofs::Closing::closed_keeps_two, crate::proofs::Closing::closed_last, crate::proofs::Closing::closed_here, crate::proofs::Closing::closed_never))]
 fn closed_len(quote: u8, bytes: &[u8]) -> Option<usize>
-    ensures value { result ≡ closed quote bytes.now }
+    ensures value { result ≡ closing_length quote bytes.now }
     ensures within { IfSome result (λ n. (1 ≤ n) × (n ≤ length bytes.now)) }
 {
     let mut n = 0;
@@ -76,16 +76,16 @@ fn is_blank_byte(byte: u8) -> bool
     byte == b' ' || byte == b'\t' || byte == b'\r' || byte == b'\n'
 }
 
-fn is_pair_of(first: u8, second: u8) -> bool
-    ensures { result ≡ is_pair first second }
+fn is_two_byte_symbol(first: u8, second: u8) -> bool
+    ensures { result ≡ is_two_byte_symbol first second }
 {
     (first == b'<' && second == b'>')
         || (first == b'<' && second == b'=')
         || (first == b'>' && second == b'=')
 }
 
-fn is_sign_byte(byte: u8) -> bool
-    ensures { result ≡ is_sign byte }
+fn is_one_byte_symbol(byte: u8) -> bool
+    ensures { result ≡ is_one_byte_symbol byte }
 {
     byte == b'='
         || byte == b'<'
@@ -113,9 +113,9 @@ fn symbol_piece(first: u8, rest: &[u8]) -> TextPiece
     ensures fits { Fits result (length rest.now + 1) }
 {
     let second = first_or_zero(rest);
-    if is_pair_of(first, second) {
+    if is_two_byte_symbol(first, second) {
         TextPiece::Token(TokenKind::Symbol, 2)
-    } else if is_sign_byte(first) {
+    } else if is_one_byte_symbol(first) {
         TextPiece::Token(TokenKind::Symbol, 1)
     } else {
         TextPiece::Wrong(0)
@@ -140,7 +140,7 @@ pub fn piece_at(first: u8, rest: &[u8]) -> TextPiece
     } else if first == b'\'' {
         literal_piece(rest)
     } else if first == b'-' && first_or_zero(rest) == b'-' {
-        TextPiece::Separator(ByteClass::Line.len(rest) + 1)
+        TextPiece::Separator(ByteClass::NotLineFeed.len(rest) + 1)
     } else {
         symbol_piece(first, rest)
     }

@@ -1,14 +1,14 @@
-//! Runs of bytes of one class.
+//! Counts the bytes of one class at the front of a text.
 ghost use Rattle.std.specs.Prelude.{◌≡◌, ◌≤◌, length};
 ghost use Rattle.std.specs.List.{prefix_len};
 ghost use Rattle.sql_tokens.specs.Pieces.{is_in};
 
-/// A class of bytes: the bytes of words, digits, all bytes but LF, or all bytes but control characters.
+/// A class of bytes: the bytes of words, digits, all bytes except LF, or all bytes except control characters.
 #[derive(Clone, Copy, Debug)]
 pub enum ByteClass {
     Word,
     Digits,
-    Line,
+    NotLineFeed,
     Plain,
 }
 
@@ -19,12 +19,12 @@ impl ByteClass {
         match self {
             ByteClass::Word => byte.is_ascii_alphanumeric() || byte == b'_',
             ByteClass::Digits => byte.is_ascii_digit(),
-            ByteClass::Line => byte != b'\n',
+            ByteClass::NotLineFeed => byte != b'\n',
             ByteClass::Plain => byte >= b' ',
         }
     }
 
-    /// How many bytes of this class there are at the front.
+    /// The number of bytes of this class at the front.
     pub fn len(self, bytes: &[u8]) -> usize
         ensures value { result ≡ prefix_len (is_in self) bytes.now }
         ensures within { result ≤ length bytes.now }

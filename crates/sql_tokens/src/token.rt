@@ -1,11 +1,11 @@
-//! Tokens, and why a text has none.
+//! Tokens, and the errors of the lexer.
 ghost use Rattle.std.specs.Prelude.{◌≡◌};
 ghost use Rattle.sql_tokens.specs.declared.token.LexError.TheVariants as error;
 
 use base_io::NoMemory;
 
-/// What a token is (SQL-92 5.2 to 5.3): an identifier or key word, a delimited identifier, an unsigned
-/// integer, a character string literal, or a sign.
+/// The kind of a token (SQL-92 5.2 to 5.3): an identifier or key word, a delimited identifier, an unsigned integer, a character string literal, or a
+/// sign.
 #[derive(Clone, Copy, Debug, PartialEq, Eq)]
 pub enum TokenKind {
     Word,
@@ -15,7 +15,7 @@ pub enum TokenKind {
     Symbol,
 }
 
-/// A token, and the bytes from `start` to `end` of its text.
+/// A token of a text: its kind, and its bytes in the text, from `start` to `end`. Byte `end` isn't included.
 #[derive(Clone, Copy, Debug)]
 pub struct Token {
     pub kind: TokenKind,
@@ -23,10 +23,10 @@ pub struct Token {
     pub end: u32,
 }
 
-/// Why a text has no tokens.
+/// Why the lexer found no tokens.
 #[derive(Clone, Copy, Debug, PartialEq, Eq)]
 pub enum LexError {
-    /// The text goes wrong at this byte.
+    /// The first error of the text is at this byte.
     Bad { at: u32 },
     /// Memory ran out.
     NoMemory,

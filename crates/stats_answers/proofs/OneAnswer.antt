@@ -1,4 +1,4 @@
--- A text has at most one answer, apart from the answer that memory ran out.
+-- A text has at most one result, apart from the result that memory ran out.
 use Rattle.std.proofs.Common.{◌≡◌, ◌≢◌, ◌⊎◌, inl, inr, ℕ, ◌+◌, List, [], ◌∷◌, ◌++◌, length, refl, ap, sym, subst, ◌∙◌, append-nil, append_assoc}
 use Rattle.std.specs.Prelude.{codes, Result, Ok, Err}
 use Rattle.std.specs.List.{concat, AllByRecursion}
@@ -7,7 +7,7 @@ use Rattle.schema_types.specs.Validity.{IsValid}
 use Rattle.stats_file.specs.declared.types.StatsError.{StatsError}
 use Rattle.stats_file.specs.declared.types.StatsError.TheVariants as error
 use Rattle.stats_file.specs.declared.types.StatsFile.{StatsFile}
-use Rattle.stats_file.specs.Answers.{Answers, BeginsWithLine, EndsTooEarly, HasNoEnd, IsFrontOfFile, IsFrontOfText, IsReadUpTo, IsRuleLine, IsSyntaxLine, BreaksGrammar}
+use Rattle.stats_file.specs.Answers.{IsAllowedResult, BeginsWithLine, EndsTooEarly, HasNoEnd, IsFrontOfFile, IsFrontOfText, IsReadUpTo, IsRuleLine, IsSyntaxLine, BreaksGrammar}
 use Rattle.stats_file.specs.Grammar.{IsText}
 use Rattle.stats_file.proofs.GrammarFacts.{file_is_text}
 use Rattle.stats_words.proofs.SplitFacts.{not_without, split_same}
@@ -39,7 +39,7 @@ one_line left a b rest other x y =
 no_line : (left line rest : List ℕ) → HasNoEnd left → BeginsWithLine left line rest → ⊥
 no_line left line rest none next = not_without 10 next.text rest (subst HasNoEnd (with_line left line rest next) none)
 
--- the lines begin some statistics file, but with the next line they begin none
+-- the lines begin some statistics file. The lines with the next line begin no such file
 record Stops (schema : Schema) (bytes : List ℕ) (lines : Lines) (left : List ℕ) : Type 0 where
   read : IsReadUpTo schema bytes lines left
   halts : (line rest : List ℕ) → BeginsWithLine left line rest → IsFrontOfFile schema (lines ++ (line ∷ [])) → ⊥
@@ -146,7 +146,7 @@ module _ (schema : Schema) (bytes : List ℕ) (good : IsValid schema) (columns :
           (subst (λ (x : Lines). IsFrontOfText (x ++ (k.broken ∷ []))) (sym same.0) k.in_grammar))
       by (inr early) = no_line h.left k.broken k.rest early.no_line next
 
-  one_refusal : (a b : StatsError) → Answers schema bytes (Err a) → Answers schema bytes (Err b) → a ≢ error.NoMemory → b ≢ error.NoMemory → a ≡ b
+  one_refusal : (a b : StatsError) → IsAllowedResult schema bytes (Err a) → IsAllowedResult schema bytes (Err b) → a ≢ error.NoMemory → b ≢ error.NoMemory → a ≡ b
   one_refusal (error.Syntax n) (error.Syntax m) h k some other =
       ap error.Syntax (same_line h.lines k.lines n m (one_stop schema bytes h.lines k.lines h.left k.left (syntax_stops n h) (syntax_stops m k)).0 h.here k.here)
   one_refusal (error.Syntax n) (error.Rule m) h k some other = absurd (one_cause n m h k)
@@ -156,9 +156,9 @@ module _ (schema : Schema) (bytes : List ℕ) (good : IsValid schema) (columns :
   one_refusal error.NoMemory b h k some other = absurd (some refl)
   one_refusal a error.NoMemory h k some other = absurd (other refl)
 
-  -- ---- answers
+  -- ---- equality of two results for a text
 
-  pub one_answer : (a b : Result StatsFile StatsError) → Answers schema bytes a → Answers schema bytes b → b ≢ Err error.NoMemory → (a ≡ Err error.NoMemory) ⊎ (a ≡ b)
+  pub one_answer : (a b : Result StatsFile StatsError) → IsAllowedResult schema bytes a → IsAllowedResult schema bytes b → b ≢ Err error.NoMemory → (a ≡ Err error.NoMemory) ⊎ (a ≡ b)
   one_answer a (Ok file) h (keeps, is) some = by (answers_file schema file bytes a good (file_bytes schema file good columns keeps) keeps is h)
     where
       by : (a ≡ Ok file) ⊎ (a ≡ Err error.NoMemory) → (a ≡ Err error.NoMemory) ⊎ (a ≡ Ok file)

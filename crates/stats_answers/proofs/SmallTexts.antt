@@ -1,4 +1,4 @@
--- The lemmas compute the answers of two small texts over a schema with one table.
+-- The results for two small texts over a schema with one table, by computation.
 use Rattle.std.proofs.Common.{◌≡◌, ◌⊎◌, inl, inr, ℕ, List, [], ◌∷◌, ◌++◌, Result, Ok, Err, refl, sym, arith}
 use Rattle.std.specs.Prelude.{All, codes}
 use Rattle.std.specs.Fmt.{digits}
@@ -11,7 +11,7 @@ use Rattle.schema_types.specs.Validity.{IsReference, IsValid, IsValidTable}
 use Rattle.stats_file.specs.declared.types.StatsError.{StatsError}
 use Rattle.stats_file.specs.declared.types.StatsError.TheVariants as error
 use Rattle.stats_file.specs.declared.types.StatsFile.{StatsFile}
-use Rattle.stats_file.specs.Answers.{Answers}
+use Rattle.stats_file.specs.Answers.{IsAllowedResult}
 use Rattle.stats_file.specs.Bytes.{AreBytes}
 use Rattle.stats_file.specs.Cases.{stats_without_rows, number_table, schema_of_e}
 use Rattle.stats_file.specs.FileText.{file_lines, file_text, pair_lines, section_lines, table_lines}
@@ -81,7 +81,7 @@ not_whole file e =
     (first_line file.accuracy ∷ flat_map (section_lines schema_of_e) file.tables) (codes "rest -\n") end_line e in
     absurd (cc)
 
-is_cut : Answers schema_of_e cut_text (Err (error.Syntax 6))
+is_cut : IsAllowedResult schema_of_e cut_text (Err (error.Syntax 6))
 is_cut = record {
   lines = lines;
   left = [];

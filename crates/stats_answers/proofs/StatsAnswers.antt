@@ -1,32 +1,32 @@
--- The contract of `read_stats` allows the answer `stats_answer`. It allows one other answer only: that memory ran out.
+-- The contract of `read_stats` allows the result `stats_answer`. It allows one other result only: that memory ran out.
 use Rattle.std.proofs.Common.{◌≡◌, ◌≢◌, ◌⊎◌, inl, inr, ℕ, List, Result, Ok, Err, refl, sym, subst}
 use Rattle.schema_types.specs.declared.types.Schema.{Schema}
 use Rattle.schema_types.specs.Validity.{IsValid}
 use Rattle.stats_file.specs.declared.types.StatsError.{StatsError}
 use Rattle.stats_file.specs.declared.types.StatsError.TheVariants as error
 use Rattle.stats_file.specs.declared.types.StatsFile.{StatsFile}
-use Rattle.stats_file.specs.Answers.{Answers}
+use Rattle.stats_file.specs.Answers.{IsAllowedResult}
 use Rattle.stats_file.specs.FileText.{file_text}
 use Rattle.stats_file.specs.Rules.{KeepsRules}
 use Rattle.stats_reading.specs.Names.{HasByteColumns}
-use Rattle.stats_lines.proofs.Telling.{told}
+use Rattle.stats_lines.proofs.DecidedResults.{decided_result}
 use Rattle.stats_answers.specs.StatsTexts.{stats_answer}
 use Rattle.stats_answers.proofs.OneAnswer.{one_answer}
 
-pub allowed : (schema : Schema) (text : List ℕ) → IsValid schema → Answers schema text (stats_answer schema text)
+pub allowed : (schema : Schema) (text : List ℕ) → IsValid schema → IsAllowedResult schema text (stats_answer schema text)
 unfolding stats_answer
-allowed schema text good = (told schema text).answers good
+allowed schema text good = (decided_result schema text).answers good
 
 pub never_memory : (schema : Schema) (text : List ℕ) → stats_answer schema text ≢ Err error.NoMemory
 unfolding stats_answer
-never_memory schema text = (told schema text).some
+never_memory schema text = (decided_result schema text).some
 
-pub only : (schema : Schema) (text : List ℕ) (answer : Result StatsFile StatsError) → IsValid schema → HasByteColumns schema → Answers schema text answer
+pub only : (schema : Schema) (text : List ℕ) (answer : Result StatsFile StatsError) → IsValid schema → HasByteColumns schema → IsAllowedResult schema text answer
     → (answer ≡ Err error.NoMemory) ⊎ (answer ≡ stats_answer schema text)
 only schema text answer good columns h = one_answer schema text good columns answer (stats_answer schema text) h (allowed schema text good) (never_memory schema text)
 
 pub keeps : (schema : Schema) (text : List ℕ) (file : StatsFile) → IsValid schema → stats_answer schema text ≡ Ok file → KeepsRules schema file × (text ≡ file_text schema file)
-keeps schema text file good e = subst (Answers schema text) e (allowed schema text good)
+keeps schema text file good e = subst (IsAllowedResult schema text) e (allowed schema text good)
 
 pub written : (schema : Schema) (file : StatsFile) → IsValid schema → HasByteColumns schema → KeepsRules schema file → stats_answer schema (file_text schema file) ≡ Ok file
 written schema file good columns keeps = by (stats_answer schema (file_text schema file)) (only schema (file_text schema file) (Ok file) good columns (keeps, refl))

@@ -1,4 +1,4 @@
-//! Laws of the answers to texts. These functions do nothing.
+//! Laws of the results for texts. These functions do nothing.
 ghost use Rattle.std.specs.Prelude.{◌≡◌, ◌≢◌, ◌⊎◌, ℕ, List, Result, Ok, Err};
 ghost use Rattle.schema_types.specs.declared.types.Schema.{Schema};
 ghost use Rattle.schema_types.specs.Texts.{IsSchemaOf};
@@ -6,18 +6,19 @@ ghost use Rattle.schema_types.specs.Validity.{IsValid};
 ghost use Rattle.stats_file.specs.declared.types.StatsError.{StatsError};
 ghost use Rattle.stats_file.specs.declared.types.StatsError.TheVariants as error;
 ghost use Rattle.stats_file.specs.declared.types.StatsFile.{StatsFile};
-ghost use Rattle.stats_file.specs.Answers.{Answers};
+ghost use Rattle.stats_file.specs.Answers.{IsAllowedResult};
 ghost use Rattle.stats_file.specs.FileText.{file_text};
 ghost use Rattle.stats_file.specs.Rules.{KeepsRules};
 ghost use Rattle.stats_reading.specs.Names.{HasByteColumns};
 ghost use Rattle.stats_answers.specs.StatsTexts.{stats_answer};
 
-/// Over a valid schema whose columns have names of bytes, a text has one answer, `stats_answer`, apart from the answer that memory ran out. If the
-/// answer is a statistics file, this file keeps the rules and has this text. If a file keeps the rules, the answer to its text is this file.
+/// The schema must be valid, and its column names must consist of bytes. Then a text has one result, `stats_answer`, apart from the result that
+/// memory ran out. If the result is a statistics file, this file keeps the rules and has this text. If a file keeps the rules, the result for its
+/// text is this file.
 pub fn stats_texts()
-    ensures allowed { (schema : Schema) (text : List ℕ) → IsValid schema → Answers schema text (stats_answer schema text) }
+    ensures allowed { (schema : Schema) (text : List ℕ) → IsValid schema → IsAllowedResult schema text (stats_answer schema text) }
     ensures only { (schema : Schema) (text : List ℕ) (answer : Result StatsFile StatsError)
-        → IsValid schema → HasByteColumns schema → Answers schema text answer
+        → IsValid schema → HasByteColumns schema → IsAllowedResult schema text answer
         → (answer ≡ Err error.NoMemory) ⊎ (answer ≡ stats_answer schema text) }
     ensures never_memory { (schema : Schema) (text : List ℕ) → stats_answer schema text ≢ Err error.NoMemory }
     ensures keeps { (schema : Schema) (text : List ℕ) (file : StatsFile) → IsValid schema → stats_answer schema text ≡ Ok file

@@ -1,8 +1,8 @@
-//! The answer to the text of a statistics file over a schema, as a function of both.
+//! The result of reading the text of a statistics file, as a function of the text and a schema.
 //!
-//! The contract of `read_stats` is a relation between a text and its answer. The relation leaves open only whether the call runs out of memory. If the
-//! call doesn't, `stats_answer` (in `specs/StatsTexts.antt`) is the answer. Callers cite `stats_answer` if they need a value; the laws say that the
-//! relation allows this answer and no other answer.
+//! The contract of `read_stats` is a relation between a text and a result. It leaves open only whether the call runs out of memory. If the call
+//! doesn't, the result is `stats_answer` (in `specs/StatsTexts.antt`). The laws say that the relation allows this result, and no other result except
+//! that memory ran out.
 #![tactic(auto)]
 
 mod examples;

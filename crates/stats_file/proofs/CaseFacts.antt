@@ -1,4 +1,4 @@
--- The statistics file of table E, which has no rows, keeps the rules.
+-- The statistics file of the table E, which has no rows, keeps the rules.
 use Rattle.std.proofs.Common.{zero, suc, ◌<◌, [], ◌∷◌, refl, arith}
 use Rattle.std.specs.Prelude.{All, AllPairs, codes}
 use Rattle.schema_types.specs.declared.types.Kind.TheVariants as kind

@@ -1,4 +1,4 @@
--- If pieces have the form of a list's runs, they are the runs that `runs_of` gives for this list.
+-- If pieces have the form of a list's runs, `runs_of` gives these pieces for the list that they expand to.
 use Rattle.std.proofs.Common.{◌≡◌, ℕ, zero, suc, ◌+◌, ◌==◌, ◌<◌, ◌≤◌, true, false, List, [], ◌∷◌, ◌++◌, replicate, length, get_or, take, drop, ◌-◌, refl, ap, ◌∙◌, arith, add-one, if◌then◌else◌}
 use Rattle.std.proofs.lemmas.Bool.{eq-eqb}
 use Rattle.piece_math.specs.declared.pieces.Piece.{Piece}

@@ -1,4 +1,4 @@
--- The code writes the text of a file part by part. The parts, one after another, are the text that `file_text` gives.
+-- The code writes the text of a file part by part. The parts together are the text that `file_text` gives.
 use Rattle.std.proofs.Common.{◌≡◌, ℕ, List, [], ◌∷◌, ◌++◌, map, refl, ap, sym, ◌∙◌, append_assoc, Some}
 use Rattle.std.specs.Prelude.{codes, slice_get}
 use Rattle.std.specs.List.{concat, flat_map}

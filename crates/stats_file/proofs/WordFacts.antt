@@ -1,4 +1,4 @@
--- The words that a file's text is made of are words of the grammar.
+-- The numbers, values and names that a file's text is made of are words of the grammar.
 use Rattle.std.proofs.Common.{◌≡◌, ◌≢◌, ℕ, zero, suc, ◌+◌, ◌/◌, ◌%◌, ◌<◌, ◌≤◌, ◌^◌, ◌==◌, ◌||◌, if◌then◌else◌, true, false, inl, inr, List, [], ◌∷◌, ◌++◌, length, get_or, map, refl, ap, sym, ◌∙◌, subst, arith, rules}
 use Rattle.std.specs.Prelude.{All, codes, decimal, nat_lt, pos, negsuc, sum, ℤ, FitsSigned}
 use Rattle.std.specs.Char.{is_ascii_digit}

@@ -1,4 +1,4 @@
--- Which answers the bytes of a file may have, and which line a refusal names.
+-- The results that a reader may return for the bytes of a file, and the line that a refusal names.
 use Rattle.std.specs.Prelude.{ℕ, ◌≡◌, ◌≢◌, ◌+◌, ◌⊎◌, List, [], ◌∷◌, ◌++◌, length, All, Result, Ok, Err, ⊤}
 use Rattle.std.specs.List.{concat}
 use Rattle.schema_types.specs.declared.types.Schema.{Schema}
@@ -9,12 +9,12 @@ use Rattle.stats_file.specs.FileText.{file_lines, file_text}
 use Rattle.stats_file.specs.Grammar.{IsText}
 use Rattle.stats_file.specs.Rules.{KeepsRules}
 
--- some text of the grammar begins with these lines
+-- these lines are the first lines of some text of the grammar
 pub record IsFrontOfText (lines : List (List ℕ)) : Type 0 where
   pub more : List (List ℕ)
   pub whole : IsText (lines ++ more)
 
--- the text of some file that keeps the rules begins with these lines
+-- these lines are the first lines of some file that keeps the rules
 pub record IsFrontOfFile (schema : Schema) (lines : List (List ℕ)) : Type 0 where
   pub file : StatsFile
   pub keeps : KeepsRules schema file
@@ -24,31 +24,32 @@ pub record IsFrontOfFile (schema : Schema) (lines : List (List ℕ)) : Type 0 wh
 abbrev pub HasNoEnd : List ℕ → Type 0
 HasNoEnd bytes = All (λ byte. byte ≢ 10) bytes
 
--- the bytes `left` begin with this line, including the line's end, and after it come the bytes `rest`
+-- the bytes `left` are this line, with its line end, followed by the bytes `rest`
 pub record BeginsWithLine (left line rest : List ℕ) : Type 0 where
   pub text : List ℕ
   pub no_end : HasNoEnd text
   pub ended : line ≡ text ++ (10 ∷ [])
   pub whole : left ≡ line ++ rest
 
--- the bytes are the lines and, after them, the bytes `left`; the text of some file begins with these lines
+-- the bytes are these lines followed by the bytes `left`. The lines are the first lines of some file
 pub record IsReadUpTo (schema : Schema) (bytes : List ℕ) (lines : List (List ℕ)) (left : List ℕ) : Type 0 where
   pub whole : bytes ≡ concat lines ++ left
   pub begins : IsFrontOfFile schema lines
 
--- no text of the grammar begins with these lines and the next line
+-- the next line in `left` breaks the grammar: no text of the grammar begins with these lines and then this line
 pub record BreaksGrammar (lines : List (List ℕ)) (left : List ℕ) : Type 0 where
   pub line : List ℕ
   pub rest : List ℕ
   pub next : BeginsWithLine left line rest
   pub fails : IsFrontOfText (lines ++ (line ∷ [])) → ⊥
 
--- the bytes `left` have no line end, and the text isn't complete: some bytes are left, or the lines aren't the whole text of a file
+-- the bytes `left` have no line end, and the text isn't complete: some bytes are left, or the lines aren't all lines of a file
 pub record EndsTooEarly (schema : Schema) (lines : List (List ℕ)) (left : List ℕ) : Type 0 where
   pub no_line : HasNoEnd left
   pub fails : (file : StatsFile) → KeepsRules schema file → lines ≡ file_lines schema file → left ≡ [] → ⊥
 
--- the number, from 1, of the first line that no text of the grammar has there. If the text ends too early, that line is missing or has no line end
+-- the number, counted from 1, of the first line that breaks the grammar. In a text that ends too early it is the line that is missing or has no line
+-- end
 pub record IsSyntaxLine (schema : Schema) (bytes : List ℕ) (line : ℕ) : Type 0 where
   pub lines : List (List ℕ)
   pub left : List ℕ
@@ -56,7 +57,8 @@ pub record IsSyntaxLine (schema : Schema) (bytes : List ℕ) (line : ℕ) : Type
   pub here : line ≡ length lines + 1
   pub wrong : BreaksGrammar lines left ⊎ EndsTooEarly schema lines left
 
--- the number, from 1, of the first line that no file's text has after the lines before it, although a text of the grammar has it there
+-- the number, counted from 1, of the first line that breaks a rule: the grammar allows the lines up to it, but no file that keeps the rules begins
+-- with them
 pub record IsRuleLine (schema : Schema) (bytes : List ℕ) (line : ℕ) : Type 0 where
   pub lines : List (List ℕ)
   pub left : List ℕ
@@ -68,9 +70,9 @@ pub record IsRuleLine (schema : Schema) (bytes : List ℕ) (line : ℕ) : Type 0
   pub in_grammar : IsFrontOfText (lines ++ (broken ∷ []))
   pub fails : IsFrontOfFile schema (lines ++ (broken ∷ [])) → ⊥
 
--- an answer to the bytes: the file that has these bytes as its text, or the first refusal, or that memory ran out
-abbrev pub Answers : Schema → List ℕ → Result StatsFile StatsError → Type 0
-Answers schema bytes (Ok file) = KeepsRules schema file × (bytes ≡ file_text schema file)
-Answers schema bytes (Err (error.Syntax line)) = IsSyntaxLine schema bytes line
-Answers schema bytes (Err (error.Rule line)) = IsRuleLine schema bytes line
-Answers schema bytes (Err error.NoMemory) = ⊤
+-- a result for the bytes: the file that has these bytes as its text, the first refusal, or that memory ran out
+abbrev pub IsAllowedResult : Schema → List ℕ → Result StatsFile StatsError → Type 0
+IsAllowedResult schema bytes (Ok file) = KeepsRules schema file × (bytes ≡ file_text schema file)
+IsAllowedResult schema bytes (Err (error.Syntax line)) = IsSyntaxLine schema bytes line
+IsAllowedResult schema bytes (Err (error.Rule line)) = IsRuleLine schema bytes line
+IsAllowedResult schema bytes (Err error.NoMemory) = ⊤

@@ -1,4 +1,4 @@
--- Names and texts consist of bytes. This is so for every schema and file that a program has in memory.
+-- Schemas and files whose names and texts are lists of bytes, numbers below 256. All schemas and files in a program's memory are like this.
 use Rattle.std.specs.Prelude.{ℕ, ◌<◌, ⊤, List, All}
 use Rattle.std.specs.List.{AllByRecursion}
 use Rattle.schema_types.specs.declared.types.Column.{Column}
@@ -22,7 +22,7 @@ pub record HasByteNames (table : Table) : Type 0 where
   pub name : AreBytes table.name
   pub columns : All (λ (column : Column). AreBytes column.name) table.columns
 
--- a pair's values consist of bytes
+-- the texts among a pair's values consist of bytes
 pub record HasByteValues (pair : PairStats) : Type 0 where
   pub frequent : All (λ (f : Datum × List ℕ). HasBytes f.0) pair.frequent
   pub cuts : All HasBytes pair.cuts

@@ -7,7 +7,7 @@ use Rattle.stats_file.specs.declared.types.Datum.TheVariants as datum
 use Rattle.stats_file.specs.declared.types.PairStats.{PairStats}
 use Rattle.stats_file.specs.declared.types.StatsFile.{StatsFile}
 
--- a table of this name with the one column X of numbers
+-- a table with this name and one column, X, of numbers
 abbrev pub number_table : List ℕ → Table
 number_table name = record { name = name; columns = record { name = codes "X"; kind = kind.Int } ∷ []; keys = []; references = [] }
 
@@ -21,7 +21,7 @@ pair_without_rows = record { filter = 0; joined = 0; whole = []; frequent = []; 
 abbrev pub stats_without_rows : StatsFile
 stats_without_rows = record { accuracy = 1; tables = record { table = 0; rows = 0; pairs = pair_without_rows ∷ [] } ∷ [] }
 
--- the lists of the values 1, 1, 1, 2, 2, 3, without lists of ranges
+-- the statistics of a column with the values 1, 1, 1, 2, 2, 3 by itself, without a histogram
 abbrev pub six_rows : PairStats
 six_rows = record {
   filter = 0;

@@ -1,4 +1,4 @@
--- The text of a file of statistics, line by line.
+-- The text of a statistics file, line by line.
 use Rattle.std.specs.Prelude.{ℕ, List, [], ◌∷◌, ◌++◌, Option, Some, None, map, slice_get, codes}
 use Rattle.std.specs.List.{concat, flat_map}
 use Rattle.schema_types.specs.declared.types.Column.{Column}
@@ -31,7 +31,7 @@ pair_lines table pair = pair_line (name_at table pair.filter) (name_at table pai
     ∷ (list_line (codes "whole") (runs_of pair.whole) ∷ (map value_line pair.frequent
     ++ (list_line (codes "rest") (runs_of pair.rest) ∷ (map cut_line pair.cuts ++ map histogram_node_line pair.nodes))))
 
--- the lines of a section: one line for the table, and then the lines of its pairs. A section has no line if the schema lacks its table
+-- the lines of a table's section: first a line for the table, then the lines of its pairs. A section has no line if the schema lacks its table
 unfoldable pub table_lines : Option Table → TableStats → List (List ℕ)
 table_lines None section = []
 table_lines (Some table) section = table_line table.name section.rows ∷ flat_map (pair_lines table) section.pairs

@@ -1,4 +1,5 @@
--- The grammar of statistics files, as lists of lines. It allows numbers and names of any length; the rules say which of these a file may have.
+-- The grammar of statistics files, as lists of lines. The grammar allows numbers and names of any length. The rules (`KeepsRules`) say which numbers
+-- and names a file may have.
 use Rattle.std.specs.Prelude.{ℕ, ◌≡◌, ◌≢◌, ◌&&◌, ◌||◌, ◌==◌, ◌⊎◌, nat_le, nat_lt, Bool, true, false, List, [], ◌∷◌, ◌++◌, length, codes}
 use Rattle.std.specs.Char.{is_ascii_digit}
 use Rattle.std.specs.List.{AllByRecursion, flat_map, list_all}
@@ -21,7 +22,7 @@ IsSignedNumeral word = IsNumeral word ⊎ ((digits : List ℕ) × (word ≡ 45 �
 abbrev pub is_hex_digit : ℕ → Bool
 is_hex_digit c = is_ascii_digit c || (nat_le 97 c && nat_le c 102)
 
--- x and pairs of digits
+-- pairs of hexadecimal digits
 abbrev pub are_hex_pairs : List ℕ → Bool
 are_hex_pairs [] = true
 are_hex_pairs (high ∷ []) = false
@@ -60,7 +61,7 @@ pub record IsLineOf (front : List ℕ) (IsWord : List ℕ → Type 0) (line : Li
   pub word_is : IsWord word
   pub whole : line ≡ front ++ (word ++ codes "\n")
 
--- a fixed beginning and then two words with a blank between them
+-- a fixed beginning, and then two words with a blank between them
 pub record IsLineOfTwo (front : List ℕ) (IsFirst IsSecond : List ℕ → Type 0) (line : List ℕ) : Type 0 where
   pub first : List ℕ
   pub second : List ℕ

@@ -1,4 +1,4 @@
--- The lines of a file of statistics, each with the LF that ends it.
+-- The lines of a statistics file, each with the LF that ends it.
 use Rattle.std.specs.Prelude.{ℕ, ◌+◌, ◌/◌, ◌%◌, nat_lt, if◌then◌else◌, List, [], ◌∷◌, ◌++◌, codes, decimal}
 use Rattle.std.specs.Fmt.{signed_decimal}
 use Rattle.std.specs.List.{flat_map}
@@ -6,7 +6,7 @@ use Rattle.piece_math.specs.declared.pieces.Piece.{Piece}
 use Rattle.stats_file.specs.declared.types.Datum.{Datum}
 use Rattle.stats_file.specs.declared.types.Datum.TheVariants as datum
 
--- 0 to 9 and then a to f
+-- the digit for n: 0 to 9, then a to f
 abbrev pub hex_digit : ℕ → ℕ
 hex_digit n = if nat_lt n 10 then 48 + n else 87 + n
 
@@ -18,7 +18,7 @@ hex_byte byte = hex_digit (byte / 16) ∷ (hex_digit (byte % 16) ∷ [])
 abbrev pub hex_text : List ℕ → List ℕ
 hex_text bytes = codes "x" ++ flat_map hex_byte bytes
 
--- a value: a number in decimal, or the bytes of a text
+-- a value: a number in decimal, or a text's bytes in hexadecimal
 abbrev pub datum_text : Datum → List ℕ
 datum_text (datum.Int number) = signed_decimal number
 datum_text (datum.Text bytes) = hex_text bytes

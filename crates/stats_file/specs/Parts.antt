@@ -1,4 +1,4 @@
--- The parts of a line.
+-- The parts of a line, as bytes.
 use Rattle.std.specs.Prelude.{ℕ, ◌<◌, List, length, decimal}
 use Rattle.schema_types.specs.declared.types.Table.{Table}
 use Rattle.stats_file.specs.declared.types.PairStats.{PairStats}

@@ -1,4 +1,4 @@
--- The rules that the values in a file of statistics keep, for its reader and its writer.
+-- The rules on the values in a statistics file. Its writer keeps them, and its reader tests them.
 use Rattle.std.specs.Prelude.{ℕ, zero, suc, ◌≡◌, ◌≢◌, ◌<◌, ◌≤◌, ◌⊎◌, List, [], length, map, sum, Some, slice_get, All, AllPairs, FitsSigned}
 use Rattle.std.specs.Cmp.Lexicographic.{slice_cmp}
 use Rattle.std.specs.Int.{w64}
@@ -19,7 +19,7 @@ use Rattle.stats_file.specs.declared.types.PairStats.{PairStats}
 use Rattle.stats_file.specs.declared.types.TableStats.{TableStats}
 use Rattle.stats_file.specs.declared.types.StatsFile.{StatsFile}
 
--- the order of values: numbers by size, texts by their bytes, which is the order of their code points, and a number before a text
+-- the order of values. Numbers are ordered by size, and texts by their bytes, which is the order of their code points. A number comes before a text
 abbrev pub datum_cmp : Datum → Datum → Ordering
 datum_cmp (datum.Int a) (datum.Int b) = int_cmp a b
 datum_cmp (datum.Text a) (datum.Text b) = slice_cmp nat_cmp a b
@@ -39,14 +39,15 @@ pub record IsList (rows : ℕ) (list : List ℕ) : Type 0 where
   pub positive : All (λ x. 0 < x) list
   pub within : sum list ≤ rows
 
--- the frequent values of a column of this kind: at most 32 different values, each with a list
+-- the frequent values of a column of this kind: at most 32 different values, each with its list
 pub record AreFrequent (kind : Kind) (rows : ℕ) (frequent : List (Datum × List ℕ)) : Type 0 where
   pub few : length frequent ≤ 32
   pub differ : AllPairs (λ (a b : Datum × List ℕ). a.0 ≢ b.0) frequent
   pub values : All (λ (f : Datum × List ℕ). IsOfKind kind f.0) frequent
   pub lists : All (λ (f : Datum × List ℕ). IsList rows f.1) frequent
 
--- a histogram with 32 leaves: for each leaf a value of the column's kind, each at most the next one, and a list for each of the 63 nodes
+-- a histogram with 32 leaves. It has a value of the column's kind for each leaf, no greater than the next leaf's value, and a list for each of the 63
+-- nodes
 pub record IsHistogram (kind : Kind) (rows : ℕ) (cuts : List Datum) (nodes : List (List ℕ)) : Type 0 where
   pub leaves : length cuts ≡ 32
   pub values : All (IsOfKind kind) cuts
@@ -54,7 +55,7 @@ pub record IsHistogram (kind : Kind) (rows : ℕ) (cuts : List Datum) (nodes : L
   pub all : length nodes ≡ 63
   pub lists : All (IsList rows) nodes
 
--- the histogram of a table with this number of rows. Without rows it has no values and no lists
+-- the histogram of a table with this number of rows. A table without rows has neither cuts nor nodes
 abbrev pub IsHistogramOf : Kind → ℕ → List Datum → List (List ℕ) → Type 0
 IsHistogramOf kind zero cuts nodes = (cuts ≡ []) × (nodes ≡ [])
 IsHistogramOf kind (suc n) cuts nodes = IsHistogram kind (suc n) cuts nodes
@@ -70,8 +71,7 @@ pub record IsPair (table : Table) (rows : ℕ) (pair : PairStats) : Type 0 where
   pub rest : IsList rows pair.rest
   pub tree : IsHistogramOf filter.kind rows pair.cuts pair.nodes
 
--- pair `a` goes before pair `b`: the filter column of `a` is earlier in the table, or both filter columns are the same and the joined column of `a` is
--- earlier
+-- pair `a` goes before pair `b`. The filter columns decide by their positions in the table; if they are the same, the joined columns decide
 abbrev pub ComesBefore : PairStats → PairStats → Type 0
 ComesBefore a b = (a.filter < b.filter) ⊎ ((a.filter ≡ b.filter) × (a.joined < b.joined))
 
@@ -83,12 +83,13 @@ pub record HaveSameFilterCounts (a b : PairStats) : Type 0 where
   pub cuts : a.cuts ≡ b.cuts
   pub nodes : map sum a.nodes ≡ map sum b.nodes
 
--- two pairs agree: with the same joined column they have the same list of all rows, and with the same filter column they count the same rows
+-- two pairs agree. If they have the same joined column, they have the same list of all rows. If they have the same filter column, they count the same
+-- rows
 pub record Agree (a b : PairStats) : Type 0 where
   pub joined : a.joined ≡ b.joined → a.whole ≡ b.whole
   pub filter : a.filter ≡ b.filter → HaveSameFilterCounts a b
 
--- the section of a table of the schema: its number of rows, and pairs ascending by their columns (`ComesBefore`), any two of which agree
+-- the section of a table of the schema. Its pairs ascend by their columns (`ComesBefore`), and any two of them agree
 pub record IsSection (schema : Schema) (section : TableStats) : Type 0 where
   pub table : Table
   pub table_is : slice_get schema.tables section.table ≡ Some table
@@ -97,7 +98,7 @@ pub record IsSection (schema : Schema) (section : TableStats) : Type 0 where
   pub order : AllPairs ComesBefore section.pairs
   pub agree : AllPairs Agree section.pairs
 
--- all rules: an accuracy from 1 to 64, and tables in the schema's order, each at most once
+-- all rules: the accuracy is 1 to 64, and tables are in the schema's order, each at most once
 pub record KeepsRules (schema : Schema) (file : StatsFile) : Type 0 where
   pub least : 1 ≤ file.accuracy
   pub most : file.accuracy ≤ 64

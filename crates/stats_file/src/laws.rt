@@ -12,7 +12,7 @@ ghost use Rattle.stats_file.specs.Lines.{hex_text, runs_text};
 ghost use Rattle.stats_file.specs.Rules.{IsList, KeepsRules};
 ghost use Rattle.stats_file.specs.Runs.{runs_of};
 
-/// The words that a file's text is made of are words of the grammar.
+/// The numbers, values and names that a file's text is made of are words of the grammar.
 pub fn words_are_grammatical()
     ensures numbers { (n : ℕ) → n < 2 ^ 64 → IsNumeral (decimal n) }
     ensures signed { (z : ℤ) → FitsSigned w64 z → IsSignedNumeral (signed_decimal z) }

@@ -1,10 +1,10 @@
-//! Files of statistics: conditional statistics of tables as a value, and the text of such a file.
+//! Writes statistics files, which have the conditional statistics of tables, and defines their text.
 //!
-//! A `StatsFile` has a section for each table: its number of rows, and for pairs of a filter column and a joined column all lists. The command
-//! `stats` writes such files; `plan --stats` and `append` read them.
+//! A `StatsFile` has a section for each table. The section has the table's number of rows, and all lists for each pair of a filter column and a
+//! joined column. The command `stats` writes such files; `plan --stats` and `append` read them.
 //!
-//! Callers cite `KeepsRules` (in `specs/Rules.antt`) for the rules on the values of a file, `file_text` (in `specs/FileText.antt`) for the one
-//! text that a file has, and `Answers` (in `specs/Answers.antt`) for the answers that the bytes of a file may have.
+//! In contracts `KeepsRules` (in `specs/Rules.antt`) has the rules on the values of a file, and `file_text` (in `specs/FileText.antt`) is the file's
+//! only text. `IsAllowedResult` (in `specs/Answers.antt`) says which results a reader may return for the bytes of a file.
 //!
 //! ```text
 //! write_stats(&file, &schema, sink)?;

@@ -1,4 +1,4 @@
-//! Writes the lines of a file of statistics, each from its parts. Nothing here allocates.
+//! Writes the lines of a file of statistics, each from its parts, without allocating.
 ghost use Rattle.std.specs.Prelude.{◌≡◌, ◌<◌, ◌++◌, codes, decimal};
 ghost use Rattle.std.specs.Fmt.{signed_decimal};
 ghost use Rattle.std.specs.List.{flat_map};
@@ -19,7 +19,7 @@ const SPACE: &[u8] = b" ";
 
 const DASH: &[u8] = b"-";
 
-/// A part of a line: bytes as they are, a name in hexadecimal, a number, a value of a column, or the runs of a list.
+/// A part of a line: fixed bytes, a name in hexadecimal, a number, a value of a column, or the runs of a list.
 #[derive(Clone, Copy)]
 pub enum Part<'a> {
     Plain(&'a [u8]),
@@ -132,7 +132,7 @@ fn put_part<N: Sink>(part: &Part, buffer: &mut Buffer, sink: &mut N) -> Result<(
     }
 }
 
-/// Writes the parts of a line, one after another, through the buffer into the sink. The call fails if the sink fails.
+/// Writes the parts of a line in their order, through the buffer into the sink. The call fails if the sink fails.
 pub fn put_line<N: Sink>(parts: &[Part], buffer: &mut Buffer, sink: &mut N) -> Result<(), Failed>
     ensures { WroteBuffered (growth N.taken N.faults sink.old sink.new) buffer.old buffer.new (flat_map part_text parts.now) result }
 {

@@ -10,8 +10,8 @@ pub enum Datum {
 }
 
 /// The conditional statistics of a joined column by the values of a filter column (SafeBound, sections 3.3 and 3.4): the degree list of all rows, the
-/// list of each frequent value, one list for all other values, and the lists of a binary tree over ranges of values (a histogram). The cuts are the
-/// values at which the tree's leaves begin. Columns are given by their positions in the table, from 0.
+/// list of each frequent value, one list for all other values, and a histogram. The histogram is a binary tree over ranges of values, with a list for
+/// each node. The cuts are the values at which its leaves begin. Columns are given by their positions in the table, from 0.
 #[derive(Debug, Drop)]
 pub struct PairStats {
     pub filter: u32,
@@ -31,14 +31,14 @@ pub struct TableStats {
     pub pairs: Seq<PairStats>,
 }
 
-/// The statistics of tables, compressed with this accuracy.
+/// The statistics of tables, compressed at this accuracy.
 #[derive(Debug, Drop)]
 pub struct StatsFile {
     pub accuracy: u8,
     pub tables: Seq<TableStats>,
 }
 
-/// Why no file was read. Lines are counted from 1.
+/// Why the bytes aren't a statistics file. Lines are counted from 1.
 #[derive(Clone, Copy, Debug, PartialEq, Eq)]
 pub enum StatsError {
     /// No text of the grammar has this line after the lines before it, or the text ends too early.

@@ -1,4 +1,4 @@
-//! The text of a file, appended to a sink. Nothing here takes memory.
+//! Appends the text of a file to a sink, without allocating memory.
 ghost use Rattle.std.specs.Prelude.{◌≡◌, ◌<◌, ◌∷◌, ◌++◌, List, ℕ, All, codes, length};
 ghost use Rattle.std.specs.List.{concat, flat_map};
 ghost use Rattle.stats_file.specs.FileText.{file_text, name_at, pair_lines, section_lines};
@@ -250,8 +250,8 @@ fn put_sections<N: Sink>(
     Ok(())
 }
 
-/// Appends the text of a file that keeps the rules for this schema. The call takes no memory. On `Failed` a prefix of the
-/// text was taken, and the sink counted a fault.
+/// Appends the text of a file that keeps the rules for this schema. The call takes no memory. On `Failed` the sink took only a prefix of the text,
+/// and counted a fault.
 pub fn write_stats<N: Sink>(file: &StatsFile, schema: &Schema, sink: &mut N) -> Result<(), Failed>
     requires { KeepsRules schema.now file.now }
     ensures { Wrote (growth N.taken N.faults sink.old sink.new) (file_text schema.now file.now) result }

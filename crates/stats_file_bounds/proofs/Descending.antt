@@ -1,4 +1,4 @@
--- The lists of a file are in descending order: no element is above the element before it.
+-- The lists of a file are in descending order: no element is greater than the element before it.
 use Rattle.std.proofs.Common.{◌≡◌, ℕ, zero, suc, ◌<◌, ◌≤◌, Bool, eqb, List, [], ◌∷◌, length, get_or, refl, subst, inl, inr, arith}
 use Rattle.std.specs.Prelude.{find, unwrap_or}
 use Rattle.std.proofs.Common.{Option, option_map}
@@ -17,7 +17,7 @@ use Rattle.stats_file_bounds.specs.Found.{no_pair, pair_for}
 use Rattle.stats_file_bounds.proofs.Finding.{each_pair}
 use Rattle.stats_file_of_query.specs.Standing.{is_value, leaf_of_value, list_between, list_of_node, list_of_value}
 use Rattle.filtered_lists.specs.Ranges.{Range}
-use Rattle.filtered_lists.specs.Standing.{ListsFall}
+use Rattle.filtered_lists.specs.Standing.{ListsDescend}
 use Rattle.stats_file_of_query.specs.declared.needs.Needs.{Needs}
 use Rattle.schema_types.specs.declared.types.Kind.{Kind}
 use Rattle.stats_file.specs.declared.types.Datum.{Datum}
@@ -30,7 +30,7 @@ pub record PairFalls (pair : PairStats) : Type 0 where
   pub value : (value : Value) → IsDescending (list_of_value pair value)
   pub node : (size leaf : ℕ) → IsDescending (list_of_node pair size leaf)
 
--- ---- a pair that keeps the rules
+-- ---- the lists of a pair that keeps the rules
 
 none_falls : IsDescending []
 none_falls r = omega arith
@@ -85,7 +85,7 @@ module _ (section : TableStats) (from_stats_file : IsSectionOfSome section) wher
           (λ e. one_key_falls section.rows) (λ e. (its_falls joined joined).whole)
       by (column ∷ columns) = (its_falls column (paired_with needs joined column)).whole
 
-  pub file_lists_fall : (needs : Needs) (joined : ℕ) → ListsFall (stats_file_lists section needs joined)
+  pub file_lists_fall : (needs : Needs) (joined : ℕ) → ListsDescend (stats_file_lists section needs joined)
   file_lists_fall needs joined = record {
     whole = whole_falls needs joined;
     equal = λ column value.

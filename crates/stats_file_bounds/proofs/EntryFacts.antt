@@ -1,4 +1,4 @@
--- For each entry the code makes the statistics that the file gives. If the file lacks something, the code finds the first entry that
+-- The statistics that the code makes for each entry are those that the file gives. If the file lacks something, the code finds the first entry that
 -- needs it.
 use Rattle.std.proofs.Common.{◌≡◌, ℕ, ◌<◌, true, false, List, map, length, get_or, Option, None, Some, refl, ap, sym, ◌∙◌, subst, arith}
 use Rattle.std.specs.Prelude.{unwrap_or, IfSome}
@@ -28,7 +28,7 @@ use Rattle.stats_file_bounds.specs.Entries.{AreStepsFromStatsFile, AsksForFilter
 use Rattle.stats_file_bounds.specs.FileStatistics.{is_filter}
 use Rattle.stats_file_bounds.specs.Found.{is_missing, no_section, section_for}
 
--- ---- filter columns
+-- ---- columns that steps compare with literals are filter columns
 
 pub asks_among : (needs : Needs) (steps : List Step) → needs.filters ≡ different (filter_map column_asked steps) → All (AsksForFilterColumn needs) steps
 asks_among needs steps is k d low = by (column_asked (get_or steps k d)) refl
@@ -65,7 +65,7 @@ module _ (query : Query) (file : StatsFile) (entry : ℕ) where
         (subst (λ (s : List Step). All (AreStepsFromStatsFile section needs s) stats.columns) of_steps are));
   }
 
-  -- ---- the first entry that lacks something
+  -- ---- the first entry for which the file lacks something
 
   pub need_cause : (e : NeedError) → entry < length query.from → ((k : ℕ) → k < entry → is_missing query file k ≡ false) → IsEntryCause query file entry e → IsNeedCause query file e
   need_cause (error.Missing from) low before cause =

@@ -1,4 +1,4 @@
--- `find` looks for an element of a list. If all elements have a property, the element that it finds has it.
+-- If `find` finds an element in a list, the element has each property that all elements have.
 use Rattle.std.proofs.Common.{◌≡◌, ℕ, zero, suc, ◌+◌, ◌<◌, ◌≤◌, Bool, false, List, [], ◌∷◌, None, Some, ap, sym, ◌∙◌, subst, inl, inr, arith}
 use Rattle.std.specs.Prelude.{find, unwrap_or}
 use Rattle.std.specs.List.{All, AllByRecursion, range_with_len}
@@ -25,7 +25,7 @@ found_one P p (y ∷ xs) x all e = elim (cases_Bool (p y)) [
 pub each_pair : (P : PairStats → Type 0) (section : TableStats) → All P section.pairs → P no_pair → (filter joined : ℕ) → P (pair_for section filter joined)
 each_pair P section all none filter joined = found_or P (are_columns filter joined) section.pairs no_pair (recursion_from_All P section.pairs all) none
 
--- ---- along a range
+-- ---- `find` in a range of numbers
 
 pub none_passes : (p : ℕ → Bool) (a n : ℕ) → find p (range_with_len a n) ≡ None → (k : ℕ) → a ≤ k → k < a + n → p k ≡ false
 none_passes p a zero none k from to = absurd (omega arith)

@@ -1,4 +1,4 @@
--- No bound from a file is too low for tables for which the file stands. There is a bound for each set and a bound for each scan.
+-- If a file stands for tables, no bound from the file is too low for them. There is a bound for each set and a bound for each scan.
 use Rattle.std.proofs.Common.{◌≡◌, ℕ, ◌^◌, ◌<◌, ◌≤◌, length, get_or, None, ap, ◌∙◌, arith}
 use Rattle.std.proofs.lemmas.List.FromFn.{length-map-range_with_len}
 use Rattle.std.specs.List.{Contains}
@@ -15,7 +15,7 @@ use Rattle.stats_file_bounds.proofs.NeverUnder.{joined_has, known_stands}
 use Rattle.stats_file_bounds.specs.Bounds.{scan_bounds_of_file, set_bounds_of_file}
 use Rattle.stats_file_bounds.proofs.Descending.{file_lists_fall}
 use Rattle.stats_file_of_query.specs.Standing.{StandsFor}
-use Rattle.filtered_lists.specs.Standing.{ListsFall, SumTo}
+use Rattle.filtered_lists.specs.Standing.{ListsDescend, SumTo}
 use Rattle.join_graph.specs.Conjuncts.{equalities_of}
 use Rattle.join_steps.specs.Lists.{scans_of}
 use Rattle.join_steps.proofs.WholeScans.{whole_of_scans}
@@ -26,7 +26,7 @@ use Rattle.planning.specs.Standing.{BoundLevels, BoundLists, EntriesStand, Joine
 use Rattle.planning.proofs.FromLists.{levels_bound, stand_in_every_set}
 use Rattle.planning.proofs.NeverUnder.{scans_bound}
 use Rattle.planning.proofs.ScanBounds.{have_lists, stand_for_scans}
-use Rattle.query_bounds.specs.Bounds.{entry_bounds, scan_rows}
+use Rattle.query_bounds.specs.Bounds.{entry_bounds, scan_row_bound}
 use Rattle.query_bounds.specs.Statistics.{StandFor, Statistics}
 use Rattle.query_types.specs.Named.{NamesItsEntries}
 use Rattle.query_types.specs.declared.types.Query.{Query}
@@ -47,7 +47,7 @@ module _ (query : Query) (file : StatsFile) (own : NamesItsEntries query) (is : 
   from_stats_file entry low = section_from_file query file is entry (there entry low)
 
   fall_and_sum : (p : Place) → Contains (places_of (equalities_of query)) p
-      → ListsFall (stats_file_lists (section_for query file p.entry) (needs_of query p.entry) p.column)
+      → ListsDescend (stats_file_lists (section_for query file p.entry) (needs_of query p.entry) p.column)
       × SumTo (stats_file_lists (section_for query file p.entry) (needs_of query p.entry) p.column) (stats_file_counts (section_for query file p.entry) (needs_of query p.entry))
   fall_and_sum p has =
       let low : p.entry < length query.from = place_low query own p has in (
@@ -59,7 +59,7 @@ module _ (query : Query) (file : StatsFile) (own : NamesItsEntries query) (is : 
   joined_lists : JoinedHaveLists query (entry_bounds query (stats_file_statistics query file))
   joined_lists =
       have_lists query (stats_file_statistics query file)
-      (all_from (λ (p : Place). ListsFall (stats_file_lists (section_for query file p.entry) (needs_of query p.entry) p.column)
+      (all_from (λ (p : Place). ListsDescend (stats_file_lists (section_for query file p.entry) (needs_of query p.entry) p.column)
       × SumTo (stats_file_lists (section_for query file p.entry) (needs_of query p.entry) p.column) (stats_file_counts (section_for query file p.entry) (needs_of query p.entry)))
       (places_of (equalities_of query)) fall_and_sum)
 
@@ -95,10 +95,10 @@ module _ (query : Query) (file : StatsFile) (own : NamesItsEntries query) (is : 
     pub scans_fit : BoundLists query tables (scans_of query tables) (scan_bounds_of_file query file)
     scans_fit = scans_bound query known tables key its_stands told_few
 
--- ---- how many bounds there are
+-- ---- the number of bounds
 
 pub one_scan : (query : Query) (file : StatsFile) → length (scan_bounds_of_file query file) ≡ length query.from
-one_scan query file = length-map-range_with_len (scan_rows query (stats_file_statistics query file)) 0 (length query.from)
+one_scan query file = length-map-range_with_len (scan_row_bound query (stats_file_statistics query file)) 0 (length query.from)
 
 pub all_sets : (query : Query) (file : StatsFile) → length (set_bounds_of_file query file) ≡ 2 ^ length query.from
 all_sets query file =

@@ -49,7 +49,7 @@ use Rattle.stats_file_bounds.proofs.Small.{its_within}
 use Rattle.stats_file_bounds.proofs.Sums.{IsJoined, contained, found_at, its, joined_needed, lead_joined, pair_found, partner_found, whole_sum}
 use Rattle.stats_file_bounds.proofs.Telling.{IsThere, is_there, section_from_file, its_pairs, place_low, section_is}
 
--- ---- a pair
+-- ---- the lists of a pair dominate keys of their rows
 
 module _ (pair : PairStats) (tables : Tables) (entry : ℕ) (key : ℕ → ℕ) (stands : PairStandsFor pair tables entry key) (few : length pair.cuts ≤ 32) where
   abbrev rows : List ℕ
@@ -103,7 +103,7 @@ module _ (pair : PairStats) (tables : Tables) (entry : ℕ) (key : ℕ → ℕ) 
       node_between first last (leaf_of_value pair (value_at row)) (first_small low) (last_small high) (from_first low (value_at row) parts.0) (up_to_last high (value_at row) parts.1)))
       (stands.node size first (node_size-is first last) (omega (arith, first_small low)))
 
--- ---- the list of all rows
+-- ---- the list of all rows dominates the keys of fewer rows
 
 fewer_rows : (tables : Tables) (entry : ℕ) (key : ℕ → ℕ) (s : List ℕ) (test : ℕ → Bool) → DominatesKeys s (map key (range_with_len 0 (row_counts tables entry)))
     → DominatesKeys s (map key (rows_where tables entry test))
@@ -121,7 +121,7 @@ partner_joined needs joined filter_column has = some needs.joined has
     some [] has = absurd (omega (arith, has.1))
     some (j ∷ joins) has = let there : eqb (length (j ∷ joins)) 0 ≡ false = ne_eqb (length (j ∷ joins)) 0 (λ e. absurd (omega (arith, e))) in rw there refl
 
--- ---- an entry
+-- ---- the statistics of an entry stand for its table
 
 module _ (section : TableStats) (from_stats_file : IsSectionOfSome section) (needs : Needs) (all : list_all (has_pair section) (pairs_of needs) ≡ true)
     (tables : Tables) (entry : ℕ) (key : ℕ → ℕ → ℕ) (tells : (column : ℕ) → SeparatesValues tables entry column (key column)) (stands : SectionStandsFor section tables entry) where
@@ -166,7 +166,7 @@ module _ (section : TableStats) (from_stats_file : IsSectionOfSome section) (nee
       (rows_where tables entry (λ row. is_from range.low (value_in_row tables entry c row) && is_up_to range.high (value_in_row tables entry c row)))))
       its_stands.0 (between_dominates (its_pair range.column joined) tables entry (key (paired_with needs joined range.column)) its_stands.1 (pair_few range.column joined) range.low range.high)
 
-  -- ---- lists of a joined column
+  -- ---- the lists of a joined column dominate keys
 
   whole_dominates : (joined : ℕ) → Contains needs.joined joined → DominatesKeys (whole_list section needs joined) (map (key joined) (range_with_len 0 (row_counts tables entry)))
   whole_dominates joined has = by needs.filters refl
@@ -204,7 +204,7 @@ module _ (section : TableStats) (from_stats_file : IsSectionOfSome section) (nee
         ];
       }
 
-  -- ---- numbers of rows
+  -- ---- the numbers of rows aren't too low
 
   fits : (s : List ℕ) (test : ℕ → Bool) (k : ℕ → ℕ) → DominatesKeys s (map k (rows_where tables entry test)) → length (rows_where tables entry test) ≤ sum s
   fits s test k dominates = omega (arith, places_fit s (map k (rows_where tables entry test)) dominates, length-map (rows_where tables entry test) k)
@@ -237,7 +237,7 @@ module _ (section : TableStats) (from_stats_file : IsSectionOfSome section) (nee
     ];
   }
 
--- ---- a query
+-- ---- the statistics of a query stand for its tables
 
 pub joined_has : (es : List Edge) (p : Place) → Contains (places_of es) p → Contains (joined_columns p.entry es) p.column
 joined_has es p k =

@@ -34,7 +34,7 @@ pub record IsWithin (rows : ℕ) (pair : PairStats) : Type 0 where
   pub node : (size leaf : ℕ) → sum (list_of_node pair size leaf) ≤ rows
   pub cuts : length pair.cuts ≤ 32
 
--- ---- a pair that keeps the rules
+-- ---- the lists of a pair that keeps the rules
 
 value_within : (rows : ℕ) (value : Value) (frequent : List (Datum × List ℕ)) (rest : List ℕ) → AllByRecursion (λ (f : Datum × List ℕ). IsList rows f.1) frequent → IsList rows rest
     → sum (option_map_or (λ (found : Datum × List ℕ). found.1) (find (λ (found : Datum × List ℕ). is_value value found.0) frequent) rest) ≤ rows
@@ -106,7 +106,7 @@ step_small section from_stats_file needs joined (step.Within range) =
     (cond_both (list_any (λ other. eqb r.column other) needs.filters) (list_between pair r.low r.high) (whole_list section needs joined) (λ s. sum s ≤ section.rows)
     (λ e. (its_within section from_stats_file r.column (paired_with needs joined r.column)).node (node_size first last) first) (λ e. whole_within section from_stats_file needs joined))
 step_small section from_stats_file needs joined step.And = refl
-step_small section from_stats_file needs joined step.Nothing = refl
+step_small section from_stats_file needs joined step.NoRows = refl
 step_small section from_stats_file needs joined step.Or = refl
 
 pub section_filed : (file : StatsFile) → KeepsRulesOfSome file → All IsSectionOfSome file.tables

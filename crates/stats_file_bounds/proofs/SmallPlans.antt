@@ -1,4 +1,4 @@
--- Plans are computed from small files.
+-- Plans from small files, by computation.
 use Rattle.std.proofs.Common.{◌≡◌, ℕ, List, [], ◌∷◌, Ok, Err, refl, ap, ◌∙◌, arith}
 use Rattle.entry_sets.specs.Sets.{entries_of_set}
 use Rattle.stats_file_bounds.specs.Bounds.{scan_bounds_of_file, set_bounds_of_file}

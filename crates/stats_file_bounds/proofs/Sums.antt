@@ -1,4 +1,4 @@
--- An entry has lists for each joined column. These lists have equal sums for different joined columns, since each list counts rows of the entry.
+-- An entry has lists for each joined column. For different joined columns the lists have equal sums, since each list counts rows of the same table.
 use Rattle.std.proofs.Common.{◌≡◌, ◌⊎◌, ℕ, zero, suc, ◌<◌, Bool, true, false, cond, eqb, List, [], ◌∷◌, ◌++◌, map, length, get_or, sum, Option, None, Some, option_map, refl, ap, sym, ◌∙◌, subst, inl, inr, arith}
 use Rattle.std.specs.Prelude.{find, is_some, unwrap_or}
 use Rattle.std.specs.List.{Contains, flat_map, list_all, list_any}
@@ -117,7 +117,7 @@ module _ (section : TableStats) (from_stats_file : IsSectionOfSome section) wher
       let at = found_at (are_columns filter joined) section.pairs p here in
       subst (λ (q : PairStats). sum q.whole ≡ section.rows) (at.2 no_pair) (from_stats_file.is.pairs at.0 no_pair at.1).all_rows
 
--- ---- needed pairs
+-- ---- pairs that an entry needs
 
 -- the column is in the list of joined columns, or the entry joins no column
 unfoldable pub IsJoined : Needs → ℕ → Type 0
@@ -169,7 +169,7 @@ module _ (section : TableStats) (from_stats_file : IsSectionOfSome section) (nee
   pub its : (filter joined : ℕ) (p : PairStats) → pair_in section filter joined ≡ Some p → pair_for section filter joined ≡ p
   its filter joined p is = ap (λ (o : Option PairStats). unwrap_or o no_pair) is
 
-  -- ---- the sums
+  -- ---- equal sums for different joined columns
 
   one_key : (rows : ℕ) → sum (list_of_one_key rows) ≡ rows
   one_key rows = elim (cases_Bool (eqb rows 0)) [

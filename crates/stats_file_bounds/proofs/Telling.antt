@@ -1,4 +1,4 @@
--- If each entry has the statistics that the file gives for it, the whole query has the statistics that the file gives for the query.
+-- If each entry has its statistics from the file, the query has its statistics from the file.
 use Rattle.std.proofs.Common.{◌≡◌, ◌⊎◌, ℕ, ◌+◌, ◌<◌, ◌==◌, Bool, true, false, not, List, [], ◌∷◌, ◌++◌, length, get_or, Option, None, Some, option_map, refl, ap, sym, ◌∙◌, subst, inl, inr, arith}
 use Rattle.std.specs.Prelude.{unwrap_or}
 use Rattle.std.specs.List.{All, AllByRecursion, Contains, list_all}
@@ -11,7 +11,7 @@ use Rattle.berge_tree.specs.Equalities.{places_of}
 use Rattle.entry_sets.proofs.Listing.{in_front, in_rest}
 use Rattle.gathered_stats.specs.Asked.{asked_columns, joined_columns, or_no_column}
 use Rattle.gathered_stats.proofs.Joined.{place_asked, some_asked}
-use Rattle.gathered_stats.proofs.Telling.{first_one, found_one}
+use Rattle.gathered_stats.proofs.StatisticsOfTables.{first_one, found_one}
 use Rattle.join_graph.specs.Conjuncts.{equalities_of, equality_of}
 use Rattle.level_bounds.proofs.EqualityFacts.{equality_names}
 use Rattle.level_bounds.proofs.Lists.{all_from, each_of, from_filter_map}
@@ -20,7 +20,7 @@ use Rattle.predicate_bounds.specs.declared.columns.EntryStats.{EntryStats}
 use Rattle.predicate_bounds.specs.declared.columns.QueryStats.{QueryStats}
 use Rattle.predicate_bounds.specs.Steps.{steps_of}
 use Rattle.predicate_bounds.specs.StatsLists.{steps_with_lists, columns_of, no_columns}
-use Rattle.query_bounds.specs.Statistics.{Tells, TellsColumn, TellsRowBound}
+use Rattle.query_bounds.specs.Statistics.{HasStatistics, TellsColumn, TellsRowBound}
 use Rattle.query_types.specs.declared.types.Cond.{Cond}
 use Rattle.query_types.specs.declared.types.Query.{Query}
 use Rattle.query_types.specs.Named.{NamesItsEntries, entries_named}
@@ -35,7 +35,7 @@ use Rattle.stats_file_bounds.proofs.Finding.{found_one as found_holds}
 use Rattle.stats_file_bounds.proofs.Small.{section_filed, whole_within}
 use Rattle.stats_file_bounds.proofs.Sums.{IsJoined, sums_are}
 
--- ---- entries, one after another
+-- ---- the loop over entries
 
 module _ (P : ℕ → EntryStats → Type 0) where
   pub record AreEach (n : ℕ) (entries : List EntryStats) : Type 0 where
@@ -149,7 +149,7 @@ module _ (query : Query) (file : StatsFile) where
             sums = sums_are (section p.entry) (section_from_file p.entry t) (needs_of query p.entry) (its_pairs p.entry t) p.column (asked_joined p.entry p.column asked);
           }
 
-      pub all_told : length stats.entries ≡ length query.from → Tells query stats (stats_file_statistics query file)
+      pub all_told : length stats.entries ≡ length query.from → HasStatistics query stats (stats_file_statistics query file)
       all_told as_many = record {
         one_each = as_many;
         entries = tells_entry;

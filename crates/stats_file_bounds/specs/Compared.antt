@@ -1,4 +1,4 @@
--- Values of a file compared with literals of a query.
+-- Comparison of a file's values with literals of a query.
 use Rattle.std.specs.Prelude.{Bool}
 use Rattle.cond_stats.specs.Columns.{value_le}
 use Rattle.csv_tables.specs.Values.{Value}

@@ -1,4 +1,4 @@
--- The statistics that a file gives for each entry of a query, and why a file may give no statistics.
+-- The statistics that a file gives for each entry of a query, and the reasons why a file may give no statistics.
 use Rattle.std.specs.Prelude.{ℕ, ◌≡◌, All, IfSome, List, map, Some, true, ⊤}
 use Rattle.gathered_stats.specs.Asked.{asked_columns, column_asked}
 use Rattle.join_graph.specs.Conjuncts.{equalities_of}
@@ -20,7 +20,7 @@ use Rattle.stats_file_bounds.specs.declared.errors.NeedError.TheVariants as erro
 use Rattle.stats_file_bounds.specs.FileStatistics.{stats_file_lists, is_filter}
 use Rattle.stats_file_bounds.specs.Found.{first_missing, is_missing, section_for}
 
--- the file keeps the rules of files, for some schema
+-- the file keeps the rules of statistics files for some schema
 pub record KeepsRulesOfSome (file : StatsFile) : Type 0 where
   pub schema : Schema
   pub keeps : KeepsRules schema file
@@ -30,7 +30,8 @@ pub record IsSectionOfSome (section : TableStats) : Type 0 where
   pub schema : Schema
   pub is : IsSection schema section
 
--- the column that a step compares with literals, if it does, is a filter column. A step is an operation over a stack of answers (predicate_bounds)
+-- if a step compares a column with literals, this column is a filter column. A step is a comparison of an own conjunct, an AND or an OR
+-- (predicate_bounds)
 abbrev pub AsksForFilterColumn : Needs → Step → Type 0
 AsksForFilterColumn needs step = IfSome (column_asked step) (λ column. IsTrue (is_filter needs column))
 
@@ -43,12 +44,12 @@ pub record HasStatsFromFile (query : Query) (file : StatsFile) (entry : ℕ) (st
   pub columns : map (λ gathered. gathered.column) stats.columns ≡ asked_columns entry (equalities_of query)
   pub steps : All (AreStepsFromStatsFile (section_for query file entry) (needs_of query entry) (steps_of entry query.conjuncts)) stats.columns
 
--- why a file gives no statistics for a query: the first entry for which something is missing, or memory ran out
+-- the reason why a file gives no statistics for a query: the first entry for which the file lacks something, or memory ran out
 abbrev pub IsNeedCause : Query → StatsFile → NeedError → Type 0
 IsNeedCause query file (error.Missing from) = first_missing query file ≡ Some from
 IsNeedCause query file error.NoMemory = ⊤
 
--- why a file gives no statistics for one entry
+-- the reason why a file gives no statistics for one entry
 abbrev pub IsEntryCause : Query → StatsFile → ℕ → NeedError → Type 0
 IsEntryCause query file entry (error.Missing from) = (from ≡ entry) × (is_missing query file entry ≡ true)
 IsEntryCause query file entry error.NoMemory = ⊤

@@ -1,15 +1,15 @@
--- Files of worked examples.
+-- Statistics files for examples.
 use Rattle.std.specs.Prelude.{ℕ, List, [], ◌∷◌, pos}
 use Rattle.stats_file.specs.declared.types.Datum.TheVariants as datum
 use Rattle.stats_file.specs.declared.types.PairStats.{PairStats}
 use Rattle.stats_file.specs.declared.types.StatsFile.{StatsFile}
 use Rattle.stats_file.specs.declared.types.TableStats.{TableStats}
 
--- the pair of column 0 with itself. The list of all rows is `whole`, and there are no ranges
+-- the pair of column 0 with itself. Its list of all rows is `whole`, and it has no histogram
 abbrev pub itself : List ℕ → PairStats
 itself whole = record { filter = 0; joined = 0; whole = whole; frequent = []; rest = []; cuts = []; nodes = [] }
 
--- four rows of the values 1, 2, 3 and 99, of which 99 isn't frequent
+-- the statistics of four rows with the values 1, 2, 3 and 99. The value 99 isn't frequent
 abbrev pub grown : PairStats
 grown = record {
   filter = 0;

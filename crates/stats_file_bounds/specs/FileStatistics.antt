@@ -11,18 +11,18 @@ use Rattle.stats_file_of_query.specs.Needs.{needs_of}
 use Rattle.stats_file_of_query.specs.Standing.{list_between, list_of_value}
 use Rattle.stats_file_bounds.specs.Found.{pair_for, section_for}
 
--- ---- lists
+-- ---- the lists of a joined column
 
--- the column that a filter column is paired with: the joined column, or the filter column itself if the entry joins no column
+-- the column with which a filter column makes a pair: the joined column. If the entry joins no column, it is the filter column itself
 abbrev pub paired_with : Needs → ℕ → ℕ → ℕ
 paired_with needs joined column = if length needs.joined == 0 then column else joined
 
--- the list of rows that all have the same key
+-- the degree list of rows that all have the same key
 abbrev pub list_of_one_key : ℕ → List ℕ
 list_of_one_key rows = if rows == 0 then [] else (rows ∷ [])
 
--- the list of all rows. It is taken from the pair of the first filter column. Without filter columns it is taken from the pair of the joined column with
--- itself. If an entry needs no pair, all rows have one key
+-- the list of all rows. It is taken from the pair of the first filter column. An entry without filter columns has it from the pair of the joined
+-- column with itself. If the entry needs no pair, all rows have the same key
 abbrev pub whole_by : TableStats → Needs → List ℕ → ℕ → List ℕ
 whole_by section needs [] joined = if length needs.joined == 0 then list_of_one_key section.rows else (pair_for section joined joined).whole
 whole_by section needs (column ∷ columns) joined = (pair_for section column (paired_with needs joined column)).whole
@@ -33,7 +33,7 @@ whole_list section needs joined = whole_by section needs needs.filters joined
 abbrev pub is_filter : Needs → ℕ → Bool
 is_filter needs column = list_any (λ other. column == other) needs.filters
 
--- the lists of a joined column of an entry. A column that the entry's own conjuncts compare with no literal has the list of all rows
+-- the lists of a joined column of an entry. A column that isn't a filter column of the entry has the list of all rows
 abbrev pub stats_file_lists : TableStats → Needs → ℕ → ColumnLists
 stats_file_lists section needs joined = record {
   whole = whole_list section needs joined;
@@ -43,9 +43,9 @@ stats_file_lists section needs joined = record {
       else whole_list section needs joined;
 }
 
--- ---- numbers of rows
+-- ---- the numbers of rows of an entry
 
--- numbers of rows, as the sums of lists
+-- the numbers of rows that lists count: their sums
 abbrev pub counts_of : ColumnLists → RowCounts
 counts_of lists = record {
   whole = sum lists.whole;
@@ -53,7 +53,7 @@ counts_of lists = record {
   range = λ range. sum (lists.range range);
 }
 
--- the numbers of rows by the lists of the first joined column; the lists of all joined columns give the same numbers
+-- the numbers of rows that the lists of the first joined column count. The lists of all joined columns give the same numbers
 abbrev pub stats_file_counts : TableStats → Needs → RowCounts
 stats_file_counts section needs = counts_of (stats_file_lists section needs (slice_index needs.joined 0))
 

@@ -1,4 +1,4 @@
--- Whether a file of statistics has the sections and pairs that a query needs.
+-- Tests whether a statistics file has the sections and pairs that a query needs.
 use Rattle.std.specs.Prelude.{ℕ, ◌==◌, ◌&&◌, not, Bool, false, List, [], Option, None, Some, find, is_some, length, unwrap_or}
 use Rattle.std.specs.List.{list_all, range_with_len}
 use Rattle.query_types.specs.declared.types.Query.{Query}
@@ -19,20 +19,20 @@ pair_in section filter joined = find (are_columns filter joined) section.pairs
 abbrev pub has_pair : TableStats → ColumnPair → Bool
 has_pair section pair = is_some (pair_in section pair.filter pair.joined)
 
--- there is a section, and it has all of these pairs
+-- whether there is a section that has all of these pairs
 abbrev pub has_all : List ColumnPair → Option TableStats → Bool
 has_all pairs None = false
 has_all pairs (Some section) = list_all (has_pair section) pairs
 
--- an entry needs a section or a pair that the file doesn't have
+-- whether the file lacks a section or a pair that an entry needs
 abbrev pub is_missing : Query → StatsFile → ℕ → Bool
 is_missing query file entry = not (has_all (needed query entry) (section_of file (table_of query entry)))
 
--- the first entry for which something is missing, if there is one
+-- the first entry for which the file lacks something, if there is one
 abbrev pub first_missing : Query → StatsFile → Option ℕ
 first_missing query file = find (is_missing query file) (range_with_len 0 (length query.from))
 
--- ---- what is taken in place of a pair or a section that is missing
+-- ---- the default pair and section
 
 abbrev pub no_pair : PairStats
 no_pair = record { filter = 0; joined = 0; whole = []; frequent = []; rest = []; cuts = []; nodes = [] }

@@ -1,4 +1,4 @@
-//! The lists that a pair of a statistics file gives: the list of a value, and the list of a range. A pair has the statistics of a joined column by the
+//! Looks up lists in a pair of a statistics file: the list of a value, and the list of a range. A pair has the statistics of a joined column by the
 //! values of a filter column.
 ghost use Rattle.std.specs.Prelude.{◌≡◌, ◌<◌, ◌≤◌, IfOk, IfSome, length, option_map};
 ghost use Rattle.cond_stats.specs.Leaves.{node_size};
@@ -41,7 +41,7 @@ fn leaf_of(pair: &PairStats, literal: &Literal) -> u8
     leaf
 }
 
-// The leaf of an end of a range, if the range has this end.
+// The leaf to which an end of a range belongs, if the range has this end.
 fn end_leaf(pair: &PairStats, end: &Option<Literal>) -> Option<u8>
     requires { length pair.now.cuts ≤ 32 }
     ensures leaf { result ≡ option_map (leaf_of_value pair.now) (option_map value_of end.now) }

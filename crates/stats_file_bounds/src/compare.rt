@@ -11,7 +11,7 @@ use predicate_bounds::Literal;
 use stats_file::Datum;
 use std::cmp::Ordering;
 
-// The order of a value and a literal: numbers by size, texts by code points, a number below each text.
+// The order of a value and a literal. Numbers are ordered by size, texts by code points, and a number is below each text.
 fn compare(value: &Datum, literal: &Literal) -> Ordering
     ensures { result ≡ value_cmp (value_of value.now) (literal_value literal.now) }
 {
@@ -23,7 +23,7 @@ fn compare(value: &Datum, literal: &Literal) -> Ordering
     }
 }
 
-/// Whether a value is the literal.
+/// Whether a value is equal to the literal.
 pub(crate) fn is_literal(value: &Datum, literal: &Literal) -> bool
     ensures { result ≡ is_value (literal_value literal.now) value.now }
 {

@@ -1,4 +1,4 @@
-//! The statistics that a section, the part of a file for one table, gives for an entry.
+//! Makes the statistics of an entry from a section, the part of a file for one table.
 ghost use Rattle.std.specs.Prelude.{◌≡◌, All, IfOk, map};
 ghost use Rattle.predicate_bounds.specs.ListRuns.{with_list};
 ghost use Rattle.predicate_bounds.specs.Steps.{range_of, value_of};
@@ -16,7 +16,7 @@ use stats_file::TableStats;
 use stats_file_of_query::Needs;
 use std::alloc::Global;
 
-// The column that a filter column is paired with: the joined column, or the filter column itself if the entry joins no column.
+// The column with which a filter column makes a pair: the joined column. If the entry joins no column, it is the filter column itself.
 fn paired_with(needs: &Needs, joined: u32, column: u32) -> u32
     ensures { result ≡ paired_with needs.now joined column }
 {
@@ -27,7 +27,7 @@ fn paired_with(needs: &Needs, joined: u32, column: u32) -> u32
     }
 }
 
-// The list of `rows` rows that all have the same key.
+// The list of a column with `rows` rows that all have the same key.
 fn list_of_one_key(alloc: Global, rows: u32) -> Result<Pieces, NoMemory>
     ensures { IfOk result (λ list. list ≡ list_of_one_key rows) }
 {
@@ -38,7 +38,7 @@ fn list_of_one_key(alloc: Global, rows: u32) -> Result<Pieces, NoMemory>
     Ok(list)
 }
 
-// The list of all rows in a pair, or the empty list if the section has no such pair.
+// The list of all rows in a pair. It is empty if the section has no such pair.
 fn whole_of(
     alloc: Global,
     section: &TableStats,
@@ -137,7 +137,7 @@ fn list_step(
             Ok(ListStep::List(list))
         }
         Step::And => Ok(ListStep::And),
-        Step::Nothing => Ok(ListStep::Nothing),
+        Step::NoRows => Ok(ListStep::NoRows),
         Step::Or => Ok(ListStep::Or),
     }
 }

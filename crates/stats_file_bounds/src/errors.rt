@@ -1,4 +1,4 @@
-//! Why a file gives no bounds for a query.
+//! The reasons why a file gives no bounds for a query.
 ghost use Rattle.std.specs.Prelude.{◌≡◌};
 ghost use Rattle.stats_file_bounds.specs.declared.errors.NeedError.TheVariants as error;
 
@@ -8,7 +8,7 @@ use std::alloc::AllocFailed;
 /// Why a file gives no bounds for a query.
 #[derive(Clone, Copy, Debug, PartialEq, Eq)]
 pub enum NeedError {
-    /// This FROM entry is the first that needs a section or a pair that the file doesn't have.
+    /// The file lacks a section or a pair that this FROM entry needs. Entries before it lack nothing.
     Missing { from: u8 },
     /// Memory ran out.
     NoMemory,

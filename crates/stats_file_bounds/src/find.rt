@@ -1,4 +1,5 @@
-//! Looks up sections and pairs in a file. A section has the statistics of one table, and a pair those of a joined column by a filter column.
+//! Looks up sections and pairs in a file. A section has the statistics of one table. A pair has the statistics of a joined column by the values of a
+//! filter column.
 ghost use Rattle.std.specs.Prelude.{◌≡◌, option_map};
 ghost use Rattle.std.specs.List.{list_all};
 ghost use Rattle.stats_file_of_query.specs.Standing.{section_of};

@@ -1,4 +1,4 @@
-//! Laws of bounds from files. The contract of a function is the law; the function does nothing.
+//! Laws of bounds from files. Each function does nothing; its contract is the law.
 ghost use Rattle.std.specs.Prelude.{◌≡◌, ◌<◌, ◌≤◌, ℕ, None, length};
 ghost use Rattle.limits.specs.Profile.{most_rows};
 ghost use Rattle.join_steps.specs.Lists.{scans_of};
@@ -16,17 +16,18 @@ ghost use Rattle.stats_file_bounds.specs.Entries.{KeepsRulesOfSome};
 ghost use Rattle.stats_file_bounds.specs.FileStatistics.{stats_file_statistics};
 ghost use Rattle.stats_file_bounds.specs.Found.{first_missing};
 
-/// Let a file stand for tables and have all that a query needs. Then the statistics that the file gives for the query stand for these tables, with
-/// any keys that are equal exactly if the values are (`SeparatesValues`). So no bound that is made from these statistics is too low for these tables.
+/// Suppose that a file stands for tables and has all statistics that a query needs. Then the statistics from the file stand for these tables, with
+/// any keys that are equal exactly if the rows' values are equal (`SeparatesValues`). So no bound that is made from these statistics is too low for
+/// these tables.
 pub fn files_are_never_under()
     ensures { (query : Query) (file : StatsFile) (tables : Tables) (key : Keys) → NamesItsEntries query → KeepsRulesOfSome file → StandsFor query file tables
         → first_missing query file ≡ None → ((entry column : ℕ) → SeparatesValues tables entry column (key entry column))
         → StandFor query (stats_file_statistics query file) tables key }
 {}
 
-/// For all tables for which a file stands, no scan of the query has more rows than its bound, and no level over the entries of a set has more
-/// rows than the bound of the set. Each scan's bound is at most the number of rows of its table, and no table has more than
-/// 4,000,000 rows. So the bounds of a plan from the file hold for these tables, whatever the plan's shape.
+/// Suppose that a file stands for tables. Then no scan of the query has more rows than its bound. No level over the entries of a set has more rows
+/// than the bound of the set. Each scan's bound is at most the number of rows of its table, and no table has more than 4,000,000 rows. So no bound of
+/// a plan from the file is too low for these tables, whether the plan is an order or a join tree.
 pub fn bounds_from_files_are_never_under()
     ensures sets { (query : Query) (file : StatsFile) (tables : Tables) → NamesItsEntries query → KeepsRulesOfSome file → first_missing query file ≡ None
         → StandsFor query file tables → BoundLevels query tables (scans_of query tables) (set_bounds_of_file query file) }

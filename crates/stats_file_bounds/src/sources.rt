@@ -1,4 +1,4 @@
-//! The bounds of a query from a file.
+//! Makes the bounds of a query from a statistics file.
 ghost use Rattle.std.specs.Prelude.{◌≡◌, ◌<◌, ◌≤◌, ◌^◌, IfErr, IfOk, None, length};
 ghost use Rattle.limits.specs.Profile.{most_entries};
 ghost use Rattle.stats_file_bounds.specs.Bounds.{scan_bounds_of_file, set_bounds_of_file};
@@ -15,9 +15,10 @@ use query_types::Query;
 use stats_file::StatsFile;
 use std::alloc::Global;
 
-/// The bounds of all sets of a query's entries and of its scans, from a file of statistics (SafeBound, SIGMOD 2023). No table is read.
+/// The bounds of all sets of a query's entries and of its scans, from a statistics file (SafeBound, SIGMOD 2023). No table is read.
 ///
-/// `Missing` names the first entry for which the file lacks something, before any bound is made. `NoMemory` comes if memory runs out.
+/// `Missing` names the first entry for which the file lacks something. It is returned before any bound is made. `NoMemory` is returned if memory runs
+/// out.
 pub fn from_file(alloc: Global, query: &Query, file: &StatsFile) -> Result<QueryBounds, NeedError>
     requires file { KeepsRulesOfSome file.now }
     requires few { length query.now.from ≤ most_entries }

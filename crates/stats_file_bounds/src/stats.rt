@@ -1,7 +1,8 @@
-//! The statistics that a file gives for a query.
+//! Makes the statistics that a file gives for a query.
 ghost use Rattle.std.specs.Prelude.{◌≡◌, ◌<◌, ◌≤◌, IfErr, IfOk, None, false, length};
+ghost use Rattle.limits.specs.Profile.{most_entries};
 ghost use Rattle.join_graph.specs.Conjuncts.{equalities_of, local_of};
-ghost use Rattle.query_bounds.specs.Statistics.{Tells};
+ghost use Rattle.query_bounds.specs.Statistics.{HasStatistics};
 ghost use Rattle.query_types.specs.Named.{NamesItsEntries};
 ghost use Rattle.stats_file_of_query.specs.Needs.{table_of};
 ghost use Rattle.stats_file_bounds.specs.Entries.{IsEntryCause, KeepsRulesOfSome, IsNeedCause, HasStatsFromFile};
@@ -28,7 +29,7 @@ fn table_of(query: &Query, entry: u8) -> u32
     query.from.get(usize::from(entry)).table
 }
 
-// The statistics that a file gives for an entry, if the file has all that the entry needs.
+// The statistics that a file gives for an entry, if the file lacks nothing that the entry needs.
 fn entry_stats(
     alloc: Global,
     query: &Query,
@@ -59,10 +60,10 @@ fn entry_stats(
     Ok(stats)
 }
 
-/// The statistics that the bounds of a query need, from a file that keeps the rules (SafeBound, SIGMOD 2023). `parts` has the parts that `split`
-/// makes of the query. No table is read, and the time grows with the length of the file and the length of the query.
+/// The statistics that the bounds of a query need, from a file that keeps the rules (SafeBound, SIGMOD 2023). `parts` is the result of `split` for
+/// the query. No table is read. The time depends only on the lengths of the file and of the query.
 ///
-/// `Missing` comes exactly if an entry needs a section or a pair that the file doesn't have, and names the first such entry. `NoMemory` comes if
+/// `Missing` is returned exactly if the file lacks a section or a pair that an entry needs. It names the first such entry. `NoMemory` is returned if
 /// memory runs out.
 pub fn query_stats(
     alloc: Global,
@@ -71,11 +72,11 @@ pub fn query_stats(
     file: &StatsFile,
 ) -> Result<QueryStats, NeedError>
     requires file { KeepsRulesOfSome file.now }
-    requires few { length query.now.from ≤ 12 }
+    requires few { length query.now.from ≤ most_entries }
     requires own { NamesItsEntries query.now }
     requires local { parts.now.local ≡ local_of query.now }
     requires equalities { parts.now.equalities ≡ equalities_of query.now }
-    ensures tells { IfOk result (λ stats. Tells query.now stats (stats_file_statistics query.now file.now)) }
+    ensures tells { IfOk result (λ stats. HasStatistics query.now stats (stats_file_statistics query.now file.now)) }
     ensures none_missing { IfOk result (λ stats. first_missing query.now file.now ≡ None) }
     ensures missing { IfErr result (IsNeedCause query.now file.now) }
 {

@@ -1,4 +1,4 @@
--- The bounds that the statistics file of a query gives are the bounds that the query's tables give.
+-- The bounds from the statistics file of a query are the bounds from the query's tables.
 use Rattle.std.proofs.Common.{◌≡◌, ℕ, ◌<◌, ◌≤◌, true, false, eqb, List, [], ◌∷◌, length, get_or, sum, Option, None, Some, refl, ap, sym, ◌∙◌, subst, inl, inr, arith}
 use Rattle.std.specs.Prelude.{if◌then◌else◌, nat_lt, IfSome}
 use Rattle.std.specs.Bool.{IsTrue}
@@ -19,7 +19,7 @@ use Rattle.join_graph.specs.Conjuncts.{equalities_of}
 use Rattle.level_bounds.proofs.Lists.{map_alike, range_within, true_in}
 use Rattle.predicate_bounds.specs.declared.steps.Step.{Step}
 use Rattle.predicate_bounds.specs.Steps.{steps_of}
-use Rattle.query_bounds.specs.Bounds.{entry_bounds, is_among, is_at, scan_bounds, scan_list, scan_rows, set_bounds}
+use Rattle.query_bounds.specs.Bounds.{entry_bounds, is_among, is_at, scan_bounds, scan_list, scan_row_bound, set_bounds}
 use Rattle.query_bounds.specs.Statistics.{Statistics}
 use Rattle.query_types.specs.Named.{NamesItsEntries}
 use Rattle.query_types.specs.declared.types.Query.{Query}
@@ -56,9 +56,9 @@ use Rattle.stats_file_exactness.proofs.Members.{any_passes}
 use Rattle.stats_file_exactness.proofs.Sections as sections
 use Rattle.stats_file_exactness.proofs.Sections.{IsSectionOf, all_there, found_is, section_there}
 
--- ---- a file that has what the tables' statistics have
+-- ---- a file that has the statistics of the tables
 
--- a pair has the statistics of a filter column for a joined column. Each pair of the file is the pair that is made from the table's rows
+-- each pair of the file is the pair that is made from the table's rows. A pair has the statistics of a filter column for a joined column
 pub record HasPairsOfTables (query : Query) (file : StatsFile) (tables : Tables) (accuracy : ℕ) : Type 0 where
   pub is_file : KeepsRulesOfSome file
   pub names : NamesItsEntries query
@@ -68,7 +68,7 @@ pub record HasPairsOfTables (query : Query) (file : StatsFile) (tables : Tables)
       → p ≡ pair_in_table tables accuracy entry filter_column joined
 
 module _ (query : Query) (file : StatsFile) (tables : Tables) (accuracy : ℕ) (knows : HasPairsOfTables query file tables accuracy) where
-  -- ---- an entry
+  -- ---- the section of an entry's table
 
   module _ (entry : ℕ) (low : entry < length query.from) where
     there : IsThere query file entry
@@ -94,9 +94,9 @@ module _ (query : Query) (file : StatsFile) (tables : Tables) (accuracy : ℕ) (
         → pair_for section filter_column (paired_with needs joined filter_column) ≡ pair_in_table tables accuracy entry filter_column (paired_with needs joined filter_column)
     pair_is filter_column joined has joins = found_pair filter_column (paired_with needs joined filter_column) (partner_found section from_stats_file needs all filter_column joined has joins)
 
-    -- ---- lists
+    -- ---- the lists of an entry's columns
 
-    -- only the list of all rows is from the file; the other lists are from the tables
+    -- the list of all rows is from the file; the other lists are from the tables
     abbrev made : ℕ → ColumnLists
     made joined = record {
       whole = whole_list section needs joined;
@@ -121,7 +121,7 @@ module _ (query : Query) (file : StatsFile) (tables : Tables) (accuracy : ℕ) (
     filed_alike joined joins =
         filtered_alike (stats_file_lists section needs joined) (made joined) refl entry query.conjuncts (λ s has column is. agree joined column joins (asked_filter s has column is))
 
-    -- ---- the row bound
+    -- ---- the row bound of an entry
 
     abbrev lead : ℕ
     lead = get_or needs.joined 0 0
@@ -136,7 +136,7 @@ module _ (query : Query) (file : StatsFile) (tables : Tables) (accuracy : ℕ) (
       range = λ range. (lists_sum tables accuracy entry (paired_with needs lead range.column)).range range;
     }
 
-    rows_same : scan_rows query (stats_file_statistics query file) entry ≡ scan_rows query (statistics_of tables accuracy) entry
+    rows_same : scan_row_bound query (stats_file_statistics query file) entry ≡ scan_row_bound query (statistics_of tables accuracy) entry
     rows_same =
         sym (sum-filtered (stats_file_lists section needs lead) (stats_file_counts section needs) entry query.conjuncts own_sums) ∙ ap (λ (s : List ℕ). sum s) (filed_alike lead (lead_joined needs))
         ∙ sum-filtered (made lead) (entry_counts tables entry) entry query.conjuncts made_sums
@@ -172,11 +172,11 @@ module _ (query : Query) (file : StatsFile) (tables : Tables) (accuracy : ℕ) (
           filed_alike joined (contained needs joined has)
           ∙ filtered_alike (made joined) (column_lists tables accuracy entry joined) whole_is entry query.conjuncts (λ s asked column is. made_alike column)
 
-  -- ---- bounds
+  -- ---- the bounds of scans, entries and sets
 
   pub scans_known : scan_bounds query (stats_file_statistics query file) ≡ scan_bounds query (statistics_of tables accuracy)
   scans_known =
-      map_alike (scan_rows query (stats_file_statistics query file)) (scan_rows query (statistics_of tables accuracy)) (range_with_len 0 (length query.from))
+      map_alike (scan_row_bound query (stats_file_statistics query file)) (scan_row_bound query (statistics_of tables accuracy)) (range_with_len 0 (length query.from))
       (λ entry has. rows_same entry (omega (arith, (range_within 0 (length query.from) entry has).1)))
 
   same_bounds : (rows rows' : ℕ → ℕ) (lists lists' : ℕ → ℕ → List ℕ) → rows ≡ rows' → lists ≡ lists'
@@ -184,7 +184,7 @@ module _ (query : Query) (file : StatsFile) (tables : Tables) (accuracy : ℕ) (
   same_bounds rows rows' lists lists' h k = rw (h, k) refl
 
   abbrev rows_by : Statistics → ℕ → ℕ
-  rows_by known entry = if nat_lt entry (length query.from) then scan_rows query known entry else 0
+  rows_by known entry = if nat_lt entry (length query.from) then scan_row_bound query known entry else 0
 
   abbrev list_by : Statistics → ℕ → ℕ → List ℕ
   list_by known entry column = if is_among (places_of (equalities_of query)) entry column then scan_list query known entry column else []
@@ -218,7 +218,7 @@ module _ (query : Query) (file : StatsFile) (tables : Tables) (accuracy : ℕ) (
   pub sets_known : set_bounds query (stats_file_statistics query file) ≡ set_bounds query (statistics_of tables accuracy)
   sets_known = ap (λ (b : EntryBounds). bounds_of_sets b (equalities_of query) (length query.from)) bounds_known
 
--- ---- the file of the query
+-- ---- the statistics file of the query
 
 module _ (schema : Schema) (query : Query) (db : Database) (over : FitsQueryAndTexts schema query db) (accuracy : ℕ) (least : 0 < accuracy) (most : accuracy ≤ 64) where
   abbrev own_file : StatsFile

@@ -1,4 +1,4 @@
--- If a member of a list passes a test, `find` finds a member. The members of a list that is made from other lists come from these lists.
+-- If a member of a list passes a test, `find` returns some member. Each member of a list that is made from other lists is a member of one of these.
 use Rattle.std.proofs.Common.{◌≡◌, ℕ, Bool, true, not, eqb, List, [], ◌∷◌, Some, refl, ap, sym, ◌∙◌, inl, inr}
 use Rattle.std.specs.Prelude.{find}
 use Rattle.std.specs.List.{Contains, filter, flat_map, list_any}

@@ -1,4 +1,4 @@
--- If the lists of columns agree for all that an entry's own conjuncts ask of them, the filtered lists are equal.
+-- Two families of column lists give equal filtered lists if they agree on all lists that an entry's own conjuncts ask for.
 use Rattle.std.proofs.Common.{◌≡◌, ℕ, List, [], ◌∷◌, map, Option, Some, refl, ap, sym, ◌∙◌}
 use Rattle.std.specs.List.{Contains}
 use Rattle.csv_tables.specs.Values.{Value}
@@ -23,7 +23,7 @@ one_listed a b whole step.Whole agree = ap list_step.List whole
 one_listed a b whole (step.Equal column literal) agree = ap list_step.List ((agree column refl).equal (value_of literal))
 one_listed a b whole (step.Within range) agree = ap list_step.List ((agree range.column refl).range (range_of range).low (range_of range).high)
 one_listed a b whole step.And agree = refl
-one_listed a b whole step.Nothing agree = refl
+one_listed a b whole step.NoRows agree = refl
 one_listed a b whole step.Or agree = refl
 
 all_listed : (a b : ColumnLists) → a.whole ≡ b.whole → (steps : List Step) → ((s : Step) → Contains steps s → (column : ℕ) → column_asked s ≡ Some column → AgreeAt a b column)

@@ -1,5 +1,5 @@
--- In the statistics file of a query, an entry's table has a section with pairs. A pair has the statistics of a filter column for a joined column of the
--- table. The lemmas say that the file has each pair that the entry needs, and that it is the pair of the entry's table.
+-- In the statistics file of a query, each entry's table has a section with pairs. A pair has the statistics of a filter column for a joined column.
+-- The section has each pair that the entry needs, and the pair is made from the entry's table.
 use Rattle.std.proofs.Common.{◌≡◌, ℕ, ◌<◌, Bool, true, ◌&&◌, eqb, if◌then◌else◌, List, [], ◌∷◌, length, map, Option, None, Some, option_map, refl, ap, sym, ◌∙◌, subst, arith}
 use Rattle.std.specs.Prelude.{find, is_some, slice_index_or, IfSome}
 use Rattle.std.specs.List.{All, Contains, filter, filter_map, list_all, list_any, range_with_len}
@@ -60,7 +60,7 @@ module _ (schema : Schema) (query : Query) (db : Database) (over : FitsQueryAndT
   abbrev its_pair : ℕ → ℕ → ℕ → PairStats
   its_pair entry filter_column joined = pair_in_table (tables_of db) accuracy entry filter_column joined
 
-  -- ---- columns
+  -- ---- columns that exist in their tables
 
   abbrev IsThere : ℕ → ℕ → Type 0
   IsThere entry column = column < length (cells_of db entry).kinds
@@ -86,7 +86,7 @@ module _ (schema : Schema) (query : Query) (db : Database) (over : FitsQueryAndT
 
   -- ---- the section
 
-  -- entries of the same table share its section, which is made from the first of them
+  -- entries of the same table share its section. The section is made from the first of these entries
   pub record IsSectionOf (entry : ℕ) (section : TableStats) : Type 0 where
     pub first : ℕ
     pub low : first < length query.from

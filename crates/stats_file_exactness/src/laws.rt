@@ -1,4 +1,4 @@
-//! Laws of the statistics file of a query. The contract of a function is the law; the function does nothing.
+//! Laws of the statistics file of a query. Each function does nothing; its contract is the law.
 ghost use Rattle.std.specs.Prelude.{◌≡◌, ◌<◌, ◌≤◌, ℕ, None, Ok};
 ghost use Rattle.csv_tables.specs.declared.types.Database.{Database};
 ghost use Rattle.gathered_stats.specs.Statistics.{statistics_of};
@@ -14,8 +14,8 @@ ghost use Rattle.stats_file_of_query.specs.Files.{file_of_query};
 ghost use Rattle.stats_file_bounds.specs.FileStatistics.{stats_file_statistics};
 ghost use Rattle.stats_file_bounds.specs.Found.{first_missing};
 
-/// The statistics file of a query at an accuracy lacks nothing that the query needs. The bounds of scans, of entries and of sets that are made from
-/// this file are the same as the bounds that are made from the statistics of the query's tables at this accuracy.
+/// The statistics file of a query at an accuracy lacks nothing that the query needs. The file gives the same bounds of scans, entries and sets as the
+/// statistics of the query's tables at this accuracy.
 pub fn bounds_from_files_are_exact()
     ensures all { (schema : Schema) (query : Query) (db : Database) (accuracy : ℕ) → FitsQueryAndTexts schema query db
         → 0 < accuracy → accuracy ≤ 64 → first_missing query (file_of_query schema query (tables_of db) accuracy) ≡ None }

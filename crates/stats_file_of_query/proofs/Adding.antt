@@ -1,4 +1,4 @@
--- The code adds one column or one pair at a time to its lists.
+-- Loops that add one column or one pair at a time to a list.
 use Rattle.std.proofs.Common.{◌≡◌, ◌==◌, true, false, ℕ, ◌+◌, ◌<◌, ◌≤◌, List, [], ◌∷◌, ◌++◌, map, length, take, get_or, append_assoc, Option, None, Some, refl, ap, sym, ◌∙◌}
 use Rattle.std.specs.List.{filter_map, list_any}
 use Rattle.std.proofs.lemmas.List.{append-nil, map-append, take_all, take_more}
@@ -8,7 +8,7 @@ use Rattle.degree_sequences.specs.Degrees.{different}
 use Rattle.stats_file_of_query.specs.declared.column_pairs.ColumnPair.{ColumnPair}
 use Rattle.stats_file_of_query.specs.Columns.{with_column}
 
--- ---- columns
+-- ---- one more column is added to a list that has each column once
 
 more : {X : Type 0} (f : X → Option ℕ) (xs : List X) (x : X) (o : Option ℕ) → f x ≡ o
     → with_column (different (filter_map f xs)) o ≡ different (filter_map f (xs ++ x ∷ []))

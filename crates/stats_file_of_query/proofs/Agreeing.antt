@@ -16,14 +16,14 @@ use Rattle.degree_sequences.specs.Degrees.{degree}
 use Rattle.level_bounds.proofs.Lists.{map_both}
 use Rattle.stats_file.specs.declared.types.Datum.{Datum}
 use Rattle.stats_file.specs.Rules.{HaveSameFilterCounts}
-use Rattle.stats_file_of_query.specs.Pairs.{frequent_in, pair_of}
+use Rattle.stats_file_of_query.specs.Pairs.{frequent_in, pair_stats_of}
 
 pub map-flat : (F : ℕ → List (List ℕ)) (xs : List ℕ) → map sum (flat_map F xs) ≡ flat_map (λ x. map sum (F x)) xs
 map-flat F [] = refl
 map-flat F (x ∷ xs) = map-append sum (F x) (flat_map F xs) ∙ ap (λ s. map sum (F x) ++ s) (map-flat F xs)
 
 module _ (le : ℕ → ℕ → Bool) (datum : ℕ → Datum) (k : ℕ) where
-  -- ---- the sums of lists depend on the filter values alone
+  -- ---- the sums of lists depend only on the filter values
 
   abbrev node_counts : List ℕ → List ℕ
   node_counts column = flat_map (λ size. map (λ i. count_by (λ v. in_node size (size * i) (leaf_of le column v)) column) (range_with_len 0 (32 / size))) node_sizes
@@ -55,7 +55,7 @@ module _ (le : ℕ → ℕ → Bool) (datum : ℕ → Datum) (k : ℕ) where
         ∙ map_both (λ (found : FrequentList). sum found.list) (frequent_list k rows) (λ n. count_by (λ other. eqb other n) (filter_values rows))
         (λ n. sum-compressed_degrees k (keys_with n rows) ∙ length-keys_where (λ other. eqb other n) rows) (frequent (filter_values rows))
 
-  pub count_same : (rows others : List (ℕ × ℕ)) → filter_values rows ≡ filter_values others → (a b a' b' : ℕ) → HaveSameFilterCounts (pair_of le datum k rows a b) (pair_of le datum k others a' b')
+  pub count_same : (rows others : List (ℕ × ℕ)) → filter_values rows ≡ filter_values others → (a b a' b' : ℕ) → HaveSameFilterCounts (pair_stats_of le datum k rows a b) (pair_stats_of le datum k others a' b')
   count_same rows others same a b a' b' = record {
     values = values_are rows ∙ ap (λ (s : List ℕ). map datum (frequent s)) same ∙ sym (values_are others);
     totals = totals_are rows ∙ ap (λ (s : List ℕ). map (λ n. count_by (λ other. eqb other n) s) (frequent s)) same ∙ sym (totals_are others);

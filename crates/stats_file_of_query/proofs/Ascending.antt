@@ -1,4 +1,4 @@
--- The cells of a column are sorted, and the values at which leaves begin ascend.
+-- The code sorts the cells of a column, and the cuts (the values at which leaves begin) ascend.
 use Rattle.std.proofs.Common.{◌≡◌, ◌≢◌, ◌⊎◌, ℕ, zero, suc, ◌+◌, ◌*◌, ◌/◌, ◌<◌, ◌≤◌, Bool, true, false, eqb, List, [], ◌∷◌, length, map, get_or, refl, ap, sym, ◌∙◌, subst, inl, inr, arith}
 use Rattle.std.specs.List.{All, AllByRecursion, AllPairs, range_with_len}
 use Rattle.std.specs.Ordering.{is_eq, is_ge, is_le, ordering_reverse}
@@ -41,7 +41,7 @@ eq_le Greater h = absurd (false≢true h)
 pub le_itself : (a : Value) → value_le a a ≡ true
 le_itself a = eq_le (value_cmp a a) (equal_itself a)
 
--- ---- a sorted list
+-- ---- the elements of a sorted list
 
 module _ (value : ℕ → Value) where
   abbrev at_most : ℕ → ℕ → Bool
@@ -82,7 +82,7 @@ module _ (value : ℕ → Value) where
   at_positions (x ∷ xs) sorted (suc i) zero before low = absurd (omega (arith, before))
   at_positions (x ∷ xs) sorted (suc i) (suc j) before low = at_positions xs sorted.1 i j (omega (arith, before)) (omega (arith, low))
 
-  -- ---- cuts
+  -- ---- cuts ascend
 
   pub cuts_ascend : (column : List ℕ) → 0 < length column → (i j : ℕ) → i < j → j < 32 → at_most (get_or (cuts at_most column) i 0) (get_or (cuts at_most column) j 0) ≡ true
   cuts_ascend column some i j before low =
@@ -97,7 +97,7 @@ module _ (value : ℕ → Value) where
       ∙ at_positions ordered (ascends column) (cut_place n i) (cut_place n j) (cut_place-mono n i j (omega (arith, before)))
       (omega (arith, length-in_order at_most column, cut_place-within n j some low))
 
--- ---- the order of values in a file
+-- ---- the order of values in a file is the order of the column's values
 
 le_not_greater : (o : Ordering) → is_le o ≡ true → o ≢ Greater
 le_not_greater Less h e = cc

@@ -1,4 +1,4 @@
--- The lists of a pair are the lists that the statistics of its table have.
+-- The lists of a pair in the file are the lists that the statistics of its table have.
 use Rattle.std.proofs.Common.{◌≡◌, ℕ, ◌+◌, ◌<◌, ◌≤◌, Bool, List, [], length, map, get_or, Option, None, Some, option_map, refl, ap, sym, ◌∙◌, arith}
 use Rattle.std.specs.Prelude.{unwrap_or}
 use Rattle.std.specs.List.{range_with_len}

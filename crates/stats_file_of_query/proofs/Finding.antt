@@ -1,4 +1,4 @@
--- `find` finds an element that is in the list and passes the test. In a range, it finds the first number that passes.
+-- `find` returns an element that is in the list and passes the test. In a range, it returns the first number that passes.
 use Rattle.std.proofs.Common.{◌≡◌, ℕ, zero, suc, ◌+◌, ◌<◌, ◌≤◌, Bool, true, false, cond, List, [], ◌∷◌, Option, None, Some, find, refl, ap, sym, ◌∙◌, inl, inr, arith}
 use Rattle.std.specs.List.{Contains, range_with_len}
 use Rattle.std.proofs.lemmas.Bool.{cases_Bool, cases_eq}
@@ -15,7 +15,7 @@ found_in p (y ∷ xs) x e = elim (cases_Bool (p y)) [
   | inr n ↦ (let rest : find p xs ≡ Some x = rw n at e in let found = found_in p xs x rest in (contains_later y x xs found.0, found.1))
 ]
 
--- ---- along a range
+-- ---- the first number of a range that passes the test
 
 pub first_found : (p : ℕ → Bool) (a n i : ℕ) → a ≤ i → i < a + n → ((k : ℕ) → a ≤ k → k < i → p k ≡ false) → p i ≡ true → find p (range_with_len a n) ≡ Some i
 first_found p a zero i low high before here = absurd (omega arith)

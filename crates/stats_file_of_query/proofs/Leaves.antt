@@ -1,4 +1,4 @@
--- A loop goes through the cuts and finds the last cut that is at most a value.
+-- The loop over the cuts finds the last cut that is at most a value.
 use Rattle.std.proofs.Common.{◌≡◌, ℕ, zero, suc, ◌+◌, ◌<◌, ◌≤◌, Bool, List, [], cond, take, length, get_or, refl, ap, sym, ◌∙◌, arith}
 use Rattle.std.specs.List.{range_with_len}
 use Rattle.std.proofs.lemmas.List.{get_or_default}

@@ -1,4 +1,4 @@
--- The lists of a pair keep the rules of files.
+-- The lists of a pair keep the rules of statistics files.
 use Rattle.std.proofs.Common.{◌≡◌, ℕ, zero, suc, ◌+◌, ◌-◌, ◌<◌, ◌≤◌, Bool, ltb, eqb, min, List, [], ◌∷◌, length, map, sum, None, ap, sym, subst, arith}
 use Rattle.std.specs.List.{All, AllByRecursion}
 use Rattle.std.proofs.lemmas.Bool.{cond_both, ltb-true}
@@ -25,7 +25,7 @@ use Rattle.std.proofs.lemmas.List.Sums.{count_by-le-length}
 use Rattle.std.proofs.lemmas.List.{length-map}
 use Rattle.stats_file.specs.Rules.{IsList}
 
--- ---- compressed lists
+-- ---- compressed lists have only positive elements
 
 positive_from : (k : ℕ) (f : List ℕ) → IsDescending f → All (λ x. 0 < x) f → (n m : ℕ) → AllByRecursion (λ x. 0 < x) (compressed_from k f n m)
 positive_from k f falls positive zero m = tt
@@ -52,7 +52,7 @@ positive_rest pairs =
     (greatest (map (degree (filter_values pairs)) (remaining (filter_values pairs))))
     (IsDescending-maxima (λ value. degree_list (keys_with value pairs)) (λ w. IsDescending-degree_list (keys_with w pairs)) (remaining (filter_values pairs)))
 
--- ---- the lists that are made from rows, each with a filter value and a joined key
+-- ---- lists made from rows, each of a filter value and a joined key
 
 module _ (k n : ℕ) (pairs : List (ℕ × ℕ)) (few : length pairs ≤ n) where
   as_many : length (filter_values pairs) ≡ length pairs

@@ -1,4 +1,4 @@
--- The code makes the statistics of a pair in steps. The lemmas say what each step gives.
+-- The code makes the statistics of a pair in steps. The lemmas say what each step returns.
 use Rattle.std.proofs.Common.{◌≡◌, ℕ, ◌<◌, List, [], length, map, Some, slice_get, refl, ap, sym, ◌∙◌, subst, arith}
 use Rattle.std.specs.List.{All, AllByRecursion, zip}
 use Rattle.std.proofs.lemmas.List.Elements.{All-from_recursion, All-map, recursion_from_All}

@@ -104,7 +104,7 @@ module _ {A : Type 0} (make : ℕ → ℕ → A) (needed : List ColumnPair) (cou
   pub pairs_in_order : AllPairs R (for_each_pair make needed count)
   pairs_in_order = in_pairs R (for_each_pair make needed count) (blocks (range_with_len 0 count) (range_ascends 0 count))
 
--- ---- items that are made for some of the numbers of an ascending list
+-- ---- items made for some of the numbers of an ascending list
 
 each_cons : {A : Type 0} (P : A → Type 0) (found : Option A) (rest : List A) → ((y : A) → found ≡ Some y → P y) → AllByRecursion P rest → AllByRecursion P (cons_option found rest)
 each_cons P None rest h all = all

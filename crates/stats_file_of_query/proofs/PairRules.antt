@@ -1,4 +1,4 @@
--- The pair that is made from two columns of cells keeps the rules of files.
+-- The pair that is made from two columns of cells keeps the rules of statistics files.
 use Rattle.std.proofs.Common.{◌≡◌, ◌≢◌, ℕ, zero, suc, ◌+◌, ◌*◌, ◌/◌, ◌<◌, ◌≤◌, ◌^◌, Bool, true, eqb, List, [], ◌∷◌, length, length-take, map, get_or, sum, Some, slice_get, refl, ap, sym, ◌∙◌, subst, arith}
 use Rattle.std.specs.List.{All, AllByRecursion, AllPairs, flat_map, range_with_len, zip}
 use Rattle.std.specs.declared.cmp.Ordering.TheVariants.{Greater}
@@ -41,7 +41,7 @@ use Rattle.stats_file.specs.declared.types.PairStats.{PairStats}
 use Rattle.stats_file.specs.Rules.{AreFrequent, IsList, IsOfKind, IsPair, IsHistogram, IsHistogramOf, datum_cmp}
 use Rattle.table_stats.proofs.EqualValues.{equal_itself, is_equal}
 use Rattle.stats_file_of_query.specs.Data.{datum_of, value_of}
-use Rattle.stats_file_of_query.specs.Pairs.{frequent_in, pair_of}
+use Rattle.stats_file_of_query.specs.Pairs.{frequent_in, pair_stats_of}
 use Rattle.stats_file_of_query.proofs.Ascending.{IsText, cuts_ascend, not_above}
 use Rattle.stats_file_of_query.proofs.Lists.{node_listed, rest_listed, value_listed, whole_listed}
 
@@ -86,7 +86,7 @@ module _ (texts : List (List ℕ)) (differ : HaveDifferentCharacters texts) (utf
   own : AllByRecursion (IsCell texts k) filter
   own = recursion_from_All (IsCell texts k) filter are_filter
 
-  -- ---- values
+  -- ---- the values of a pair
 
   text_cell : (kd : Kind) (cell : ℕ) → IsCell texts kd cell → IsText (value_of_cell texts kd cell)
   text_cell kind.Int cell is = tt
@@ -126,7 +126,7 @@ module _ (texts : List (List ℕ)) (differ : HaveDifferentCharacters texts) (utf
     lists = All-map (λ (f : Datum × List ℕ). IsList n f.1) one (frequent filter) (λ i d low. value_listed accuracy n cells few (get_or (frequent filter) i d));
   })
 
-  -- ---- ranges
+  -- ---- the lists of nodes
 
   all_nodes : (size : ℕ) → All (IsList n) (lists_of_size le accuracy cells size)
   all_nodes size = All-map (IsList n) (λ i. list_of_node le accuracy cells size (size * i)) (range_with_len 0 (32 / size))
@@ -177,10 +177,10 @@ module _ (texts : List (List ℕ)) (differ : HaveDifferentCharacters texts) (utf
           nodes_all (x ∷ f) [] some also = absurd (omega (arith, also))
           nodes_all (x ∷ f) (y ∷ j) some also = nodes_many le accuracy (x, y) (zip f j)
 
-  -- ---- the pair
+  -- ---- the pair with all its lists
 
   pub is_pair : (table : Table) (a b : ℕ) (column : Column) → slice_get table.columns a ≡ Some column → column.kind ≡ k → b < length table.columns
-      → IsPair table n (pair_of le datum accuracy cells a b)
+      → IsPair table n (pair_stats_of le datum accuracy cells a b)
   is_pair table a b column at kind_is low = record {
     filter = column;
     filter_is = at;

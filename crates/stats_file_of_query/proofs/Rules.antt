@@ -1,4 +1,4 @@
--- The file of a query keeps the rules of files.
+-- The statistics file of a query keeps the rules of statistics files.
 use Rattle.std.proofs.Common.{◌≡◌, ℕ, ◌+◌, ◌<◌, ◌≤◌, ◌==◌, List, [], length, map, get_or, Option, None, Some, option_map, slice_get, inl, inr, refl, ap, sym, ◌∙◌, subst, arith}
 use Rattle.std.specs.Str.{IsUtf8}
 use Rattle.std.specs.List.{All, AllPairs, filter_map, range_with_len, zip}
@@ -161,7 +161,7 @@ module _ (schema : Schema) (query : Query) (db : Database) (over : FitsQueryAndT
   pub file_keeps : 0 < accuracy → accuracy ≤ 64 → KeepsRules schema (file_of_query schema query (tables_of db) accuracy)
   file_keeps some few = subst (KeepsRules schema) file_is (sections_keep some few)
 
-  -- ---- the file, as the code makes it
+  -- ---- the file that the code makes is the file of the query
 
   pub file_made : (number : ℕ) (sections : List TableStats) → number ≡ accuracy → sections ≡ sections_of_cells query db accuracy (length schema.tables)
       → (let file : StatsFile = record { accuracy = number; tables = sections } in file) ≡ file_of_query schema query (tables_of db) accuracy

@@ -1,4 +1,4 @@
--- The sections that are made from cells are the sections that are defined by the tables' values.
+-- The sections that are made from cells are equal to the sections that are defined by the tables' values.
 use Rattle.std.proofs.Common.{◌≡◌, ℕ, suc, ◌+◌, ◌==◌, ◌<◌, List, [], ◌∷◌, length, map, get_or, Option, None, Some, option_map, refl, ap, sym, ◌∙◌, subst, arith}
 use Rattle.std.specs.List.{AllByRecursion, Contains, filter, filter_map, flat_map, list_any, range_with_len}
 use Rattle.std.proofs.lemmas.Bool.{eqb-true}
@@ -26,7 +26,7 @@ use Rattle.stats_file_of_query.specs.Pairs.{pair_in_cells, pair_in_table, pair_o
 use Rattle.stats_file_of_query.proofs.Finding.{found_in}
 use Rattle.stats_file_of_query.proofs.SameValues.{pair_is}
 
--- ---- if two functions agree on each element of a list, what they make from the list is equal
+-- ---- two functions that agree on each element of a list make equal lists from it
 
 pub same_filtered : {X Y : Type 0} (f g : X → Option Y) (xs : List X) → ((x : X) → Contains xs x → f x ≡ g x) → filter_map f xs ≡ filter_map g xs
 same_filtered f g [] alike = refl

@@ -1,4 +1,4 @@
--- The statistics of two columns of cells are the statistics of the cells' values.
+-- The statistics of two columns of cells are equal to the statistics of the cells' values.
 use Rattle.std.proofs.Common.{◌≡◌, ℕ, ◌*◌, ◌/◌, ◌<◌, Bool, true, eqb, List, [], ◌∷◌, length, map, get_or, pos, Some, refl, ap, sym, ◌∙◌, subst, arith}
 use Rattle.std.specs.List.{All, AllByRecursion, Contains, flat_map, list_any, range_with_len, zip}
 use Rattle.std.proofs.Math.Path.{fun_ext}
@@ -32,9 +32,9 @@ use Rattle.table_stats.proofs.CellColumns.{cell_values, keeps_order, number_of, 
 use Rattle.table_stats.proofs.EqualValues.{equal_itself, is_equal}
 use Rattle.table_stats.proofs.FirstRows.{first_has, first_there}
 use Rattle.stats_file_of_query.specs.Data.{datum_of}
-use Rattle.stats_file_of_query.specs.Pairs.{datum_of_row, frequent_in, pair_of, pair_of_values}
+use Rattle.stats_file_of_query.specs.Pairs.{datum_of_row, frequent_in, pair_stats_of, pair_of_values}
 
--- ---- pairs with equal parts are equal
+-- ---- two pairs are equal if their parts are equal
 
 pub same_parts : (filter joined : ℕ) (all all' rest rest' : List ℕ) (frequent frequent' : List (Datum × List ℕ)) (cuts cuts' : List Datum) (nodes nodes' : List (List ℕ))
     → all ≡ all' → frequent ≡ frequent' → rest ≡ rest' → cuts ≡ cuts' → nodes ≡ nodes'
@@ -123,7 +123,7 @@ module _ (texts : List (List ℕ)) (differ : HaveDifferentCharacters texts) (kin
       (ap (λ (v : Value). is_equal v (of_cell cell)) (sym its) ∙ first_has filters (of_cell cell) below) in
       ap datum_of (its ∙ ap of_cell same)
 
-  -- ---- frequent values, cuts and nodes
+  -- ---- equal frequent values, cuts and nodes
 
   found : (column : List ℕ) (n : ℕ) → Contains (frequent column) n → (pairs : List (ℕ × ℕ)) → filter_values pairs ≡ column → is_frequent pairs n ≡ true
   found column n has pairs are =
@@ -180,9 +180,9 @@ module _ (texts : List (List ℕ)) (differ : HaveDifferentCharacters texts) (kin
       ∙ ap (map (datum_of_row filters)) (sym (cuts_are le (row_le filters) row_of filter alike))
       ∙ ap (λ (s : List ℕ). map (datum_of_row filters) (cuts (row_le filters) s)) (sym first_of_rows)
 
-  -- ---- the pair
+  -- ---- the pair of cells and the pair of values are equal
 
-  same_rows : (a b : ℕ) → pair_of (cell_le texts kind) (λ cell. datum_of (of_cell cell)) accuracy cells a b ≡ pair_of (row_le filters) (datum_of_row filters) accuracy rows a b
+  same_rows : (a b : ℕ) → pair_stats_of (cell_le texts kind) (λ cell. datum_of (of_cell cell)) accuracy cells a b ≡ pair_stats_of (row_le filters) (datum_of_row filters) accuracy rows a b
   same_rows a b =
       same_parts a b (whole accuracy cells) (whole accuracy rows) (rest accuracy cells) (rest accuracy rows)
       (map (frequent_in (λ cell. datum_of (of_cell cell))) (frequent_lists accuracy cells)) (map (frequent_in (datum_of_row filters)) (frequent_lists accuracy rows))
@@ -205,5 +205,5 @@ module _ (texts : List (List ℕ)) (differ : HaveDifferentCharacters texts) (kin
         length-map filter row_of,
       )
 
-  pub pair_is : (a b : ℕ) → pair_of (cell_le texts kind) (λ cell. datum_of (of_cell cell)) accuracy cells a b ≡ pair_of_values accuracy filters keys a b
-  pair_is a b = same_rows a b ∙ ap (λ (s : List (ℕ × ℕ)). pair_of (row_le filters) (datum_of_row filters) accuracy s a b) (sym rows_are)
+  pub pair_is : (a b : ℕ) → pair_stats_of (cell_le texts kind) (λ cell. datum_of (of_cell cell)) accuracy cells a b ≡ pair_of_values accuracy filters keys a b
+  pair_is a b = same_rows a b ∙ ap (λ (s : List (ℕ × ℕ)). pair_stats_of (row_le filters) (datum_of_row filters) accuracy s a b) (sym rows_are)

@@ -1,4 +1,4 @@
--- The pairs that small queries need are computed.
+-- The pairs that small queries need, by computation.
 use Rattle.std.proofs.Common.{◌≡◌, [], ◌∷◌, pos, true, refl, ap, sym, ◌∙◌, arith}
 use Rattle.query_grammar.specs.declared.tree.Op.{Op}
 use Rattle.query_grammar.specs.declared.tree.Op.TheVariants as op

@@ -30,7 +30,7 @@ use Rattle.stats_file_of_query.proofs.SameSections.{first_is}
 use Rattle.stats_file_of_query.proofs.Stands.{pair_stands}
 use Rattle.stats_file_of_query.proofs.Walks.{kept_below}
 
--- ---- a property of each pair that is made, for the list of needed pairs
+-- ---- a property of all pairs that are made for needed pairs of columns
 
 pub all_made : (P : PairStats → Type 0) (make : ℕ → ℕ → PairStats) (needed : List ColumnPair) (count : ℕ) → ((filter_column joined : ℕ) → filter_column < count → joined < count → P (make filter_column joined))
     → All P (for_each_pair make needed count)
@@ -44,7 +44,7 @@ all_made P make needed count each = of (range_with_len 0 count) (all_in_range (�
         (λ i d low. each column (get_or (joined_with needed count column) i d) all.0 (kept_below (λ joined. list_any (is_pair column joined) needed) count i d low)))
         (of columns all.1)
 
--- ---- a section
+-- ---- a section stands for its table
 
 module _ (schema : Schema) (query : Query) (tables : Tables) (share : ShareRows query tables) (accuracy : ℕ) where
   same_column : (entry other column : ℕ) → tables entry ≡ tables other → column_values tables entry column ≡ column_values tables other column
@@ -68,7 +68,7 @@ module _ (schema : Schema) (query : Query) (tables : Tables) (share : ShareRows 
             (sym (same_pair first entry filter_column joined same)) (pair_stands tables accuracy entry filter_column joined key tells));
       }
 
-  -- ---- the file
+  -- ---- the file stands for the query's tables
 
   made_of : (table : ℕ) (found : Option ℕ) (section : TableStats) → first_entry query table ≡ found
       → option_map (section_of_table schema query tables accuracy table) found ≡ Some section
@@ -89,7 +89,7 @@ module _ (schema : Schema) (query : Query) (tables : Tables) (share : ShareRows 
       subst (λ (one : TableStats). SectionStandsFor one tables entry) (sym made.2)
       (section_stands its.0 made.0 entry first.0 low first.1 (sym table_is))
 
--- ---- the tables of a database
+-- ---- entries of one table share their rows in a database
 
 pub share_rows : (schema : Schema) (query : Query) (db : Database) → FitsQueryAndTexts schema query db → ShareRows query (tables_of db)
 share_rows schema query db over entry other low also same =

@@ -48,7 +48,7 @@ pub back : (v : Value) → value_of (datum_of v) ≡ v
 back (values.Int number) = refl
 back (values.Text text) = refl
 
--- ---- the last position that passes a test: `q` tests positions, and `p` the elements at them
+-- ---- the last position that passes a test; `q` tests positions, and `p` the elements there
 
 later : (q p : ℕ → Bool) (x : ℕ) (xs : List ℕ) (first : ℕ) → ((i : ℕ) → i < length (x ∷ xs) → q (first + i) ≡ p (get_or (x ∷ xs) i 0))
     → (i : ℕ) → i < length xs → q ((first + 1) + i) ≡ p (get_or xs i 0)
@@ -71,9 +71,9 @@ by_place q p [] first h = refl
 by_place q p (x ∷ xs) first h =
     rw (any_places q p xs (first + 1) (later q p x xs first h), by_place q p xs (first + 1) (later q p x xs first h)) refl
 
--- ---- a list that is looked up by its value
+-- ---- the list that a pair has for a value
 
--- `mine` says whether one more frequent value is the value that is looked up
+-- `mine` says whether one more frequent value is the value that is looked for
 pick : (test mine any : Bool) (d : Datum) (list other others found : List ℕ) (rest : Option (Datum × List ℕ)) → test ≡ mine → (mine ≡ true → list ≡ other)
     → option_map_or (λ (one : Datum × List ℕ). one.1) rest others ≡ (if any then other else others)
     → option_map_or (λ (one : Datum × List ℕ). one.1) (if test then Some (d, list) else rest) others ≡ (if (mine || any) then other else others)
@@ -122,7 +122,7 @@ module _ (tables : Tables) (accuracy entry filter_column joined : ℕ) where
   sums : sum (whole accuracy pairs) ≡ row_counts tables entry
   sums = sum-whole accuracy pairs ∙ many
 
-  -- ---- values
+  -- ---- the list of a value dominates its rows' keys
 
   module _ (value : Value) where
     abbrev number : ℕ
@@ -173,7 +173,7 @@ module _ (tables : Tables) (accuracy entry filter_column joined : ℕ) where
     unfolding lists.list_of_value
     list_is = among (frequent (filter_values pairs)) frequent_alike
 
-  -- ---- nodes
+  -- ---- the list of a node dominates its rows' keys
 
   abbrev column_cuts : List ℕ
   column_cuts = cuts le (filter_values pairs)
@@ -207,7 +207,7 @@ module _ (tables : Tables) (accuracy entry filter_column joined : ℕ) where
       ∙ ap (λ (numbers : List ℕ). map (number_at tables entry joined) (filter (λ row. passes numbers (number_at tables entry filter_column row)) rows)) firsts)
       (compressed_dominates accuracy (keys_where (passes (filter_values pairs)) pairs))
 
-  -- ---- any keys that are equal exactly if the values of the joined column are
+  -- ---- keys that are equal exactly if the values of the joined column are equal
 
   module _ (key : ℕ → ℕ) (tells : SeparatesValues tables entry joined key) where
     same_key : (row other : ℕ) → row < row_counts tables entry → other < row_counts tables entry

@@ -1,4 +1,4 @@
--- Loops go over a range of numbers, one number at a time.
+-- Loops over a range of numbers.
 use Rattle.std.proofs.Common.{◌≡◌, ℕ, ◌+◌, ◌<◌, ◌≤◌, Bool, true, false, cond, List, [], ◌∷◌, ◌++◌, map, length, Option, None, Some, append_assoc, refl, ap, sym, ◌∙◌, arith}
 use Rattle.std.specs.Prelude.{if◌then◌else◌}
 use Rattle.std.specs.List.{All, Contains, filter, filter_map, flat_map, range_with_len}
@@ -12,7 +12,7 @@ use Rattle.level_bounds.proofs.Lists.{all_from, from_filter, range_within}
 pub range_more : (n : ℕ) → range_with_len 0 (n + 1) ≡ range_with_len 0 n ++ n ∷ []
 range_more n = sym (map-id (range_with_len 0 (n + 1))) ∙ map-range_with_len_more (λ i. i) 0 n n (omega arith) ∙ ap (λ s. s ++ n ∷ []) (map-id (range_with_len 0 n))
 
--- ---- the numbers that pass a test
+-- ---- the loop that keeps the numbers which pass a test
 
 pub one_kept : (p : ℕ → Bool) (n : ℕ) (old new : List ℕ) → old ≡ filter p (range_with_len 0 n) → p n ≡ true → new ≡ old ++ n ∷ [] → new ≡ filter p (range_with_len 0 (n + 1))
 one_kept p n old new before passes pushed =
@@ -31,7 +31,7 @@ kept_below p n =
     All-from_recursion (λ x. x < n) (filter p (range_with_len 0 n))
     (all_from (λ x. x < n) (filter p (range_with_len 0 n)) (λ x has. omega (arith, (range_within 0 n x (from_filter p (range_with_len 0 n) x has).0).1)))
 
--- ---- lists that are appended one after another
+-- ---- the loop that appends one list for each number
 
 pub one_list : {X : Type 0} (f : ℕ → List X) (n : ℕ) (old new : List X) → old ≡ flat_map f (range_with_len 0 n) → new ≡ old ++ f n → new ≡ flat_map f (range_with_len 0 (n + 1))
 one_list f n old new before added =
@@ -50,7 +50,7 @@ pub same_if_fails : {X : Type 0} (b : ℕ → Bool) (f : ℕ → List X) (n : �
     → new ≡ flat_map (λ e. if b e then f e else []) (range_with_len 0 (n + 1))
 same_if_fails b f n old new before is same = no_list (λ e. if b e then f e else []) n old new before (ap (λ (t : Bool). if t then f n else []) is) same
 
--- ---- an item is made for some of the numbers
+-- ---- the loop that makes an item for some of the numbers
 
 pub append_if_some : {X : Type 0} (f : ℕ → Option X) (n : ℕ) (old new : List X) (x : X) → old ≡ filter_map f (range_with_len 0 n) → f n ≡ Some x → new ≡ old ++ x ∷ []
     → new ≡ filter_map f (range_with_len 0 (n + 1))

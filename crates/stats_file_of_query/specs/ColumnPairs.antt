@@ -13,11 +13,11 @@ is_pair filter joined pair = pair.filter == filter && pair.joined == joined
 abbrev pub of_itself : ℕ → ColumnPair
 of_itself column = column_pair column column
 
--- a filter column with each joined column
+-- the pairs of a filter column with each joined column
 abbrev pub with_each : List ℕ → ℕ → List ColumnPair
 with_each joined filter = map (column_pair filter) joined
 
--- each filter column with each joined column. If there are no filter columns or no joined columns, each column with itself
+-- the pairs of each filter column with each joined column. If there are no filter columns or no joined columns, the pairs of each column with itself
 abbrev pub pairs_between : List ℕ → List ℕ → List ColumnPair
 pairs_between [] joined = map of_itself joined
 pairs_between (filter ∷ filters) [] = map of_itself (filter ∷ filters)

@@ -1,4 +1,4 @@
--- Values as a file of statistics has them.
+-- Values in the form that a statistics file has.
 use Rattle.csv_tables.specs.Values as values
 use Rattle.csv_tables.specs.Values.{Value}
 use Rattle.stats_file.specs.declared.types.Datum.{Datum}

@@ -1,4 +1,4 @@
--- The database from which the statistics file of a query is made.
+-- The databases from which the statistics file of a query can be made.
 use Rattle.std.specs.Prelude.{ℕ, ◌<◌, All, List, length}
 use Rattle.std.specs.Str.{IsUtf8}
 use Rattle.csv_tables.specs.Cells.{AreCellsOf}
@@ -22,13 +22,13 @@ pub record FitsQuery (schema : Schema) (query : Query) (db : Database) : Type 0 
   pub database : IsDatabaseOf query db
   pub cells : (entry : ℕ) → entry < length query.from → AreCellsOf (table_at schema (table_of query entry)) db.pool (cells_of db entry)
 
--- moreover, the pool's texts are UTF-8, and no two texts have the same characters. Every pool has these two properties
+-- `FitsQuery` holds, the pool's texts are UTF-8, and no two texts have the same characters. The last two are true of every pool
 pub record FitsQueryAndTexts (schema : Schema) (query : Query) (db : Database) : Type 0 where
   pub of : FitsQuery schema query db
   pub texts : All IsUtf8 db.pool
   pub differ : HaveDifferentCharacters db.pool
 
--- the section of a table, from the cells of a FROM entry of this table
+-- the section of a table, made from the cells of a FROM entry of this table
 abbrev pub section_of_cells : Query → Database → ℕ → ℕ → ℕ → TableStats
 section_of_cells query db accuracy table entry = record {
   table = table;

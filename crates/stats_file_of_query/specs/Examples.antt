@@ -12,25 +12,25 @@ use Rattle.schema_types.specs.declared.types.Schema.{Schema}
 use Rattle.schema_types.specs.declared.types.Table.{Table}
 use Rattle.sql_meaning.specs.Tables.{Tables}
 
--- a table of this name with the one column X of numbers
-abbrev pub numbers_of : List ℕ → Table
-numbers_of name = record { name = name; columns = record { name = codes "X"; kind = kind.Int } ∷ []; keys = []; references = [] }
+-- a table with this name and one column, X, of numbers
+abbrev pub numbers_table : List ℕ → Table
+numbers_table name = record { name = name; columns = record { name = codes "X"; kind = kind.Int } ∷ []; keys = []; references = [] }
 
--- R(X) and S(X)
+-- the schema R(X), S(X)
 abbrev pub schema_of_pair : Schema
-schema_of_pair = record { tables = numbers_of (codes "R") ∷ numbers_of (codes "S") ∷ [] }
+schema_of_pair = record { tables = numbers_table (codes "R") ∷ numbers_table (codes "S") ∷ [] }
 
--- K(X)
+-- the schema K(X)
 abbrev pub schema_of_one : Schema
-schema_of_one = record { tables = numbers_of (codes "K") ∷ [] }
+schema_of_one = record { tables = numbers_table (codes "K") ∷ [] }
 
--- every entry has these rows, each of one number
+-- tables in which every entry has the same rows, each with one number
 abbrev pub rows_of : List ℕ → Tables
 rows_of column entry = map (λ n. Int (pos n) ∷ []) column
 
 -- ---- queries
 
--- R.X = S.X, and S.Y > 3 AND S.Y < 9
+-- the query with R.X = S.X, S.Y > 3 and S.Y < 9
 abbrev pub filtered_pair : Query
 filtered_pair = record {
   from = pair.from;

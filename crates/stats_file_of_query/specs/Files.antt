@@ -1,4 +1,4 @@
--- The file of statistics of a query.
+-- The statistics file of a query.
 use Rattle.std.specs.Prelude.{ℕ, ◌==◌, List, [], length, map, Option, option_map, find, slice_index_or}
 use Rattle.std.specs.List.{filter, filter_map, flat_map, list_any, range_with_len}
 use Rattle.query_types.specs.declared.types.Query.{Query}
@@ -18,11 +18,11 @@ use Rattle.stats_file_of_query.specs.Pairs.{pair_in_table}
 abbrev pub joined_with : List ColumnPair → ℕ → ℕ → List ℕ
 joined_with needed count column = filter (λ joined. list_any (is_pair column joined) needed) (range_with_len 0 count)
 
--- what `make` gives for each needed pair, in ascending order by the filter column and then by the joined column
+-- the results of `make` for all needed pairs. They ascend by the filter column, and for equal filter columns by the joined column
 abbrev pub for_each_pair : {A : Type 0} → (ℕ → ℕ → A) → List ColumnPair → ℕ → List A
 for_each_pair make needed count = flat_map (λ column. map (make column) (joined_with needed count column)) (range_with_len 0 count)
 
--- the default where the schema lacks a table: it has no columns
+-- the default for a table that the schema lacks: a table without columns
 abbrev pub no_table : Table
 no_table = record { name = []; columns = []; keys = []; references = [] }
 
@@ -32,11 +32,12 @@ table_at schema table = slice_index_or schema.tables table no_table
 abbrev pub column_count : Schema → ℕ → ℕ
 column_count schema table = length (table_at schema table).columns
 
--- the first FROM entry of a table, if the query names the table
+-- the first FROM entry that is this table, if the query names the table
 abbrev pub first_entry : Query → ℕ → Option ℕ
 first_entry query table = find (λ entry. table_of query entry == table) (range_with_len 0 (length query.from))
 
--- the section of a table at an accuracy, from the rows of an entry of this table: the number of rows, and the pairs that an entry of the table needs
+-- the section of a table at an accuracy: the number of rows, and all pairs that an entry of the table needs. It is made from the rows of `entry`, an
+-- entry of the table
 abbrev pub section_of_table : Schema → Query → Tables → ℕ → ℕ → ℕ → TableStats
 section_of_table schema query tables accuracy table entry = record {
   table = table;
@@ -46,7 +47,8 @@ section_of_table schema query tables accuracy table entry = record {
 
 -- ---- the file of a query
 
--- what `make` gives for each table that the query names, among the first `count` tables, with the first entry of this table
+-- the results of `make` for each table, among the first `count` tables, that the query names. The second argument of `make` is the table's first
+-- entry
 abbrev pub for_each_table : {A : Type 0} → (ℕ → ℕ → A) → Query → ℕ → List A
 for_each_table make query count = filter_map (λ table. option_map (make table) (first_entry query table)) (range_with_len 0 count)
 

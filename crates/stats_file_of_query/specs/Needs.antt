@@ -1,4 +1,4 @@
--- The pairs of columns of which the bounds of a query need statistics.
+-- The pairs of columns of which a query's bounds need statistics.
 use Rattle.std.specs.Prelude.{ℕ, ◌==◌, if◌then◌else◌, Bool, List, [], length, map, slice_index}
 use Rattle.std.specs.List.{filter_map, flat_map, range_with_len}
 use Rattle.degree_sequences.specs.Degrees.{different}
@@ -29,7 +29,7 @@ needed query entry = pairs_of (needs_of query entry)
 abbrev pub table_of : Query → ℕ → ℕ
 table_of query entry = slice_index (map (λ source. source.table) query.from) entry
 
--- the pairs that the entries of a table need, one entry after the other
+-- the pairs that the entries of a table need, entry after entry
 abbrev pub needed_of_table : Query → ℕ → List ColumnPair
 needed_of_table query table =
     flat_map (λ entry. if table_of query entry == table then needed query entry else []) (range_with_len 0 (length query.from))

@@ -1,4 +1,4 @@
-//! Pairs of columns.
+//! Pairs of a filter column and a joined column.
 ghost use Rattle.std.specs.Prelude.{◌≡◌};
 ghost use Rattle.stats_file_of_query.specs.ColumnPairs.{is_pair};
 

@@ -1,4 +1,4 @@
-//! Turns cells into the values that a statistics file has.
+//! Turns cells into values of a statistics file.
 ghost use Rattle.std.specs.Prelude.{◌≡◌, All, IfOk, map};
 ghost use Rattle.csv_tables.specs.Cells.{IsCell, value_of_cell};
 ghost use Rattle.stats_file_of_query.specs.Data.{datum_of};

@@ -1,4 +1,4 @@
-//! What small queries need, and their files, as theorems by computation.
+//! The pairs that small queries need, and their statistics files, as theorems by computation.
 ghost use Rattle.std.specs.Prelude.{◌≡◌, ◌∷◌, [], None, Some, length, map, pos};
 ghost use Rattle.csv_tables.specs.Values.{Int};
 ghost use Rattle.query_bounds.specs.Examples.{pair};
@@ -10,8 +10,8 @@ ghost use Rattle.stats_file_of_query.specs.Needs.{needed, needed_of_table};
 ghost use Rattle.stats_file_of_query.specs.Pairs.{pair_in_table};
 ghost use Rattle.stats_file_of_query.specs.Standing.{leaf_of_value, list_between, list_of_value};
 
-/// The pairs that queries need: two tables joined by X; two tables joined by X where S.Y is compared twice; one table whose X is compared; and some
-/// filter columns with some joined columns.
+/// The pairs that three queries need: two tables joined by X; two tables joined by X where S.Y is compared twice; one table whose X is compared. The
+/// last clauses compute the pairs between given filter columns and joined columns.
 pub fn small_needs()
     ensures joined { needed pair 0 ≡ column_pair 0 0 ∷ [] }
     ensures filtered { needed filtered_pair 1 ≡ column_pair 1 0 ∷ [] }
@@ -23,8 +23,8 @@ pub fn small_needs()
         ≡ column_pair 2 0 ∷ column_pair 2 3 ∷ column_pair 1 0 ∷ column_pair 1 3 ∷ [] }
 {}
 
-/// The pair of X with itself, where X has the values 1, 1, 1, 2, 2, 3: the lists of all rows, of the frequent values and of the rest; the leaf of 2;
-/// and the lists for a value, for a value that no row has, and for a range.
+/// The statistics of the pair of X with itself, where X has the values 1, 1, 1, 2, 2, 3. The clauses compute the list of all rows, the frequent
+/// values' lists and the rest list; the leaf of 2; and the lists of a value, of a value that no row has, and of a range.
 pub fn small_files()
     ensures whole { (pair_in_table (rows_of (1 ∷ 1 ∷ 1 ∷ 2 ∷ 2 ∷ 3 ∷ [])) 1 0 0 0).whole ≡ 3 ∷ 3 ∷ [] }
     ensures frequent { (pair_in_table (rows_of (1 ∷ 1 ∷ 1 ∷ 2 ∷ 2 ∷ 3 ∷ [])) 1 0 0 0).frequent
@@ -34,7 +34,7 @@ pub fn small_files()
     ensures value { list_of_value (pair_in_table (rows_of (1 ∷ 1 ∷ 1 ∷ 2 ∷ 2 ∷ 3 ∷ [])) 1 0 0 0) (Int (pos 1)) ≡ 3 ∷ [] }
     ensures absent { list_of_value (pair_in_table (rows_of (1 ∷ 1 ∷ 1 ∷ 2 ∷ 2 ∷ 3 ∷ [])) 1 0 0 0) (Int (pos 9)) ≡ [] }
     ensures range { list_between (pair_in_table (rows_of (1 ∷ 1 ∷ 1 ∷ 2 ∷ 2 ∷ 3 ∷ [])) 1 0 0 0) (Some (Int (pos 2))) None ≡ 2 ∷ 1 ∷ [] }
-    // the file of a join has both tables, each with its pair. The file of one table has the pair of the filter column with itself
+    // the file of a join has both tables, each with one pair. The file of a query over one table has the pair of the filter column with itself
     ensures tables { map (λ section. section.table) (file_of_query schema_of_pair pair (rows_of (1 ∷ [])) 1).tables ≡ 0 ∷ 1 ∷ [] }
     ensures pairs { map (λ section. length section.pairs) (file_of_query schema_of_pair pair (rows_of []) 1).tables ≡ 1 ∷ 1 ∷ [] }
     ensures one { map (λ section. section.rows) (file_of_query schema_of_one one_value (rows_of (1 ∷ 2 ∷ 3 ∷ [])) 1).tables ≡ 3 ∷ [] }

@@ -1,5 +1,6 @@
 //! Makes the statistics file of a query.
 ghost use Rattle.std.specs.Prelude.{◌≡◌, ◌≤◌, IfOk, length};
+ghost use Rattle.limits.specs.Profile.{most_entries};
 ghost use Rattle.join_graph.specs.Conjuncts.{equalities_of, local_of};
 ghost use Rattle.sql_meaning.specs.Tables.{tables_of};
 ghost use Rattle.stats_file.specs.Rules.{KeepsRules};
@@ -17,9 +18,9 @@ use schema_types::Schema;
 use stats_file::{StatsFile, TableStats};
 use std::alloc::Global;
 
-// The first FROM entry of a table, if the query names the table.
+// The first FROM entry that is this table, if the query names the table.
 fn first_entry(query: &Query, table: u32) -> Option<u8>
-    requires { length query.now.from ≤ 12 }
+    requires { length query.now.from ≤ most_entries }
     ensures { result ≡ first_entry query.now table }
 {
     for entry in 0..query.from.len() as u8 {
@@ -54,9 +55,9 @@ fn sections_of(
     Ok(sections)
 }
 
-/// The statistics of a query's tables that its bounds need, compressed at an accuracy (SafeBound, SIGMOD 2023). Each table that the
-/// query names has a section, in the schema's order. The section has the number of rows, and all lists of each pair of columns that an entry of this
-/// table needs. If memory runs out, nothing is kept.
+/// The statistics that a query's bounds need, made from its tables and compressed at an accuracy (SafeBound, SIGMOD 2023). Each table that the query
+/// names has a section, in the schema's order. The section has the number of rows, and all lists of each pair of columns that an entry of this table
+/// needs. If memory runs out, nothing is kept.
 pub fn stats_of(
     alloc: Global,
     schema: &Schema,
@@ -71,7 +72,7 @@ pub fn stats_of(
     // no bound that is made from the file is too low
     ensures stands { IfOk result (λ file. StandsFor query.now file (tables_of db.now)) }
 {
-    // this call lets the proof use what is known of the pool's texts
+    // this call gives the proof the contract of `len`: facts about the pool's texts
     let _ = db.pool.len();
     let parts = split(alloc, query)?;
     let tables = sections_of(alloc, schema, query, &parts, db, accuracy)?;

@@ -1,4 +1,4 @@
-//! Which columns of an entry the query compares with literals: its filter columns.
+//! Finds the filter columns of an entry: the columns that the query compares with literals.
 ghost use Rattle.std.specs.Prelude.{◌≡◌, ◌==◌, IfOk, OnOk};
 ghost use Rattle.std.specs.List.{filter_map, list_any};
 ghost use Rattle.degree_sequences.specs.Degrees.{different};
@@ -17,7 +17,7 @@ fn has(columns: &[u32], column: u32) -> bool
     columns.iter().any(|other| column == *other)
 }
 
-// Adds the column, if there is one, at the end of the list, unless the list has it already.
+// Adds the column at the end of the list, if there is a column and the list doesn't have it yet.
 fn add(columns: &mut Seq<u32>, column: Option<u32>) -> Result<(), NoMemory>
     ensures { OnOk result (columns.new ≡ with_column columns.old column) }
 {
@@ -30,7 +30,7 @@ fn add(columns: &mut Seq<u32>, column: Option<u32>) -> Result<(), NoMemory>
     columns.push(column)
 }
 
-/// The columns that steps compare with literals, each once, in the order of the first steps that name them.
+/// The columns that steps compare with literals, each once. They are in the order of the steps that name them first.
 pub(crate) fn filters_of(alloc: Global, steps: &[Step]) -> Result<Seq<u32>, NoMemory>
     ensures { IfOk result (λ columns. columns ≡ different (filter_map column_asked steps.now)) }
 {

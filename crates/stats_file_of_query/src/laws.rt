@@ -1,4 +1,4 @@
-//! Laws of the statistics file of a query. The contract of a function is the law; the function does nothing.
+//! Laws of the statistics file of a query. Each function does nothing; its contract is the law.
 ghost use Rattle.std.specs.Prelude.{◌<◌, ◌≤◌, ℕ};
 ghost use Rattle.csv_tables.specs.declared.types.Database.{Database};
 ghost use Rattle.query_types.specs.declared.types.Query.{Query};

@@ -1,11 +1,11 @@
-//! Says for which pairs of a filter column and a joined column a query needs statistics, and makes the file of these statistics. For each table of
-//! the query the file has the number of rows, and for each needed pair all lists.
+//! Finds the pairs of a filter column and a joined column of which a query needs statistics, and makes a file of them. For each table of the query
+//! the file has the number of rows, and for each needed pair all lists.
 //!
 //! In: a query over its schema, and its database. Out: a `StatsFile`, whose text `write_stats` of stats_file writes. A filter column is sorted once
 //! for all joined columns with which it makes needed pairs.
 //!
-//! Callers cite `needs_of`, `pairs_of` and `needed` (in `specs/Needs.antt`) for what an entry needs, `file_of_query` (in `specs/Files.antt`)
-//! for the file, and `StandsFor` (in `specs/Standing.antt`) for when a file stands for tables.
+//! In contracts `needs_of`, `pairs_of` and `needed` (in `specs/Needs.antt`) say what an entry needs, and `file_of_query` (in `specs/Files.antt`) is
+//! the file. `StandsFor` (in `specs/Standing.antt`) says when a file stands for tables.
 //!
 //! ```text
 //! let needs = needs_of(alloc, steps, equalities, 0)?;                    // needs ≡ needs_of query 0

@@ -1,4 +1,4 @@
-//! The columns and the pairs of columns of which an entry needs statistics.
+//! The columns and pairs of columns of which an entry needs statistics.
 ghost use Rattle.std.specs.Prelude.{◌≡◌, ◌++◌, IfOk, OnOk, map};
 ghost use Rattle.std.specs.List.{filter_map};
 ghost use Rattle.degree_sequences.specs.Degrees.{different};
@@ -13,8 +13,8 @@ use gathered_stats::joined_columns;
 use predicate_bounds::Step;
 use std::alloc::Global;
 
-/// The columns of a FROM entry, each once: `filters` has the columns that the entry's own conjuncts compare with literals, and `joined` the columns that
-/// equalities join.
+/// The columns of a FROM entry, each once: `filters` has the columns that the entry's own conjuncts compare with literals, and `joined` the columns
+/// that equalities join.
 #[derive(Drop)]
 pub struct Needs {
     pub filters: Seq<u32>,
@@ -50,8 +50,8 @@ fn add_with_each(filter: u32, joined: &[u32], pairs: &mut Seq<ColumnPair>) -> Re
 impl Needs {
     ghost use Rattle.stats_file_of_query.specs.Needs.{pairs_of};
 
-    /// Appends the pairs that the entry needs: each filter column with each joined column. If the entry has no filter columns or no joined columns, it
-    /// needs each column with itself.
+    /// Appends the pairs that the entry needs: each filter column with each joined column. An entry without filter columns needs each joined column
+    /// with itself. An entry without joined columns needs each filter column with itself.
     pub fn add_pairs(&self, pairs: &mut Seq<ColumnPair>) -> Result<(), NoMemory>
         ensures { OnOk result (pairs.new ≡ pairs.old ++ pairs_of self.now) }
     {
@@ -68,7 +68,7 @@ impl Needs {
     }
 }
 
-/// The columns of which an entry needs statistics, by the steps of its own conjuncts and the equalities of its query.
+/// The columns of which an entry needs statistics. They follow from the steps of its own conjuncts and from the equalities of its query.
 pub fn needs_of(
     alloc: Global,
     steps: &[Step],

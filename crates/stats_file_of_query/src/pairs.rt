@@ -1,4 +1,4 @@
-//! The statistics of pairs of columns, and of all needed pairs of one filter column.
+//! Makes the statistics of a pair of columns, and of all needed pairs of one filter column.
 ghost use Rattle.std.specs.Prelude.{◌≡◌, ◌++◌, ◌<◌, ◌^◌, All, IfOk, OnOk, length, map};
 ghost use Rattle.std.specs.List.{filter, list_any, range_with_len};
 ghost use Rattle.gathered_stats.specs.Filters.{IsColumnIn};
@@ -25,7 +25,7 @@ pub(crate) fn row_count(cells: &Cells) -> u32
 }
 
 // The statistics of a sorted filter column for a joined column.
-fn pair_of(
+fn pair_stats_of(
     alloc: Global,
     pool: &Pool,
     cells: &Cells,
@@ -80,10 +80,10 @@ pub fn pair_of_columns(
     let kind = *cells.kinds.get(filter as usize);
     let values = cells.columns.get(filter as usize).as_slice();
     let sorted = FilterColumn::new(alloc, pool, kind, values)?;
-    pair_of(alloc, pool, cells, &sorted, filter, joined, accuracy)
+    pair_stats_of(alloc, pool, cells, &sorted, filter, joined, accuracy)
 }
 
-// Whether the pair of two columns is needed.
+// Whether `needed` has the pair of these two columns.
 fn has(needed: &[ColumnPair], filter: u32, joined: u32) -> bool
     ensures { result ≡ list_any (is_pair filter joined) needed.now }
 {
@@ -132,13 +132,13 @@ fn add_each(
         cells.columns.get(filter as usize).as_slice(),
     )?;
     for column in joined {
-        pairs.push(pair_of(alloc, pool, cells, &sorted, filter, *column, accuracy)?)?;
+        pairs.push(pair_stats_of(alloc, pool, cells, &sorted, filter, *column, accuracy)?)?;
     }
     Ok(())
 }
 
-/// Appends the statistics of a filter column for each joined column with which it makes a needed pair, in ascending order. A column that isn't needed
-/// isn't sorted.
+/// Appends the statistics of a filter column for each joined column with which it makes a needed pair. The joined columns ascend. If there is no such
+/// joined column, the filter column isn't sorted.
 pub(crate) fn add_pairs(
     alloc: Global,
     pool: &Pool,

@@ -1,5 +1,6 @@
 //! Makes the section of a table in a query's file of statistics.
 ghost use Rattle.std.specs.Prelude.{◌≡◌, ◌++◌, ◌<◌, ◌≤◌, ◌^◌, IfOk, OnOk, length};
+ghost use Rattle.limits.specs.Profile.{most_entries};
 ghost use Rattle.join_graph.specs.Conjuncts.{equalities_of, local_of};
 ghost use Rattle.stats_file_of_query.specs.Needs.{needed, needed_of_table, table_of};
 ghost use Rattle.sql_meaning.specs.Databases.{AreCells, IsDatabaseOf};
@@ -46,14 +47,14 @@ pub(crate) fn table_of(query: &Query, entry: u8) -> u32
     query.from.get(usize::from(entry)).table
 }
 
-// The pairs that the FROM entries of a table need: the pairs of the first entry, then the pairs of the next entry. A pair may be in the list twice.
+// The pairs that the FROM entries of a table need, entry after entry. A pair may be in the list twice.
 fn needed_of_table(
     alloc: Global,
     query: &Query,
     parts: &Parts,
     table: u32,
 ) -> Result<Seq<ColumnPair>, NoMemory>
-    requires few { length query.now.from ≤ 12 }
+    requires few { length query.now.from ≤ most_entries }
     requires local { parts.now.local ≡ local_of query.now }
     requires equalities { parts.now.equalities ≡ equalities_of query.now }
     ensures { IfOk result (λ pairs. pairs ≡ needed_of_table query.now table) }
@@ -67,7 +68,7 @@ fn needed_of_table(
     Ok(pairs)
 }
 
-// The statistics of each needed pair, once, ascending by the filter column and then by the joined column.
+// The statistics of each needed pair, once. They ascend by the filter column, and for equal filter columns by the joined column.
 fn pairs_of(
     alloc: Global,
     pool: &Pool,

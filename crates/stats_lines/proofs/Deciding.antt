@@ -1,5 +1,5 @@
--- A decision says whether a proposition holds, with a proof of it or of its negation. To decide whether P holds for some value, all candidates are tried;
--- there are finitely many.
+-- A decision says whether a proposition holds, with a proof of it or of its negation. To decide whether P holds for some value, all candidates are
+-- tried; there are finitely many.
 use Rattle.std.proofs.Common.{◌≡◌, ◌⊎◌, inl, inr, ℕ, zero, suc, ◌<◌, ◌≤◌, Bool, true, false, List, [], ◌∷◌, ◌++◌, length, refl, ap, sym, subst, arith, Option, Some, None}
 use Rattle.std.specs.Prelude.{All, slice_get}
 use Rattle.std.specs.List.{AllByRecursion}
@@ -90,7 +90,7 @@ for_all {X = X} {P = P} one (x ∷ xs) = by (one x) (for_all {P = P} one xs)
     by (inl p) (inr fails) = inr (λ h. fails (λ k d lt. h (suc k) d (omega arith)))
     by (inr fails) ps = inr (λ h. fails (h 0 x (omega arith)))
 
--- if the list has no element at this index, the answer is yes
+-- whether the element at this index has the property. If the list has no element there, the decision is yes
 pub where_found : {X : Type 0} {P : X → Type 0} → ((x : X) → Decided (P x)) → (xs : List X) (place : ℕ) → Decided ((x : X) → slice_get xs place ≡ Some x → P x)
 where_found {X = X} {P = P} one xs place = by (slice_get xs place) refl
   where

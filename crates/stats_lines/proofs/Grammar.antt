@@ -1,4 +1,4 @@
--- The functions decide whether a word or a line is one of the grammar.
+-- Decides whether the grammar has a word or a line.
 use Rattle.std.proofs.Common.{◌≡◌, ◌≢◌, ◌⊎◌, inl, inr, ℕ, zero, suc, ◌≤◌, Bool, true, false, List, [], ◌∷◌, ◌++◌, length, length-append, refl, ap, sym, subst, ◌∙◌, arith}
 use Rattle.std.specs.Prelude.{codes}
 use Rattle.stats_file.specs.Grammar.{are_hex_pairs, is_numeral, AreRunWords, IsHexWord, IsListWord, IsNumeral, IsRunWord, IsSignedNumeral, IsValueWord}

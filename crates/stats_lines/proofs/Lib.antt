@@ -4,4 +4,4 @@ pub mod Grammar
 pub mod Places
 pub mod Next
 pub mod Steps
-pub mod Telling
+pub mod DecidedResults

@@ -1,4 +1,4 @@
--- The functions decide which values may come next in a draft (the part of a file that is read so far).
+-- Decides which values may come next in a draft (the part of a file that is read so far).
 use Rattle.std.proofs.Common.{◌≡◌, ◌≢◌, inl, inr, ℕ, suc, ◌-◌, ◌<◌, ◌≤◌, List, [], length, refl, ap, ◌∙◌, arith, Some}
 use Rattle.std.specs.Prelude.{slice_get, sum, decimal}
 use Rattle.std.specs.declared.cmp.Ordering.{Ordering}
@@ -14,7 +14,7 @@ use Rattle.stats_reading.specs.Drafts.{frequent_words, list_word, number_word, v
 use Rattle.stats_lines.proofs.Deciding.{decided_alike, at_most, below, both, for_all, is_there, less, not, same_number, same_numbers, where_found, Decided}
 use Rattle.stats_lines.proofs.Values.{list, same_value, value, Spelled}
 
--- if a line has one word, its second word is empty
+-- the words of a line that has only one word: the second word is empty
 abbrev alone : List ℕ → List ℕ × List ℕ
 alone word = (word, [])
 
@@ -24,7 +24,7 @@ two a b = (a, b)
 abbrev first_word : List ℕ × List ℕ → List ℕ
 first_word words = words.0
 
--- ---- values that may come after the earlier ones
+-- ---- decisions whether a value may come after the earlier values
 
 follows_whole : (s : Draft) (l : List ℕ) → Decided (WholeFollows s l)
 follows_whole s l =
@@ -85,7 +85,7 @@ is_whole s = by (less 0 s.section.rows) (both (same_number (length s.pair.cuts) 
     by (inl some) (inr fails) = inr (λ h. fails (h some))
     by (inr none) (inr fails) = inl (λ h. absurd (none h))
 
--- ---- the value that may come next and is spelled by given words
+-- ---- a search for the value that may come next and that given words spell
 
 pub next_accuracy : (word : List ℕ) → Decided (Spelled number_word MayBeAccuracy (word, []))
 next_accuracy word =

@@ -1,4 +1,4 @@
--- The functions decide which table or columns a word names. They find the index of the first earlier pair with the same filter or joined column.
+-- Decides which table or columns a word names. Finds the first earlier pair with the same filter column, and the first with the same joined column.
 use Rattle.std.proofs.Common.{◌≡◌, ◌≢◌, inl, inr, ℕ, zero, suc, ◌<◌, ◌≤◌, List, [], ◌∷◌, length, refl, ap, subst, ◌∙◌, arith, Option, Some, None}
 use Rattle.std.specs.Prelude.{All, slice_get, decimal}
 use Rattle.std.proofs.lemmas.Option.{slice_get_within}
@@ -59,8 +59,8 @@ some_table schema s (name, rows) = decided_alike to from (both (below {P = Named
 
 -- ---- pairs
 
-pub stands_before : (a b : PairStats) → Decided (ComesBefore a b)
-stands_before a b = either (less a.filter b.filter) (both (same_number a.filter b.filter) (less a.joined b.joined))
+pub comes_before : (a b : PairStats) → Decided (ComesBefore a b)
+comes_before a b = either (less a.filter b.filter) (both (same_number a.filter b.filter) (less a.joined b.joined))
 
 abbrev Later : Table → Draft → List ℕ × List ℕ → ℕ → ℕ → Type 0
 Later table s words filter joined = (hex_text (name_at table filter) ≡ words.0) × (hex_text (name_at table joined) ≡ words.1) × All (λ q. ComesBefore q (empty_pair filter joined)) s.section.pairs
@@ -69,7 +69,7 @@ later : (table : Table) (s : Draft) (words : List ℕ × List ℕ) (filter joine
 later table s words filter joined =
     decided_alike (λ h. (h.0, h.1.0, h.1.1)) (λ h. (h.0, (h.1, h.2)))
     (both (same_numbers (hex_text (name_at table filter)) words.0) (both (same_numbers (hex_text (name_at table joined)) words.1)
-    (for_all {P = λ q. ComesBefore q (empty_pair filter joined)} (λ q. stands_before q (empty_pair filter joined)) s.section.pairs)))
+    (for_all {P = λ q. ComesBefore q (empty_pair filter joined)} (λ q. comes_before q (empty_pair filter joined)) s.section.pairs)))
 
 abbrev MayBe : Table → Draft → ℕ × ℕ → Type 0
 MayBe table s c = MayBePair table s c.0 c.1

@@ -1,4 +1,4 @@
--- The functions decide what a line does to a draft (the part of a file that is read so far).
+-- Decides what a line does to a draft (the part of a file that is read so far).
 use Rattle.std.proofs.Common.{◌≡◌, ◌≢◌, inl, inr, ℕ, List, [], refl, subst, Option, Some, None}
 use Rattle.std.specs.Prelude.{slice_get, Result, Ok, Err}
 use Rattle.schema_types.specs.declared.types.Schema.{Schema}
@@ -29,7 +29,7 @@ Outcome = Result (Unit {0}) Fault
 
 -- ---- the words of a line spell a value
 
--- a value that may come next and has these words is taken, which gives `draft`; if there is no such value, `result` is the fault
+-- some value that may come next has these words, and `draft` is the draft that takes it. If there is no such value, `result` is the fault
 record TakenOrNot {X : Type 0} (text : X → List ℕ × List ℕ) (MayBe : X → Type 0) (After : Draft → X → Type 0) (words : List ℕ × List ℕ) : Type 0 where
   draft : Draft
   result : Outcome
@@ -154,7 +154,7 @@ read at schema kind.Node s (a, b) =
     record { draft = r.draft; result = r.result; reads = r.is; some = r.some }
 read at schema kind.End s words = read_end at schema s words
 
--- ---- a whole line
+-- ---- a line with all its words
 
 pub record Step (schema : Schema) (s : Draft) (line : List ℕ) : Type 0 where
   pub draft : Draft

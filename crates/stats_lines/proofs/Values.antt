@@ -1,4 +1,4 @@
--- The functions decide whether a value keeps the rules, and find the value that a word spells.
+-- Decides whether a value keeps the rules, and finds the value that a word spells.
 use Rattle.std.proofs.Common.{◌≡◌, inl, inr, ℕ, zero, suc, ◌^◌, ◌<◌, ◌≤◌, List, [], ◌∷◌, length, ap, arith}
 use Rattle.std.specs.Prelude.{All, sum, ℤ, pos, negsuc, IsUtf8, decimal}
 use Rattle.std.specs.List.{flat_map}

@@ -5,10 +5,10 @@ ghost use Rattle.schema_types.specs.Validity.{IsValid};
 ghost use Rattle.stats_file.specs.declared.types.StatsError.{StatsError};
 ghost use Rattle.stats_file.specs.declared.types.StatsError.TheVariants as error;
 ghost use Rattle.stats_file.specs.declared.types.StatsFile.{StatsFile};
-ghost use Rattle.stats_file.specs.Answers.{Answers};
+ghost use Rattle.stats_file.specs.Answers.{IsAllowedResult};
 
-/// Over a valid schema every text has an answer other than that memory ran out.
+/// Over a valid schema, each text has some result other than that memory ran out.
 pub fn texts_are_answered()
     ensures { (schema : Schema) (text : List ℕ) → IsValid schema
-        → (answer : Result StatsFile StatsError) × Answers schema text answer × (answer ≢ Err error.NoMemory) }
+        → (answer : Result StatsFile StatsError) × IsAllowedResult schema text answer × (answer ≢ Err error.NoMemory) }
 {}

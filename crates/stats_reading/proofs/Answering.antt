@@ -1,4 +1,4 @@
--- If the words of a line are read as `WordsAreRead` says, the answer to the line is right for every file and text that may follow.
+-- If the words of a line are read as `WordsAreRead` says, the result for the line satisfies its contract (`LineAnswers`).
 use Rattle.std.proofs.Common.{◌≡◌, ◌≢◌, inl, ℕ, List, [], ◌∷◌, refl, ap, sym, subst, ◌∙◌, arith, Option, Some, None}
 use Rattle.std.specs.Prelude.{⊤, codes, Result, Ok, Err}
 use Rattle.std.proofs.lemmas.Option.{slice_get_within}
@@ -27,7 +27,7 @@ use Rattle.stats_reading.proofs.Stepping.{cut_goes, ended, frequent_goes, kind_l
 use Rattle.stats_reading.proofs.Tags.{tag}
 use Rattle.stats_reading.proofs.BeginsAndEnds.{end_line_goes, ends_in_cuts, ends_in_nodes, ends_in_pairs, ends_in_tables, first_goes, pair_goes, table_goes, table_in_cuts, table_in_nodes, table_in_pairs, PairEnding}
 
--- ---- files that may follow
+-- ---- what the result for a line says of files that may follow
 
 abbrev FilesGoAt : Option Stage → Stage → Schema → Draft → Draft → List ℕ → Result (Unit {0}) Fault → Type 0
 FilesGoAt None at schema s t line r = ⊤
@@ -93,7 +93,7 @@ files_at stage.Nodes kind.End schema s t a b l r good valid is h =
     (not_tag kind.End a b l 112 is (λ e. absurd (omega (arith, e))))) is h
 files_at _ _ schema s t a b l r good valid is h = tt
 
--- ---- lines that may follow in texts of the grammar
+-- ---- what the result for a line says of texts of the grammar that may follow
 
 abbrev last : List (List ℕ)
 last = codes "end\n" ∷ []
@@ -124,12 +124,12 @@ some_text stage.Cuts = (last, text_back stage.Cuts kind.End (codes "end\n") [] r
 some_text stage.Nodes = (last, text_back stage.Nodes kind.End (codes "end\n") [] refl refl)
 some_text stage.Done = ([], refl)
 
--- ---- the answer to a line
+-- ---- the result for a line
 
 abbrev pub staged : Draft → Stage → Draft
 staged t next = record t { stage = next }
 
--- the draft itself names a stage too, but the remaining lines don't depend on it
+-- the draft has a stage of its own, but the remaining lines don't depend on that stage
 file_staged : (schema : Schema) (t : Draft) (x y : Stage) (file : StatsFile) (more : List (List ℕ)) → InFile schema (staged t x) file more → InFile schema (staged t y) file more
 file_staged schema t x y file more h = record { tables = h.tables; keeps = h.keeps; is = h.is; all = h.all }
 
@@ -238,7 +238,7 @@ answered schema s t k next a b l r good valid is to h =
     by_result schema s t k next a b l r is to
     (subst (λ (o : Option Stage). FilesGoAt o s.stage schema s t (ended l) r) to (files_at s.stage k schema s t a b l r good valid is h))
 
--- if a line is refused, the answer says nothing of the new draft
+-- if a line is refused, its result says nothing of the new draft
 pub any_draft : (schema : Schema) (s t u : Draft) (line : List ℕ) (e : Fault) → LineAnswers schema s t line (Err e) → LineAnswers schema s u line (Err e)
 any_draft schema s t u line fault.Syntax h = h
 any_draft schema s t u line fault.Rule h = h

@@ -1,4 +1,4 @@
--- If a list is two lists appended, the lemmas carry properties of the whole list to the two lists, and back.
+-- If a list is two lists appended, a property of its elements holds in both lists, and the reverse.
 use Rattle.std.proofs.Common.{◌≡◌, ◌⊎◌, inl, inr, ℕ, zero, suc, ◌<◌, List, [], ◌∷◌, ◌++◌, length, length-append, get_or, map, refl, ap, sym, subst, ◌∙◌, arith, Option, Some}
 use Rattle.std.specs.Prelude.{All, AllPairs, slice_get}
 use Rattle.std.proofs.lemmas.List.{get_or_append_left}
@@ -62,7 +62,7 @@ map_get f [] i y is = absurd (cc)
 map_get f (z ∷ xs) zero y is = let same : f z ≡ y = cc in (z, refl, same)
 map_get f (z ∷ xs) (suc i) y is = map_get f xs i y is
 
--- ---- equal lists of lines
+-- ---- equal lists of lines, if one of them begins with lines for the elements of a list
 
 pub record FromMap {X : Type 0} (f : X → List ℕ) (xs : List X) (line : List ℕ) (more after : List (List ℕ)) : Type 0 where
   pub head : X

@@ -1,4 +1,4 @@
--- Pairs and tables ascend, so a comparison with the last one tells whether a new one comes after all of them.
+-- Pairs and tables ascend. So a new pair or table comes after all earlier ones exactly if it comes after the last.
 use Rattle.std.proofs.Common.{◌≡◌, ◌≢◌, ◌↔◌, ℕ, ◌-◌, ◌<◌, ◌≤◌, ◌==◌, false, inl, inr, List, [], length, get_or, sym, subst, arith, append-nil}
 use Rattle.std.specs.Prelude.{All, AllPairs}
 use Rattle.std.proofs.lemmas.Bool.{eqb-false}
@@ -12,7 +12,7 @@ use Rattle.stats_reading.specs.declared.stages.Stage.TheVariants as stage
 use Rattle.stats_reading.specs.Drafts.{empty_pair, pair_ended, table_ended, IsPlaceOf, PairsAscend, TablesAscend}
 use Rattle.stats_reading.specs.Remaining.{file_of_draft}
 use Rattle.stats_reading.specs.Steps.{PairEnds, TableEnds}
-use Rattle.stats_reading.specs.Valid.{IsValidDraft, IsValidTable}
+use Rattle.stats_reading.specs.Valid.{IsValidDraft, IsValidSection}
 use Rattle.stats_reading.proofs.Begun.{pair_ended_valid, table_ended_valid}
 use Rattle.stats_reading.proofs.OrderFacts.{last_tells}
 use Rattle.stats_reading.proofs.RuleFacts.{section_at}
@@ -76,16 +76,16 @@ later_than_last_table tables place d some ascend = (
 
 -- ---- the complete pairs and tables of a valid draft ascend
 
-pairs_of_table : (schema : Schema) (s : Draft) → IsValidTable schema s → PairsAscend s
+pairs_of_table : (schema : Schema) (s : Draft) → IsValidSection schema s → PairsAscend s
 pairs_of_table schema s v = subst (AllPairs ComesBefore) (append-nil s.section.pairs) (section_at schema s [] [] v.keeps).order
 
 tables_of_file : (schema : Schema) (s : Draft) → KeepsRules schema (file_of_draft s []) → TablesAscend s
 tables_of_file schema s keeps = subst (AllPairs (λ (a b : TableStats). a.table < b.table)) (append-nil s.tables) keeps.order
 
-ended_pairs : (schema : Schema) (s m : Draft) → IsValidTable schema (pair_ended s) → m ≡ pair_ended s → IsValidTable schema m
-ended_pairs schema s m v e = subst (IsValidTable schema) (sym e) v
+ended_pairs : (schema : Schema) (s m : Draft) → IsValidSection schema (pair_ended s) → m ≡ pair_ended s → IsValidSection schema m
+ended_pairs schema s m v e = subst (IsValidSection schema) (sym e) v
 
-ended_tables : (schema : Schema) (s m : Draft) → IsValidTable schema s → m ≡ table_ended s → TablesAscend m
+ended_tables : (schema : Schema) (s m : Draft) → IsValidSection schema s → m ≡ table_ended s → TablesAscend m
 ended_tables schema s m v e = subst TablesAscend (sym e) (tables_of_file schema (table_ended s) (table_ended_valid schema s v))
 
 pub pairs_ascend_in_pairs : (schema : Schema) (s : Draft) → IsValidDraft stage.Pairs schema s → (m : Draft) → PairEnds stage.Pairs s m → PairsAscend m
@@ -101,7 +101,7 @@ pub tables_ascend_in_tables : (schema : Schema) (s : Draft) → IsValidDraft sta
 tables_ascend_in_tables schema s v m e = subst TablesAscend (sym e) (tables_of_file schema s v)
 
 pub tables_ascend_in_pairs : (schema : Schema) (s : Draft) → IsValidDraft stage.Pairs schema s → (m : Draft) → TableEnds stage.Pairs s m → TablesAscend m
-tables_ascend_in_pairs schema s v m (u, ends, e) = ended_tables schema u m (subst (IsValidTable schema) (sym ends) v) e
+tables_ascend_in_pairs schema s v m (u, ends, e) = ended_tables schema u m (subst (IsValidSection schema) (sym ends) v) e
 
 pub tables_ascend_in_cuts : (schema : Schema) (s : Draft) → IsValidDraft stage.Cuts schema s → (m : Draft) → TableEnds stage.Cuts s m → TablesAscend m
 tables_ascend_in_cuts schema s v m (u, ends, e) = ended_tables schema u m (ended_pairs schema s u (pair_ended_valid schema s v ends.0) ends.1) e

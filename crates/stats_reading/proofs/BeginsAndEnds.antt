@@ -1,4 +1,4 @@
--- At some lines a table or a pair begins, and the table or pair before it ends.
+-- Some lines begin a table or a pair, and end the table or pair before it.
 use Rattle.std.proofs.Common.{◌≡◌, ◌≢◌, ◌↔◌, ℕ, zero, suc, ◌<◌, ◌≤◌, List, [], ◌∷◌, ◌++◌, length, get_or, map, refl, ap, sym, subst, ◌∙◌, arith, Option, Some, None}
 use Rattle.std.specs.Prelude.{slice_get, codes, decimal, Result}
 use Rattle.std.proofs.lemmas.Fmt.{decimal_injective}
@@ -22,7 +22,7 @@ use Rattle.stats_reading.specs.IsTaken.{BeginsPairOf, BeginsTable}
 use Rattle.stats_reading.specs.Kinds.{IsLineOf}
 use Rattle.stats_reading.specs.Remaining.{file_of_draft, FileRemaining, InFile, InTable}
 use Rattle.stats_reading.specs.Steps.{Ends, EndsAnd, PairEnds, TableEnds}
-use Rattle.stats_reading.specs.Valid.{IsValidDraft, IsValidTable}
+use Rattle.stats_reading.specs.Valid.{IsValidDraft, IsValidSection}
 use Rattle.stats_reading.proofs.Begun.{pair_begun_valid, pair_ended_valid, table_begun_valid, table_ended_valid}
 use Rattle.stats_reading.proofs.Counts.{tri, Tri}
 use Rattle.stats_reading.proofs.Counts.Tri.{before, same, behind}
@@ -60,7 +60,7 @@ one_place {X} name xs i j x y differ at_x at_y e = by (tri i j)
 -- a line that is neither a cut nor a node ends the current pair, if there is one
 pub record PairEnding (at : Stage) (schema : Schema) (s : Draft) (line : List ℕ) : Type 0 where
   pub ends : EndsBefore (PairEnds at s) (FileRemaining at schema s) (InTable schema) line
-  pub valid : (m : Draft) → PairEnds at s m → IsValidTable schema m
+  pub valid : (m : Draft) → PairEnds at s m → IsValidSection schema m
 
 pub record TableEnding (at : Stage) (schema : Schema) (s : Draft) (line : List ℕ) : Type 0 where
   pub ends : EndsBefore (TableEnds at s) (FileRemaining at schema s) (InFile schema) line
@@ -75,7 +75,7 @@ ends_in_pairs schema s line valid = record {
     may = λ file more h. (s, refl);
     same = λ m e file more. moved (λ (x : Draft). InTable schema x file (line ∷ more)) s m e;
   };
-  valid = λ m e. subst (IsValidTable schema) (sym e) valid;
+  valid = λ m e. subst (IsValidSection schema) (sym e) valid;
 }
 
 pub ends_in_cuts : (schema : Schema) (s : Draft) (line : List ℕ) → IsValidDraft stage.Cuts schema s → tag line ≢ 99 → tag line ≢ 110 → PairEnding stage.Cuts schema s line
@@ -87,7 +87,7 @@ ends_in_cuts schema s line valid no_cut no_node = record {
       λ h. weaker schema s file (line ∷ more) (pair_reopens schema s file (line ∷ more) (subst (λ (x : Draft). InTable schema x file (line ∷ more)) e.1 h)),
     );
   };
-  valid = λ m e. subst (IsValidTable schema) (sym e.1) (pair_ended_valid schema s valid e.0);
+  valid = λ m e. subst (IsValidSection schema) (sym e.1) (pair_ended_valid schema s valid e.0);
 }
 
 pub ends_in_nodes : (schema : Schema) (s : Draft) (line : List ℕ) → IsValidDraft stage.Nodes schema s → tag line ≢ 99 → tag line ≢ 110 → PairEnding stage.Nodes schema s line
@@ -99,7 +99,7 @@ ends_in_nodes schema s line valid no_cut no_node = record {
       λ h. pair_reopens schema s file (line ∷ more) (subst (λ (x : Draft). InTable schema x file (line ∷ more)) e.1 h),
     );
   };
-  valid = λ m e. subst (IsValidTable schema) (sym e.1) (pair_ended_valid schema s (weaker_valid schema s valid) e.0);
+  valid = λ m e. subst (IsValidSection schema) (sym e.1) (pair_ended_valid schema s (weaker_valid schema s valid) e.0);
 }
 
 pub ends_in_tables : (schema : Schema) (s : Draft) (line : List ℕ) → IsValidDraft stage.Tables schema s → TableEnding stage.Tables schema s line
@@ -163,7 +163,7 @@ pub table_goes : (at : Stage) (schema : Schema) (s t : Draft) (a b l : List ℕ)
 table_goes at schema s t a b l r good ending is begins =
     then_goes ending.ends (BeginsTable schema t (a, b)) (FileRemaining stage.Pairs schema t) (IsValidDraft stage.Pairs schema t) r begins
     (λ m may takes. step_goes (step m) (IsValidDraft stage.Pairs schema t) r takes
-    (λ v may_be e. subst (IsValidTable schema) (sym e) (table_begun_valid schema m v (ending.valid m may) may_be)))
+    (λ v may_be e. subst (IsValidSection schema) (sym e) (table_begun_valid schema m v (ending.valid m may) may_be)))
   where
     step : (m : Draft) → IsStep line_of_table table_words (MayBeTable schema m) (λ v. t ≡ with_section m v) (InFile schema m) (InTable schema t) (ended l) (a, b)
     step m = record {

@@ -1,4 +1,4 @@
--- A valid draft (one that some file which keeps the rules extends) stays valid when a table or a pair begins or ends.
+-- A valid draft stays valid when a table or a pair begins or ends. A draft is valid if some file that keeps the rules extends it.
 use Rattle.std.proofs.Common.{◌≡◌, ◌≢◌, ℕ, zero, suc, ◌^◌, ◌<◌, ◌≤◌, List, [], ◌∷◌, ◌++◌, length, get_or, replicate, refl, ap, sym, subst, ◌∙◌, arith, append-nil, Option, Some, None}
 use Rattle.std.specs.Prelude.{All, AllPairs, slice_get, sum, pos}
 use Rattle.std.specs.declared.cmp.Ordering.TheVariants.{Greater}
@@ -19,7 +19,7 @@ use Rattle.stats_file.specs.Rules.{datum_cmp, Agree, AreFrequent, HaveSameFilter
 use Rattle.stats_reading.specs.declared.draft.Draft.{Draft}
 use Rattle.stats_reading.specs.Drafts.{empty_pair, pair_ended, table_ended, AreSmall, BeginsPair, IsPlaceOf, HasAllNodes, MayBePair, MayBeTable, TableWithRows}
 use Rattle.stats_reading.specs.Remaining.{file_of_draft, frequent_lines, section_of, whole_line, CutsRemaining, WholeRemaining}
-use Rattle.stats_reading.specs.Valid.{IsValidPair, IsValidTable}
+use Rattle.stats_reading.specs.Valid.{IsValidPair, IsValidSection}
 use Rattle.stats_reading.proofs.Counts.{members_agree}
 use Rattle.stats_reading.proofs.Edges.{begun, ended_is, same_pair, table_is, with_section}
 use Rattle.stats_reading.proofs.Grown.{no_more, rules_of}
@@ -41,7 +41,7 @@ nodes_whole : (kind : Kind) (rows : ℕ) (cuts : List Datum) (front old : List (
 nodes_whole kind zero cuts front old (none, others) all = (nothing front old others).1
 nodes_whole kind (suc n) cuts front old is all = no_more front old (is.all ∙ sym (all (omega arith)))
 
-pub pair_ended_valid : (schema : Schema) (s : Draft) → IsValidPair (CutsRemaining s.pair) schema s → HasAllNodes s → IsValidTable schema (pair_ended s)
+pub pair_ended_valid : (schema : Schema) (s : Draft) → IsValidPair (CutsRemaining s.pair) schema s → HasAllNodes s → IsValidSection schema (pair_ended s)
 pair_ended_valid schema s v whole =
     let rules = rules_of (CutsRemaining s.pair) schema s v in
     let cuts = v.left.0 in
@@ -63,12 +63,12 @@ pair_ended_valid schema s v whole =
 
 -- ---- a table ends
 
-pub table_ended_valid : (schema : Schema) (s : Draft) → IsValidTable schema s → KeepsRules schema (file_of_draft (table_ended s) [])
+pub table_ended_valid : (schema : Schema) (s : Draft) → IsValidSection schema s → KeepsRules schema (file_of_draft (table_ended s) [])
 table_ended_valid schema s v = subst (KeepsRules schema) (table_is s []) v.keeps
 
 -- ---- a table begins
 
-pub table_begun_valid : (schema : Schema) (s : Draft) (v : TableWithRows) → KeepsRules schema (file_of_draft s []) → MayBeTable schema s v → IsValidTable schema (with_section s v)
+pub table_begun_valid : (schema : Schema) (s : Draft) (v : TableWithRows) → KeepsRules schema (file_of_draft s []) → MayBeTable schema s v → IsValidSection schema (with_section s v)
 table_begun_valid schema s v keeps may =
     let none : s.tables ++ [] ≡ s.tables = append-nil s.tables in
     let section = section_of (with_section s v) [] in
@@ -98,7 +98,7 @@ list_of_none rows = record { falls = λ r. omega arith; positive = λ k d lt. ab
 abbrev no_list : List ℕ
 no_list = []
 
--- the list of all rows if they all have the same joined value
+-- a list of all rows that a new pair may have: all rows have the same joined value
 abbrev all_rows : ℕ → List ℕ
 all_rows zero = []
 all_rows (suc n) = suc n ∷ []
@@ -114,7 +114,7 @@ all_rows_is (suc n) = (record { falls = falls; positive = positive; within = ome
     positive zero d lt = omega arith
     positive (suc k) d lt = absurd (omega arith)
 
--- a value of this kind; any would do
+-- some value of this kind
 abbrev some_value : Kind → Datum
 some_value kinds.Int = datum.Int (pos 0)
 some_value (kinds.Text most) = datum.Text []
@@ -132,7 +132,7 @@ some_tree_is kind rows = record {
   lists = all_same (IsList rows) 63 no_list (list_of_none rows);
 }
 
--- a new pair may go on with these lists after its list of all rows
+-- lists with which a new pair may go on after its list of all rows
 record RestOfPair (s : Draft) (kind : Kind) (rows filter joined : ℕ) (whole : List ℕ) : Type 0 where
   frequent : List (Datum × List ℕ)
   rest : List ℕ
@@ -191,7 +191,7 @@ copied table s kind filter joined place whole q is same agree at column = record
         → HaveSameFilterCounts (get_or s.section.pairs k d) (record { filter = filter; joined = joined; whole = whole; frequent = q.frequent; rest = q.rest; cuts = q.cuts; nodes = q.nodes })
     again k d h = record { values = h.values; totals = h.totals; rest = h.rest; cuts = h.cuts; nodes = h.nodes }
 
--- a new pair with this joined column may begin with this list of all rows
+-- a list of all rows with which a new pair with this joined column may begin
 record ListOfAllRows (s : Draft) (joined : ℕ) : Type 0 where
   whole : List ℕ
   is : IsList s.section.rows whole
@@ -232,7 +232,7 @@ counted table s column filter joined place whole exists are agree found = at (sl
         copied table s column.kind filter joined place whole q is
         (ap (λ (c : Column). c.kind) (same_some is.filter column (slice_get table.columns filter) column_is exists)) agree e same
 
-begun_valid : (schema : Schema) (table : Table) (s : Draft) (filter joined same_filter_at same_joined_at : ℕ) (column : Column) → IsValidTable schema s → slice_get schema.tables s.section.table ≡ Some table
+begun_valid : (schema : Schema) (table : Table) (s : Draft) (filter joined same_filter_at same_joined_at : ℕ) (column : Column) → IsValidSection schema s → slice_get schema.tables s.section.table ≡ Some table
     → MayBePair table s filter joined → slice_get table.columns filter ≡ Some column → IsPlaceOf (λ q. q.filter) filter s.section.pairs same_filter_at
     → IsPlaceOf (λ q. q.joined) joined s.section.pairs same_joined_at
     → IsValidPair (WholeRemaining (empty_pair filter joined)) schema (begun s filter joined column.kind same_filter_at same_joined_at)
@@ -274,7 +274,7 @@ begun_valid schema table s filter joined same_filter_at same_joined_at column v 
       keeps = with_pair schema table s p exists v.keeps of_pair;
     }
 
-pub pair_begun_valid : (schema : Schema) (table : Table) (s t : Draft) (filter joined : ℕ) → IsValidTable schema s → slice_get schema.tables s.section.table ≡ Some table
+pub pair_begun_valid : (schema : Schema) (table : Table) (s t : Draft) (filter joined : ℕ) → IsValidSection schema s → slice_get schema.tables s.section.table ≡ Some table
     → MayBePair table s filter joined → BeginsPair table s t filter joined → IsValidPair (WholeRemaining t.pair) schema t
 pair_begun_valid schema table s t filter joined v exists may b =
     subst (λ (x : Draft). IsValidPair (WholeRemaining x.pair) schema x) (sym b.whole)

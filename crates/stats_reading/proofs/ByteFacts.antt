@@ -1,4 +1,4 @@
--- If the column names of a valid schema consist of bytes, a file over this schema that keeps the rules consists of bytes too.
+-- If a file over a valid schema keeps the rules, it consists of bytes, provided that the schema's column names do.
 use Rattle.std.proofs.Common.{◌≡◌, ℕ, zero, suc, ◌<◌, ◌||◌, ◌==◌, true, List, [], ◌∷◌, get_or, subst, sym, arith}
 use Rattle.std.specs.Prelude.{All}
 use Rattle.std.specs.Char.{is_ascii_alphanumeric}

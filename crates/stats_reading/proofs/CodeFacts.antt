@@ -1,4 +1,4 @@
--- The lemmas say what the tests of the code mean for values, lists and words.
+-- What the code's tests of values, lists and words mean.
 use Rattle.std.proofs.Common.{◌≡◌, ◌↔◌, ℕ, suc, ◌<◌, arith, true, Bool, List, [], ◌∷◌, ◌++◌, length, get_or, refl, ap, sym, subst, ◌∙◌, Some, IsTrue}
 use Rattle.std.specs.Prelude.{slice_get, codes, Result}
 use Rattle.std.specs.declared.cmp.Ordering.{Ordering}

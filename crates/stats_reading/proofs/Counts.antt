@@ -1,5 +1,5 @@
--- Pairs of a table agree: those with the same filter column have the same counts, and those with the same joined column have the same list of all
--- rows.
+-- Pairs of a table agree. If they have the same filter column, their counts are the same. If they have the same joined column, their lists of all
+-- rows are the same.
 use Rattle.std.proofs.Common.{◌≡◌, ℕ, zero, suc, ◌<◌, List, length, get_or, refl, sym, subst, ◌∙◌, arith, Option, Some, None}
 use Rattle.std.specs.Prelude.{All, AllPairs, slice_get}
 use Rattle.std.proofs.lemmas.Option.{get_or_from_slice_get, slice_get_within}
@@ -8,7 +8,7 @@ use Rattle.stats_file.specs.declared.types.PairStats.{PairStats}
 use Rattle.stats_file.specs.Rules.{Agree, HaveSameFilterCounts}
 use Rattle.stats_reading.specs.declared.draft.Draft.{Draft}
 use Rattle.stats_reading.specs.Drafts.{HasSameFilter, HasSameJoined}
-use Rattle.stats_reading.specs.Valid.{IsKnown}
+use Rattle.stats_reading.specs.Valid.{HasKindAndIndexes}
 use Rattle.stats_reading.proofs.NextFacts.{twin_whole}
 use Rattle.stats_reading.proofs.RuleFacts.{PairRules}
 
@@ -55,7 +55,7 @@ members_agree pairs i j d e agree lt is = subst (λ (x : PairStats). Agree (get_
     at (behind h) = agree_back (get_or pairs j d) (get_or pairs i d) (agree j i d h lt)
 
 -- if an earlier pair has the filter column of p, `other` must have the counts of p too
-pub agrees_after : (table : Table) (s : Draft) (p other : PairStats) (rows : ℕ) → IsKnown table s → PairRules table rows s.section.pairs p → p.filter ≡ s.pair.filter
+pub agrees_after : (table : Table) (s : Draft) (p other : PairStats) (rows : ℕ) → HasKindAndIndexes table s → PairRules table rows s.section.pairs p → p.filter ≡ s.pair.filter
     → other.filter ≡ p.filter → other.joined ≡ p.joined → other.whole ≡ p.whole → ((q : PairStats) → HasSameFilter s q → HaveSameFilterCounts p other) → All (λ q. Agree q other) s.section.pairs
 agrees_after table s p other rows known rules at_filter same_filter same_joined same_whole counts k d lt =
     let q = get_or s.section.pairs k d in
@@ -70,7 +70,7 @@ agrees_after table s p other rows known rules at_filter same_filter same_joined 
     by_like e (Some same_filter_at) is = counts_too (get_or s.section.pairs k d) p other ((rules.agree k d lt).filter e) (counts same_filter_at is)
 
 -- if an earlier pair has the joined column of p, `list` must be its list of all rows
-pub agrees_whole : (table : Table) (s : Draft) (p : PairStats) (list : List ℕ) (rows : ℕ) → IsKnown table s → PairRules table rows s.section.pairs p → p.joined ≡ s.pair.joined
+pub agrees_whole : (table : Table) (s : Draft) (p : PairStats) (list : List ℕ) (rows : ℕ) → HasKindAndIndexes table s → PairRules table rows s.section.pairs p → p.joined ≡ s.pair.joined
     → ((q : PairStats) → HasSameJoined s q → q.whole ≡ list) → All (λ q. Agree q (record p { whole = list })) s.section.pairs
 agrees_whole table s p list rows known rules at_joined alike k d lt =
     let old = rules.agree k d lt in

@@ -1,4 +1,4 @@
--- Some lines begin or end a pair or a table. The lemmas say which lines of the file remain after such a line.
+-- The lines of a file that remain after a line that begins or ends a pair or a table.
 use Rattle.std.proofs.Common.{◌≡◌, ◌≢◌, ℕ, zero, suc, ◌<◌, List, [], ◌∷◌, ◌++◌, length, refl, ap, sym, subst, ◌∙◌, arith, append-nil, append_assoc, Some}
 use Rattle.std.specs.Prelude.{slice_get}
 use Rattle.std.proofs.lemmas.Option.{slice_get_within}

@@ -1,5 +1,5 @@
--- A step reads a line and makes the next draft. A line and the lines after it may follow a draft exactly if the lines after it may
--- follow the next draft.
+-- A step reads a line and makes the next draft. Lines that begin with this line may follow the draft exactly if those after it may follow the next
+-- draft.
 use Rattle.std.proofs.Common.{◌≡◌, ◌↔◌, inl, inr, ℕ, List, ◌∷◌, refl, sym, subst, ◌∙◌}
 use Rattle.std.specs.Prelude.{⊤, Result, Ok, Err}
 use Rattle.stats_file.specs.declared.types.StatsFile.{StatsFile}
@@ -19,15 +19,15 @@ Words = List ℕ × List ℕ
 abbrev pub two : List ℕ → List ℕ → Words
 two a b = (a, b)
 
--- reading `line` takes a value: a file goes on with this line exactly if it is the line of a value that may come next. The words of a line determine
--- the value
+-- reading `line` takes a value. A file continues with this line exactly if it is the line of a value that may come next. The words of a line
+-- determine the value
 pub record IsStep {X : Type 0} (line_of : X → List ℕ) (text : X → Words) (MayBe Then : X → Type 0) (Before Next : StatsFile → Lines → Type 0) (line : List ℕ) (words : Words) : Type 0 where
   pub opens : (file : StatsFile) (more : Lines) → Before file (line ∷ more) → IsLineOfNext line_of MayBe (λ v. Then v → Next file more) line
   pub closes : (v : X) (file : StatsFile) (more : Lines) → Then v → MayBe v → Next file more → Before file (line_of v ∷ more)
   pub same : (a b : X) → MayBe a → MayBe b → text a ≡ text b → a ≡ b
   pub spells : (v : X) → MayBe v → (line_of v ≡ line) ↔ (text v ≡ words)
 
--- what the answer to a line says of the files that are possible before the line and after it
+-- what the result for a line says of the files that are possible before the line and after it
 abbrev pub FilesGo : (StatsFile → Lines → Type 0) → (StatsFile → Lines → Type 0) → Type 0 → List ℕ → Result (Unit {0}) Fault → Type 0
 FilesGo Before After Valid line (Ok done) = ((file : StatsFile) (more : Lines) → Before file (line ∷ more) ↔ After file more) × Valid
 FilesGo Before After Valid line (Err fault.Syntax) = ⊥
@@ -55,7 +55,7 @@ step_goes step Valid (Err fault.Rule) none valid = λ file more b.
     none o.value o.may ((step.spells o.value o.may).0 (sym o.is))
 step_goes step Valid (Err fault.NoMemory) any valid = tt
 
--- something (a pair or a table) ends before this line in exactly one way, if it can end
+-- a pair or a table ends before this line. If it can end, it ends in exactly one way
 pub record EndsBefore (MayEnd : Draft → Type 0) (Before : StatsFile → Lines → Type 0) (Between : Draft → StatsFile → Lines → Type 0) (line : List ℕ) : Type 0 where
   pub may : (file : StatsFile) (more : Lines) → Before file (line ∷ more) → (m : Draft) × MayEnd m
   pub same : (m : Draft) → MayEnd m → (file : StatsFile) (more : Lines) → Before file (line ∷ more) ↔ Between m file (line ∷ more)

@@ -1,4 +1,4 @@
--- In a text of the grammar, only lines of some kinds may follow a line.
+-- In a text of the grammar, the kind of a line limits the kinds of the next line.
 use Rattle.std.proofs.Common.{◌≡◌, ◌⊎◌, inl, inr, ℕ, List, [], ◌∷◌, ◌++◌, ◌==◌, if◌then◌else◌, refl, ap, sym, subst, ◌∙◌, append_assoc, Option, Some, None}
 use Rattle.std.specs.Prelude.{codes}
 use Rattle.std.specs.List.{AllByRecursion, flat_map}
@@ -7,7 +7,7 @@ use Rattle.stats_reading.specs.declared.line.LineKind.{LineKind}
 use Rattle.stats_reading.specs.declared.line.LineKind.TheVariants as kind
 use Rattle.stats_reading.specs.declared.stages.Stage.{Stage}
 use Rattle.stats_reading.specs.declared.stages.Stage.TheVariants as stage
-use Rattle.stats_reading.specs.Kinds.{IsOfKind}
+use Rattle.stats_reading.specs.Kinds.{IsOfLineKind}
 use Rattle.stats_reading.specs.Stages.{next_stage, CutsRemaining, FrequentRemaining, Many, MayEnd, NodesRemaining, One, PairsRemaining, TablesRemaining, TextRemaining, TextLeftAt}
 use Rattle.stats_reading.proofs.Tags.{same_tag, tag}
 
@@ -44,7 +44,7 @@ tag_tells kind.End = refl
 pub kind_by_tag : (a b : LineKind) → tag_of a ≡ tag_of b → a ≡ b
 kind_by_tag a b e = let same : Some a ≡ Some b = sym (tag_tells a) ∙ ap with_tag e ∙ tag_tells b in cc
 
-pub tag_of_line : (k : LineKind) (line : List ℕ) → IsOfKind k line → tag line ≡ tag_of k
+pub tag_of_line : (k : LineKind) (line : List ℕ) → IsOfLineKind k line → tag line ≡ tag_of k
 tag_of_line kind.First line is = same_tag line (codes "safebound-stats 1 " ++ (is.word ++ codes "\n")) is.whole
 tag_of_line kind.Table line is = same_tag line (codes "table " ++ (is.first ++ (codes " " ++ (is.second ++ codes "\n")))) is.whole
 tag_of_line kind.Pair line is = same_tag line (codes "pair " ++ (is.first ++ (codes " " ++ (is.second ++ codes "\n")))) is.whole
@@ -55,7 +55,7 @@ tag_of_line kind.Cut line is = same_tag line (codes "cut " ++ (is.word ++ codes 
 tag_of_line kind.Node line is = same_tag line (codes "node " ++ (is.word ++ codes "\n")) is.whole
 tag_of_line kind.End line is = same_tag line (codes "end\n") is
 
-pub same_kind : (a b : LineKind) (line : List ℕ) → IsOfKind a line → IsOfKind b line → a ≡ b
+pub same_kind : (a b : LineKind) (line : List ℕ) → IsOfLineKind a line → IsOfLineKind b line → a ≡ b
 same_kind a b line is other = kind_by_tag a b (sym (tag_of_line a line is) ∙ tag_of_line b line other)
 
 -- ---- the first of the remaining lines
@@ -207,12 +207,12 @@ pairs_put line more is h =
       all = ap (λ (ls : List (List ℕ)). line ∷ ls) (behind ∙ ap (λ (ls : List (List ℕ)). h.line ∷ ls) (sym joined)) ∙ sym (append_assoc part (whole t.parts) t.others);
     }
 
--- ---- a step of the grammar
+-- ---- one line of a text of the grammar, and the stage after it
 
 abbrev GoesOn : Stage → List ℕ → List (List ℕ) → Type 0
-GoesOn at line more = (k : LineKind) × (IsOfKind k line × TextLeftAt (next_stage at k) more)
+GoesOn at line more = (k : LineKind) × (IsOfLineKind k line × TextLeftAt (next_stage at k) more)
 
-end_of : (line : List ℕ) (more : List (List ℕ)) → MayEnd (line ∷ more) → IsOfKind kind.End line × (more ≡ [])
+end_of : (line : List ℕ) (more : List (List ℕ)) → MayEnd (line ∷ more) → IsOfLineKind kind.End line × (more ≡ [])
 end_of line more e = (cc, cc)
 
 text_opens : (at : Stage) (line : List ℕ) (more : List (List ℕ)) → TextRemaining at (line ∷ more) → GoesOn at line more
@@ -277,10 +277,10 @@ to_tables lines h = record { parts = []; others = lines; parts_are = tt; next = 
 to_pairs : (lines : List (List ℕ)) → TablesRemaining lines → PairsRemaining lines
 to_pairs lines h = record { parts = []; others = lines; parts_are = tt; next = h; all = refl }
 
-ends_here : (line : List ℕ) (more : List (List ℕ)) → IsOfKind kind.End line → more ≡ [] → MayEnd (line ∷ more)
+ends_here : (line : List ℕ) (more : List (List ℕ)) → IsOfLineKind kind.End line → more ≡ [] → MayEnd (line ∷ more)
 ends_here line more is none = cc
 
-text_closes : (at : Stage) (k : LineKind) (line : List ℕ) (more : List (List ℕ)) → IsOfKind k line → TextLeftAt (next_stage at k) more → TextRemaining at (line ∷ more)
+text_closes : (at : Stage) (k : LineKind) (line : List ℕ) (more : List (List ℕ)) → IsOfLineKind k line → TextLeftAt (next_stage at k) more → TextRemaining at (line ∷ more)
 text_closes stage.Start kind.First line more is h = record {
   head = line;
   tables = h.parts;
@@ -307,13 +307,13 @@ text_closes stage.Nodes kind.Table line more is h = many_none (line ∷ more) (t
 text_closes stage.Nodes kind.End line more is h = many_none (line ∷ more) (to_pairs (line ∷ more) (to_tables (line ∷ more) (ends_here line more is h)))
 text_closes _ _ line more is h = absurd h
 
-pub text_step : (at : Stage) (k : LineKind) (line : List ℕ) (more : List (List ℕ)) → IsOfKind k line → TextRemaining at (line ∷ more) → TextLeftAt (next_stage at k) more
+pub text_step : (at : Stage) (k : LineKind) (line : List ℕ) (more : List (List ℕ)) → IsOfLineKind k line → TextRemaining at (line ∷ more) → TextLeftAt (next_stage at k) more
 text_step at k line more is h =
     let on = text_opens at line more h in
     subst (λ (x : LineKind). TextLeftAt (next_stage at x) more) (same_kind on.0 k line on.1.0 is) on.1.1
 
-pub text_back : (at : Stage) (k : LineKind) (line : List ℕ) (more : List (List ℕ)) → IsOfKind k line → TextLeftAt (next_stage at k) more → TextRemaining at (line ∷ more)
+pub text_back : (at : Stage) (k : LineKind) (line : List ℕ) (more : List (List ℕ)) → IsOfLineKind k line → TextLeftAt (next_stage at k) more → TextRemaining at (line ∷ more)
 text_back at k line more is h = text_closes at k line more is h
 
-pub no_text : (at : Stage) (line : List ℕ) (more : List (List ℕ)) → ((k : LineKind) → IsOfKind k line → ⊥) → TextRemaining at (line ∷ more) → ⊥
+pub no_text : (at : Stage) (line : List ℕ) (more : List (List ℕ)) → ((k : LineKind) → IsOfLineKind k line → ⊥) → TextRemaining at (line ∷ more) → ⊥
 no_text at line more none h = let on = text_opens at line more h in none on.0 on.1.0

@@ -1,4 +1,4 @@
--- A valid draft (one that some file which keeps the rules extends) stays valid when the next value is read into its current pair.
+-- A valid draft stays valid when the next value is read into its current pair. A draft is valid if some file that keeps the rules extends it.
 use Rattle.std.proofs.Common.{◌≡◌, ◌≢◌, ℕ, ◌<◌, ◌≤◌, List, [], ◌∷◌, ◌++◌, length, length-append, map, refl, ap, sym, subst, ◌∙◌, arith, append-nil, append_assoc, Option, Some, None}
 use Rattle.std.specs.Prelude.{All, AllPairs, slice_get, sum}
 use Rattle.std.proofs.lemmas.List.Quantifiers.{all_pairs_push}
@@ -11,7 +11,7 @@ use Rattle.stats_file.specs.Rules.{AreFrequent, HaveSameFilterCounts, IsList, Is
 use Rattle.stats_reading.specs.declared.draft.Draft.{Draft}
 use Rattle.stats_reading.specs.Drafts.{with_frequent, with_rest, with_whole, HasSameFilter, MayBeFrequent, MayBeRest, MayBeWhole}
 use Rattle.stats_reading.specs.Remaining.{file_of_draft, frequent_lines, section_of, histogram_lines, CutsRemaining, FrequentRemaining, WholeRemaining}
-use Rattle.stats_reading.specs.Valid.{IsKnown, IsValidPair}
+use Rattle.stats_reading.specs.Valid.{HasKindAndIndexes, IsValidPair}
 use Rattle.stats_reading.proofs.Counts.{agrees_after, agrees_whole}
 use Rattle.stats_reading.proofs.NextFacts.{kind_of_pair, like_counts, same_count}
 use Rattle.stats_reading.proofs.Replaced.{all_replaced, length_replaced, map_replaced, still_all, still_differ}
@@ -71,12 +71,12 @@ whole_grown schema s list v may =
       keeps = kept (WholeRemaining s.pair) schema s v p new;
     }
   where
-    known_again : (table : Table) → IsKnown table s → IsKnown table (with_whole s list)
+    known_again : (table : Table) → HasKindAndIndexes table s → HasKindAndIndexes table (with_whole s list)
     known_again table k = record { column = k.column; column_is = k.column_is; kind_is = k.kind_is; same_filter_at = k.same_filter_at; same_joined_at = k.same_joined_at }
 
 -- ---- frequent values
 
--- these frequent values may come after the next one
+-- frequent values that may come after the next one
 record Next (s : Draft) (p : PairStats) (f : Datum × List ℕ) (kind : Kind) : Type 0 where
   rest : List (Datum × List ℕ)
   are : AreFrequent kind s.section.rows (s.pair.frequent ++ f ∷ rest)
@@ -152,8 +152,8 @@ next_of s p f old kind same are is may counts = by_like (slice_get s.section.pai
     by_like None none = next_alone s p f old kind same are is may none
     by_like (Some q) same_filter_at = next_like s p q f old kind are is may same_filter_at (counts q same_filter_at)
 
--- a pair p that keeps the rules still keeps them if its frequent values and its list of the other values are exchanged for ones that keep them
-other_values : (table : Table) (s : Draft) (p : PairStats) (frequent : List (Datum × List ℕ)) (rest : List ℕ) → IsKnown table s → PairRules table s.section.rows s.section.pairs p
+-- a pair p keeps the rules, and other frequent values and another list of the other values keep them too. Then p with these lists keeps the rules
+other_values : (table : Table) (s : Draft) (p : PairStats) (frequent : List (Datum × List ℕ)) (rest : List ℕ) → HasKindAndIndexes table s → PairRules table s.section.rows s.section.pairs p
     → p.filter ≡ s.pair.filter → AreFrequent s.kind s.section.rows frequent → IsList s.section.rows rest
     → ((q : PairStats) → HasSameFilter s q → HaveSameFilterCounts p (record p { frequent = frequent; rest = rest }))
     → PairRules table s.section.rows s.section.pairs (record p { frequent = frequent; rest = rest })
@@ -207,7 +207,7 @@ frequent_grown schema s f v may =
           (other_values v.table s v.pair (s.pair.frequent ++ f ∷ next.rest) v.pair.rest v.known rules g.filter (subst (λ k. AreFrequent k s.section.rows (s.pair.frequent ++ f ∷ next.rest)) same next.are) rules.is.rest next.counts);
     }
   where
-    known_again : (table : Table) → IsKnown table s → IsKnown table (with_frequent s f)
+    known_again : (table : Table) → HasKindAndIndexes table s → HasKindAndIndexes table (with_frequent s f)
     known_again table k = record { column = k.column; column_is = k.column_is; kind_is = k.kind_is; same_filter_at = k.same_filter_at; same_joined_at = k.same_joined_at }
 
 -- ---- the list of the other values (those that aren't frequent)
@@ -259,7 +259,7 @@ rest_grown schema s list v may =
           (λ q same_filter_at. counted v.pair own.frequent g.frequent_is q same_filter_at (like_counts v.table s v.pair s.section.rows v.known rules g.filter q same_filter_at)));
     }
   where
-    known_again : (table : Table) → IsKnown table s → IsKnown table (with_rest s list)
+    known_again : (table : Table) → HasKindAndIndexes table s → HasKindAndIndexes table (with_rest s list)
     known_again table k = record { column = k.column; column_is = k.column_is; kind_is = k.kind_is; same_filter_at = k.same_filter_at; same_joined_at = k.same_joined_at }
 
     counted : (p : PairStats) (old : List (Datum × List ℕ)) → p.frequent ≡ s.pair.frequent ++ old → (q : PairStats) → HasSameFilter s q → HaveSameFilterCounts q p

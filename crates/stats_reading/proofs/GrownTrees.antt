@@ -1,4 +1,4 @@
--- A valid draft (one that some file which keeps the rules extends) stays valid when the next cut or node is read into its current pair.
+-- A valid draft stays valid when the next cut or node is read into its current pair. A draft is valid if some file that keeps the rules extends it.
 use Rattle.std.proofs.Common.{◌≡◌, ◌≢◌, ℕ, zero, suc, ◌-◌, ◌<◌, List, [], ◌∷◌, ◌++◌, length, length-append, map, replicate, refl, ap, sym, subst, ◌∙◌, arith, append_assoc, Option, Some, None}
 use Rattle.std.specs.Prelude.{All, AllPairs, slice_get, sum}
 use Rattle.std.specs.declared.cmp.Ordering.TheVariants.{Greater}
@@ -13,7 +13,7 @@ use Rattle.stats_file.specs.Rules.{datum_cmp, HaveSameFilterCounts, IsList, IsOf
 use Rattle.stats_reading.specs.declared.draft.Draft.{Draft}
 use Rattle.stats_reading.specs.Drafts.{with_cut, with_node, HasSameFilter, MayBeCut, MayBeNode}
 use Rattle.stats_reading.specs.Remaining.{histogram_lines, CutsRemaining, NodesRemaining}
-use Rattle.stats_reading.specs.Valid.{IsKnown, IsValidPair}
+use Rattle.stats_reading.specs.Valid.{HasKindAndIndexes, IsValidPair}
 use Rattle.stats_reading.proofs.Counts.{agrees_after}
 use Rattle.stats_reading.proofs.NextFacts.{kind_of_pair, like_counts}
 use Rattle.stats_reading.proofs.OrderFacts.{all_same, none_above, pairs_padded, value_itself}
@@ -24,7 +24,7 @@ use Rattle.stats_reading.proofs.Grown.{at_front, kept, no_more, rules_of}
 
 -- ---- cuts
 
--- these cuts may come after the next one
+-- cuts that may come after the next one
 record NextCut (s : Draft) (p : PairStats) (cut : Datum) (kind : Kind) : Type 0 where
   rest : List Datum
   is : IsHistogram kind s.section.rows (s.pair.cuts ++ cut ∷ rest) p.nodes
@@ -82,8 +82,8 @@ pub tree_back : (kind : Kind) (rows : ℕ) (cuts : List Datum) (nodes : List (Li
 tree_back kind zero cuts nodes some is = absurd (omega arith)
 tree_back kind (suc n) cuts nodes some is = is
 
--- a pair p that keeps the rules still keeps them if its cuts and nodes are exchanged for ones that keep them
-other_tree : (table : Table) (s : Draft) (p : PairStats) (cuts : List Datum) (nodes : List (List ℕ)) → IsKnown table s → (rules : PairRules table s.section.rows s.section.pairs p)
+-- a pair p keeps the rules, and other cuts and nodes keep them too. Then p with these cuts and nodes keeps the rules
+other_tree : (table : Table) (s : Draft) (p : PairStats) (cuts : List Datum) (nodes : List (List ℕ)) → HasKindAndIndexes table s → (rules : PairRules table s.section.rows s.section.pairs p)
     → p.filter ≡ s.pair.filter → 0 < s.section.rows → IsHistogram rules.is.filter.kind s.section.rows cuts nodes
     → ((q : PairStats) → HasSameFilter s q → HaveSameFilterCounts p (record p { cuts = cuts; nodes = nodes }))
     → PairRules table s.section.rows s.section.pairs (record p { cuts = cuts; nodes = nodes })
@@ -140,7 +140,7 @@ cut_grown schema s cut v may =
       keeps = kept (CutsRemaining s.pair) schema s v p (other_tree v.table s v.pair (s.pair.cuts ++ cut ∷ next.rest) v.pair.nodes v.known rules g.filter may.1.some next.is next.counts);
     }
   where
-    known_again : (table : Table) → IsKnown table s → IsKnown table (with_cut s cut)
+    known_again : (table : Table) → HasKindAndIndexes table s → HasKindAndIndexes table (with_cut s cut)
     known_again table k = record { column = k.column; column_is = k.column_is; kind_is = k.kind_is; same_filter_at = k.same_filter_at; same_joined_at = k.same_joined_at }
 
 -- ---- nodes
@@ -199,7 +199,7 @@ node_grown schema s node v may =
           (λ q same_filter_at. counted v.pair q old rest whole same_filter_at (like_counts v.table s v.pair s.section.rows v.known rules g.filter q same_filter_at)));
     }
   where
-    known_again : (table : Table) → IsKnown table s → IsKnown table (with_node s node)
+    known_again : (table : Table) → HasKindAndIndexes table s → HasKindAndIndexes table (with_node s node)
     known_again table k = record { column = k.column; column_is = k.column_is; kind_is = k.kind_is; same_filter_at = k.same_filter_at; same_joined_at = k.same_joined_at }
 
     counted : (p q : PairStats) (old : List ℕ) (rest : List (List ℕ)) → p.nodes ≡ s.pair.nodes ++ old ∷ rest → HasSameFilter s q → HaveSameFilterCounts q p

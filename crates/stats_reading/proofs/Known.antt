@@ -1,4 +1,4 @@
--- Some words aren't tested before they are read. If they are taken, they are words of the grammar.
+-- Some words aren't tested before they are read. If they are taken, the grammar allows them.
 use Rattle.std.proofs.Common.{◌≡◌, ℕ, ◌≤◌, inl, inr, List, [], ◌∷◌, ap, subst, refl, Bool, true, false, Some}
 use Rattle.std.specs.Prelude.{Ok, Err}
 use Rattle.schema_types.specs.declared.types.Kind.{Kind}
@@ -81,7 +81,7 @@ pub no_words : (schema : Schema) (s : Draft) (k : LineKind) (a b l : List ℕ) �
     → (more : List (List ℕ)) → TextRemaining s.stage (ended l ∷ more) → ⊥
 no_words schema s k a b l may none = no_line schema s l (λ j f g is. none (may.only j f g is))
 
--- a line that isn't one of the grammar has the fault Syntax, even if a rule refused it first
+-- a line that the grammar doesn't have gets the fault Syntax, even if a rule refused it first
 pub faulted : (schema : Schema) (s t : Draft) (k : LineKind) (a b l : List ℕ) (old new : Fault) → MayBeLineOf k a b l → (IsLineOf k a b l → LineAnswers schema s t (ended l) (Err old))
     → IsFaultOf k a b old new → LineAnswers schema s t (ended l) (Err new)
 faulted schema s t k a b l fault.Rule fault.Rule may answers is = answers (record { parts = is; whole = may.whole })

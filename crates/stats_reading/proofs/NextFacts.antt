@@ -1,4 +1,4 @@
--- If a pair keeps the rules and extends the draft's current pair, the next value of this pair may come next in the draft.
+-- If a pair keeps the rules and extends the draft's current pair, its next value may come next in the draft.
 use Rattle.std.proofs.Common.{◌≡◌, ◌≢◌, ℕ, zero, suc, ◌+◌, ◌-◌, ◌<◌, ◌≤◌, List, ◌∷◌, ◌++◌, length, length-append, map, ap, sym, subst, ◌∙◌, arith, Some}
 use Rattle.std.specs.Prelude.{All, AllPairs, slice_get, sum}
 use Rattle.std.specs.declared.cmp.Ordering.TheVariants.{Greater}
@@ -10,26 +10,26 @@ use Rattle.stats_file.specs.declared.types.PairStats.{PairStats}
 use Rattle.stats_file.specs.Rules.{datum_cmp, Agree, HaveSameFilterCounts, IsList, IsOfKind, IsPair, IsHistogram, IsHistogramOf}
 use Rattle.stats_reading.specs.declared.draft.Draft.{Draft}
 use Rattle.stats_reading.specs.Drafts.{HasSameFilter, IsSameTotal, IsSameValue, HasSameJoined, MayBeCut, MayBeFrequent, MayBeNode, MayBeRest, MayBeWhole}
-use Rattle.stats_reading.specs.Valid.{IsKnown}
+use Rattle.stats_reading.specs.Valid.{HasKindAndIndexes}
 use Rattle.stats_reading.proofs.RuleFacts.{PairRules}
 use Rattle.stats_reading.proofs.AppendedLists.{all_at, all_here, get_here, get_map, map_get, map_length, pairs_here, same_some}
 
-pub kind_of_pair : (table : Table) (s : Draft) (p : PairStats) (rows : ℕ) (known : IsKnown table s) (is : IsPair table rows p) → p.filter ≡ s.pair.filter → is.filter.kind ≡ s.kind
+pub kind_of_pair : (table : Table) (s : Draft) (p : PairStats) (rows : ℕ) (known : HasKindAndIndexes table s) (is : IsPair table rows p) → p.filter ≡ s.pair.filter → is.filter.kind ≡ s.kind
 kind_of_pair table s p rows known is same =
     let at : slice_get table.columns s.pair.filter ≡ Some is.filter = ap (λ i. slice_get table.columns i) (sym same) ∙ is.filter_is in
     ap (λ (c : Column). c.kind) (same_some is.filter known.column (slice_get table.columns s.pair.filter) at known.column_is) ∙ sym known.kind_is
 
-pub like_counts : (table : Table) (s : Draft) (p : PairStats) (rows : ℕ) → IsKnown table s → PairRules table rows s.section.pairs p → p.filter ≡ s.pair.filter → (q : PairStats) → HasSameFilter s q → HaveSameFilterCounts q p
+pub like_counts : (table : Table) (s : Draft) (p : PairStats) (rows : ℕ) → HasKindAndIndexes table s → PairRules table rows s.section.pairs p → p.filter ≡ s.pair.filter → (q : PairStats) → HasSameFilter s q → HaveSameFilterCounts q p
 like_counts table s p rows known rules same q is =
     let agree = all_at (λ o. Agree o p) s.section.pairs s.same_filter_at q rules.agree is in
     agree.filter (known.same_filter_at.found q is ∙ sym same)
 
-pub twin_whole : (table : Table) (s : Draft) (p : PairStats) (rows : ℕ) → IsKnown table s → PairRules table rows s.section.pairs p → p.joined ≡ s.pair.joined → (q : PairStats) → HasSameJoined s q → q.whole ≡ p.whole
+pub twin_whole : (table : Table) (s : Draft) (p : PairStats) (rows : ℕ) → HasKindAndIndexes table s → PairRules table rows s.section.pairs p → p.joined ≡ s.pair.joined → (q : PairStats) → HasSameJoined s q → q.whole ≡ p.whole
 twin_whole table s p rows known rules same q is =
     let agree = all_at (λ o. Agree o p) s.section.pairs s.same_joined_at q rules.agree is in
     agree.joined (known.same_joined_at.found q is ∙ sym same)
 
-pub may_whole : (table : Table) (s : Draft) (p : PairStats) → IsKnown table s → PairRules table s.section.rows s.section.pairs p → p.joined ≡ s.pair.joined → MayBeWhole s p.whole
+pub may_whole : (table : Table) (s : Draft) (p : PairStats) → HasKindAndIndexes table s → PairRules table s.section.rows s.section.pairs p → p.joined ≡ s.pair.joined → MayBeWhole s p.whole
 may_whole table s p known rules same =
     (rules.is.whole, record { all = rules.is.all_rows; alike = twin_whole table s p s.section.rows known rules same })
 
@@ -45,7 +45,7 @@ same_value s p q front f rest is same =
     let own = get_map (λ (e : Datum × List ℕ). sum e.1) q.frequent (length front) other there in
     record { other = other; there = there; value = found.2; total = same_some (sum other.1) (sum f.1) (slice_get (map (λ (e : Datum × List ℕ). sum e.1) q.frequent) (length front)) own total }
 
-pub may_frequent : (table : Table) (s : Draft) (p : PairStats) (f : Datum × List ℕ) (rest : List (Datum × List ℕ)) → IsKnown table s → PairRules table s.section.rows s.section.pairs p
+pub may_frequent : (table : Table) (s : Draft) (p : PairStats) (f : Datum × List ℕ) (rest : List (Datum × List ℕ)) → HasKindAndIndexes table s → PairRules table s.section.rows s.section.pairs p
     → p.filter ≡ s.pair.filter → p.frequent ≡ s.pair.frequent ++ f ∷ rest → MayBeFrequent s f
 may_frequent table s p f rest known rules same is =
     let are = rules.is.frequent in
@@ -65,7 +65,7 @@ may_frequent table s p f rest known rules same is =
 pub same_count : (p q : PairStats) → HaveSameFilterCounts q p → length q.frequent ≡ length p.frequent
 same_count p q same = sym (map_length (λ (e : Datum × List ℕ). e.0) q.frequent) ∙ ap length same.values ∙ map_length (λ (e : Datum × List ℕ). e.0) p.frequent
 
-pub may_rest : (table : Table) (s : Draft) (p : PairStats) → IsKnown table s → PairRules table s.section.rows s.section.pairs p → p.filter ≡ s.pair.filter → p.frequent ≡ s.pair.frequent
+pub may_rest : (table : Table) (s : Draft) (p : PairStats) → HasKindAndIndexes table s → PairRules table s.section.rows s.section.pairs p → p.filter ≡ s.pair.filter → p.frequent ≡ s.pair.frequent
     → MayBeRest s p.rest
 may_rest table s p known rules same is = (
   rules.is.rest,
@@ -85,7 +85,7 @@ pub some_tree : (kind : Kind) (rows : ℕ) (cuts : List Datum) (nodes : List (Li
 some_tree kind zero cuts nodes (none, others) lt = absurd (omega (arith, ap length none, ap length others))
 some_tree kind (suc n) cuts nodes is lt = record { some = omega arith; is = is }
 
-pub may_cut : (table : Table) (s : Draft) (p : PairStats) (cut : Datum) (rest : List Datum) → IsKnown table s → PairRules table s.section.rows s.section.pairs p
+pub may_cut : (table : Table) (s : Draft) (p : PairStats) (cut : Datum) (rest : List Datum) → HasKindAndIndexes table s → PairRules table s.section.rows s.section.pairs p
     → p.filter ≡ s.pair.filter → p.cuts ≡ s.pair.cuts ++ cut ∷ rest → MayBeCut s cut
 may_cut table s p cut rest known rules same is =
     let len = ap length is ∙ length-append s.pair.cuts (cut ∷ rest) in
@@ -109,7 +109,7 @@ same_total p q front node rest is same =
     let found = map_get sum q.nodes (length front) (sum node) total in
     record { other = found.0; there = found.1; total = found.2 }
 
-pub may_node : (table : Table) (s : Draft) (p : PairStats) (node : List ℕ) (rest : List (List ℕ)) → IsKnown table s → PairRules table s.section.rows s.section.pairs p
+pub may_node : (table : Table) (s : Draft) (p : PairStats) (node : List ℕ) (rest : List (List ℕ)) → HasKindAndIndexes table s → PairRules table s.section.rows s.section.pairs p
     → p.filter ≡ s.pair.filter → p.cuts ≡ s.pair.cuts → p.nodes ≡ s.pair.nodes ++ node ∷ rest → MayBeNode s node
 may_node table s p node rest known rules same cuts is =
     let len = ap length is ∙ length-append s.pair.nodes (node ∷ rest) in

@@ -16,7 +16,7 @@ use Rattle.stats_file.specs.declared.types.StatsError.{StatsError}
 use Rattle.stats_file.specs.declared.types.StatsError.TheVariants as error
 use Rattle.stats_file.specs.declared.types.StatsFile.{StatsFile}
 use Rattle.stats_file.specs.declared.types.TableStats.{TableStats}
-use Rattle.stats_file.specs.Answers.{Answers, BeginsWithLine, EndsTooEarly, HasNoEnd, IsReadUpTo, BreaksGrammar}
+use Rattle.stats_file.specs.Answers.{IsAllowedResult, BeginsWithLine, EndsTooEarly, HasNoEnd, IsReadUpTo, BreaksGrammar}
 use Rattle.stats_file.specs.Bytes.{ConsistOfBytes}
 use Rattle.stats_file.specs.FileText.{file_lines, file_text, name_at, histogram_node_line, value_line}
 use Rattle.stats_file.specs.Grammar.{IsText}
@@ -50,7 +50,7 @@ two_same front a b c d free_a free_c e =
 
 -- ---- equal lists of lines
 
--- each list of lines begins with all its lines of one kind
+-- if two lists of lines are equal, the lines of one kind at their beginnings are equal too
 same_mapped : {X : Type 0} (f : X → List ℕ) (Good : X → Type 0) → ((a b : X) → Good a → Good b → f a ≡ f b → a ≡ b) → (n : ℕ) → ((x : X) → tag (f x) ≡ n)
     → (xs ys : List X) (m o : Lines) → All Good xs → All Good ys → ((line : List ℕ) (more : Lines) → line ∷ more ≡ m → tag line ≢ n) → ((line : List ℕ) (more : Lines) → line ∷ more ≡ o → tag line ≢ n)
     → map f xs ++ m ≡ map f ys ++ o → (xs ≡ ys) × (m ≡ o)
@@ -253,7 +253,7 @@ line_ended : (left line rest : List ℕ) → BeginsWithLine left line rest → I
 line_ended left line rest h = record { text = h.text; free = h.no_end; whole = h.ended }
 
 pub answers_file : (schema : Schema) (file : StatsFile) (bytes : List ℕ) (answer : Result StatsFile StatsError) → IsValid schema → ConsistOfBytes schema file → KeepsRules schema file
-    → bytes ≡ file_text schema file → Answers schema bytes answer → (answer ≡ Ok file) ⊎ (answer ≡ Err error.NoMemory)
+    → bytes ≡ file_text schema file → IsAllowedResult schema bytes answer → (answer ≡ Ok file) ⊎ (answer ≡ Err error.NoMemory)
 answers_file schema file bytes (Ok other) good bytes_are keeps is (keeps_other, is_other) = inl (ap Ok (one_file schema other file good keeps_other keeps (sym is_other ∙ is)))
 answers_file schema file bytes (Err (error.Syntax line)) good bytes_are keeps is h = absurd (by h.wrong)
   where

@@ -1,4 +1,4 @@
--- If a file extends the draft, its next line in the current pair is that of a value that may come next.
+-- If a file extends the draft, the draft may take the value of the file's next line in the current pair.
 use Rattle.std.proofs.Common.{◌≡◌, ℕ, List, [], ◌∷◌, ◌++◌, map, refl, ap, sym, subst, ◌∙◌, append-nil, append_assoc, Some}
 use Rattle.std.specs.Prelude.{slice_get}
 use Rattle.schema_types.specs.declared.types.Schema.{Schema}
@@ -12,7 +12,7 @@ use Rattle.stats_file.specs.Rules.{KeepsRules}
 use Rattle.stats_reading.specs.declared.draft.Draft.{Draft}
 use Rattle.stats_reading.specs.Drafts.{with_cut, with_frequent, with_node, with_rest, with_whole, MayBeCut, MayBeFrequent, MayBeNode, MayBeRest, MayBeWhole}
 use Rattle.stats_reading.specs.Remaining.{frequent_lines, pairs_left, rest_line, histogram_lines, whole_line, CutsRemaining, FrequentRemaining, PairGrows, InPair, NodesRemaining, WholeRemaining}
-use Rattle.stats_reading.specs.Valid.{IsKnown}
+use Rattle.stats_reading.specs.Valid.{HasKindAndIndexes}
 use Rattle.stats_reading.proofs.NextFacts.{may_cut, may_frequent, may_node, may_rest, may_whole}
 use Rattle.stats_reading.proofs.RuleFacts.{pair_rules, PairRules}
 use Rattle.stats_reading.proofs.AppendedLists.{same_some}
@@ -25,10 +25,10 @@ pub record IsLineOfNext {X : Type 0} (line_of : X → List ℕ) (MayBe Rest : X 
   pub rest : Rest value
 
 abbrev pub KnownIn : Schema → Draft → Type 0
-KnownIn schema s = (table : Table) → slice_get schema.tables s.section.table ≡ Some table → IsKnown table s
+KnownIn schema s = (table : Table) → slice_get schema.tables s.section.table ≡ Some table → HasKindAndIndexes table s
 
-pub known_in : (schema : Schema) (s : Draft) (table : Table) → slice_get schema.tables s.section.table ≡ Some table → IsKnown table s → KnownIn schema s
-known_in schema s table exists known other found = subst (λ t. IsKnown t s) (same_some table other (slice_get schema.tables s.section.table) exists found) known
+pub known_in : (schema : Schema) (s : Draft) (table : Table) → slice_get schema.tables s.section.table ≡ Some table → HasKindAndIndexes table s → KnownIn schema s
+known_in schema s table exists known other found = subst (λ t. HasKindAndIndexes t s) (same_some table other (slice_get schema.tables s.section.table) exists found) known
 
 pub rules_here : (Left : PairStats → List (List ℕ) → Type 0) (schema : Schema) (s : Draft) (file : StatsFile) (lines : List (List ℕ)) (h : InPair Left schema s file lines)
     → PairRules h.table s.section.rows s.section.pairs h.pair

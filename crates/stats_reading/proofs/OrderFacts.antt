@@ -1,4 +1,4 @@
--- The lemmas are about the order of values, and about sorted lists.
+-- The order of values, and sorted lists.
 use Rattle.std.proofs.Common.{◌≡◌, ◌≢◌, ℕ, zero, suc, ◌-◌, ◌<◌, List, [], ◌∷◌, ◌++◌, length, get_or, replicate, refl, ap, sym, subst, ◌∙◌, arith, append-nil, append_assoc, Some}
 use Rattle.std.specs.Prelude.{All, AllPairs, slice_get}
 use Rattle.std.specs.declared.cmp.Ordering.{Ordering}

@@ -1,4 +1,4 @@
--- A word names a table or a column. The lemmas say which one, and which values may not come next.
+-- The table or column that a word names, and the values that may not come next.
 use Rattle.std.proofs.Common.{◌≡◌, ◌≢◌, ℕ, ◌^◌, ◌<◌, ◌≤◌, List, length, ap, sym, subst, ◌∙◌, Option, Some}
 use Rattle.std.specs.Prelude.{All, decimal}
 use Rattle.std.proofs.lemmas.Option.{slice_get_within}

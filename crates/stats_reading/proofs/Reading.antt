@@ -1,4 +1,4 @@
--- The answer to the bytes of a file follows from the answers to its lines.
+-- The result for the bytes of a file follows from the results for its lines.
 use Rattle.std.proofs.Common.{◌≡◌, ◌↔◌, inl, inr, ℕ, ◌+◌, ◌≤◌, List, [], ◌∷◌, ◌++◌, length, length-append, refl, ap, sym, subst, ◌∙◌, arith, append-nil, append_assoc}
 use Rattle.std.specs.Prelude.{codes, Ok, Err}
 use Rattle.std.specs.List.{concat, flat_map}
@@ -6,7 +6,7 @@ use Rattle.schema_types.specs.declared.types.Schema.{Schema}
 use Rattle.stats_file.specs.declared.types.PairStats.{PairStats}
 use Rattle.stats_file.specs.declared.types.StatsError.TheVariants as error
 use Rattle.stats_file.specs.declared.types.StatsFile.{StatsFile}
-use Rattle.stats_file.specs.Answers.{Answers as FileAnswers, BeginsWithLine, IsReadUpTo}
+use Rattle.stats_file.specs.Answers.{IsAllowedResult as FileAnswers, BeginsWithLine, IsReadUpTo}
 use Rattle.stats_file.specs.FileText.{file_lines, file_text, pair_lines, section_lines}
 use Rattle.stats_file.specs.Grammar.{IsText}
 use Rattle.stats_file.specs.Lines.{end_line}
@@ -27,7 +27,7 @@ use Rattle.stats_reading.proofs.AppendedLists.{none_left}
 abbrev Lines : Type 0
 Lines = List (List ℕ)
 
--- `lines` were read and gave draft s; `rest` are the remaining bytes, and `line` is the number of the next line
+-- the draft s was made from `lines`. The remaining bytes are `rest`, and the next line has the number `line`
 pub record IsRead (schema : Schema) (bytes rest : List ℕ) (s : Draft) (line : ℕ) : Type 0 where
   pub lines : Lines
   pub whole : bytes ≡ concat lines ++ rest
@@ -44,7 +44,7 @@ concat_append (x ∷ a) b = ap (λ (rest : List ℕ). x ++ rest) (concat_append 
 abbrev ended : List ℕ → List ℕ
 ended text = text ++ codes "\n"
 
--- a line is the last of the lines before, or the first of the lines after
+-- a line at the end of the lines before is the line at the beginning of the lines after
 one_more : (lines : Lines) (line : List ℕ) (more : Lines) → (lines ++ line ∷ []) ++ more ≡ lines ++ (line ∷ more)
 one_more lines line more = append_assoc lines (line ∷ []) more
 

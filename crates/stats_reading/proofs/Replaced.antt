@@ -1,4 +1,4 @@
--- If one element of a list is exchanged for another, the list keeps each property that the new element has too.
+-- If one element of a list is exchanged for another, the list keeps each property that the new element has.
 use Rattle.std.proofs.Common.{◌≡◌, ◌≢◌, ℕ, zero, suc, List, [], ◌∷◌, ◌++◌, length, get_or, map, refl, ap, sym, subst, ◌∙◌, arith}
 use Rattle.std.specs.Prelude.{All, AllPairs}
 use Rattle.stats_file.specs.declared.types.Datum.{Datum}

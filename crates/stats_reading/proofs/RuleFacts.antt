@@ -1,4 +1,4 @@
--- If a file keeps the rules, its last pair keeps those for pairs. The lemmas go from the file to this pair, and back.
+-- If a file keeps the rules, its last pair keeps the rules for pairs, and the reverse holds too.
 use Rattle.std.proofs.Common.{◌≡◌, ℕ, ◌<◌, List, [], ◌∷◌, ◌++◌, get_or, refl, sym, subst, append-nil, append_assoc, Some}
 use Rattle.std.specs.Prelude.{All, AllPairs, slice_get}
 use Rattle.std.proofs.lemmas.List.Quantifiers.{all_pairs_push}

@@ -1,4 +1,4 @@
--- A line takes a draft one step further. The lemmas say what each kind of line does, at each stage where the grammar allows it.
+-- What each kind of line does to a draft, at each stage where the grammar allows it.
 use Rattle.std.proofs.Common.{◌≡◌, ◌↔◌, ℕ, ◌^◌, ◌<◌, ◌≤◌, List, [], ◌∷◌, ◌++◌, refl, ap, sym, subst, ◌∙◌, arith, append_assoc}
 use Rattle.std.specs.Prelude.{codes, Result}
 use Rattle.std.proofs.lemmas.List.{append_cancel_right}
@@ -17,7 +17,7 @@ use Rattle.stats_reading.specs.declared.line.LineKind.TheVariants as kind
 use Rattle.stats_reading.specs.declared.stages.Stage.{Stage}
 use Rattle.stats_reading.specs.declared.stages.Stage.TheVariants as stage
 use Rattle.stats_reading.specs.Drafts.{frequent_words, list_word, value_word, with_cut, with_frequent, with_node, with_rest, with_whole, MayBeCut, MayBeFrequent, MayBeNode, MayBeRest, MayBeWhole, ReadsValue}
-use Rattle.stats_reading.specs.Kinds.{IsLineOf, IsOfKind}
+use Rattle.stats_reading.specs.Kinds.{IsLineOf, IsOfLineKind}
 use Rattle.stats_reading.specs.Remaining.{rest_line, whole_line, CutsRemaining, FileRemaining, FrequentRemaining, NodesRemaining, WholeRemaining}
 use Rattle.stats_reading.specs.Valid.{IsValidDraft, IsValidPair}
 use Rattle.stats_reading.proofs.Going.{step_goes, two, FilesGo, IsStep, Lines}
@@ -40,7 +40,7 @@ of_one first word l whole = ap ended whole ∙ append_assoc first word (codes "\
 of_two : (first a b l : List ℕ) → l ≡ first ++ (a ++ (codes " " ++ b)) → ended l ≡ first ++ (a ++ (codes " " ++ (b ++ codes "\n")))
 of_two first a b l whole = of_one first (a ++ (codes " " ++ b)) l whole ∙ ap (λ (x : List ℕ). first ++ x) (append_assoc a (codes " " ++ b) (codes "\n"))
 
-pub kind_line : (k : LineKind) (a b l : List ℕ) → IsLineOf k a b l → IsOfKind k (ended l)
+pub kind_line : (k : LineKind) (a b l : List ℕ) → IsLineOf k a b l → IsOfLineKind k (ended l)
 kind_line kind.First a b l is = record { word = a; word_is = is.parts.0; whole = of_one (codes "safebound-stats 1 ") a l is.whole }
 kind_line kind.Table a b l is = record { first = a; second = b; first_is = is.parts.0; second_is = is.parts.1; whole = of_two (codes "table ") a b l is.whole }
 kind_line kind.Pair a b l is = record { first = a; second = b; first_is = is.parts.0; second_is = is.parts.1; whole = of_two (codes "pair ") a b l is.whole }
@@ -60,7 +60,7 @@ back_one first word l e = cut_end (first ++ word) l (e ∙ sym (append_assoc fir
 back_two : (first a b l : List ℕ) → ended l ≡ first ++ (a ++ (codes " " ++ (b ++ codes "\n"))) → l ≡ first ++ (a ++ (codes " " ++ b))
 back_two first a b l e = back_one first (a ++ (codes " " ++ b)) l (e ∙ ap (λ (x : List ℕ). first ++ x) (sym (append_assoc a (codes " " ++ b) (codes "\n"))))
 
-pub line_kind : (k : LineKind) (l : List ℕ) → IsOfKind k (ended l) → (a : List ℕ) × (b : List ℕ) × IsLineOf k a b l
+pub line_kind : (k : LineKind) (l : List ℕ) → IsOfLineKind k (ended l) → (a : List ℕ) × (b : List ℕ) × IsLineOf k a b l
 line_kind kind.First l is = (is.word, [], record { parts = (is.word_is, refl); whole = back_one (codes "safebound-stats 1 ") is.word l is.whole })
 line_kind kind.Table l is = (is.first, is.second, record { parts = (is.first_is, is.second_is); whole = back_two (codes "table ") is.first is.second l is.whole })
 line_kind kind.Pair l is = (is.first, is.second, record { parts = (is.first_is, is.second_is); whole = back_two (codes "pair ") is.first is.second l is.whole })
@@ -87,7 +87,7 @@ spells_two first v w a b l free_v free_a whole =
       λ e. t.1 (ap (λ (p : List ℕ × List ℕ). p.0) e, ap (λ (p : List ℕ × List ℕ). p.1) e),
     )
 
--- ---- what is known of a valid draft
+-- ---- facts about a valid draft
 
 pub knows : (Left : PairStats → Lines → Type 0) (schema : Schema) (s : Draft) → IsValidPair Left schema s → KnownIn schema s
 knows Left schema s v = known_in schema s v.table v.exists v.known

@@ -51,7 +51,7 @@ to_tables schema section rest table exists =
 
 -- ---- the lines of further pairs
 
--- the first line of a pair names its columns; these are the lines after it
+-- the lines of a pair after the first, which names its columns
 abbrev pub pair_rest : PairStats → List (List ℕ)
 pair_rest pair = whole_line pair.whole ∷ frequent_lines pair.frequent pair.rest pair.cuts pair.nodes
 
@@ -68,7 +68,7 @@ pairs_tag schema table (pair ∷ rest) tables line more e =
     let same : line ≡ pair_line (name_at table pair.filter) (name_at table pair.joined) = cc in
     inl (same_tag line (pair_line (name_at table pair.filter) (name_at table pair.joined)) same)
 
--- 99 and 110 are the tags of a cut and a node
+-- the line after a pair is neither a cut (tag 99) nor a node (tag 110)
 pub after_pair : (schema : Schema) (table : Table) (pairs : List PairStats) (tables : List TableStats) (line : List ℕ) (more : List (List ℕ)) → line ∷ more ≡ pairs_left schema table pairs tables
     → (tag line ≢ 99) × (tag line ≢ 110)
 after_pair schema table pairs tables line more e = at (pairs_tag schema table pairs tables line more e)

@@ -138,9 +138,9 @@ value_blank word (inl (inr (digits, is, numeral', other))) =
     subst (λ (w : List ℕ). Without 32 w) (sym is) (front_without 32 45 digits (λ e. omega (arith, e)) (numeral_blank digits numeral'))
 value_blank word (inr is) = hex_word_blank word is
 
--- ---- lines and their words
+-- ---- a line determines its words
 
--- a line with one word is its fixed first part, the word and the line end
+-- a line with one word is its fixed first part, the word and the line end. So the line determines the word
 pub one_word : (front word first l : List ℕ) → l ≡ front ++ first → (front ++ (word ++ codes "\n") ≡ l ++ codes "\n") ↔ (word ≡ first)
 one_word front word first l whole = (to, from)
   where
@@ -152,7 +152,7 @@ one_word front word first l whole = (to, from)
     from : word ≡ first → front ++ (word ++ codes "\n") ≡ l ++ codes "\n"
     from e = sym (append_assoc front word (codes "\n")) ∙ ap (λ (x : List ℕ). (front ++ x) ++ codes "\n") e ∙ ap (λ (x : List ℕ). x ++ codes "\n") (sym whole)
 
--- a blank is between the two words, and the first word has no blank
+-- a blank is between the two words, and the first word has no blank. So the line determines both words
 pub two_words : (front a b first second l : List ℕ) → Without 32 a → Without 32 first → l ≡ front ++ (first ++ (codes " " ++ second))
     → (front ++ (a ++ (codes " " ++ (b ++ codes "\n"))) ≡ l ++ codes "\n") ↔ ((a ≡ first) × (b ≡ second))
 two_words front a b first second l free_a free_first whole =

@@ -1,4 +1,4 @@
--- What a line may add to a draft (the part of a file that is read so far), and the draft afterwards.
+-- The value that a line may add to a draft, and the draft afterwards. A draft is the part of a file that is read so far.
 use Rattle.std.specs.Prelude.{ℕ, ◌≡◌, ◌≢◌, ◌<◌, ◌≤◌, ◌-◌, ◌^◌, ⊤, List, [], ◌∷◌, ◌++◌, length, sum, All, AllPairs, Option, Some, None, slice_get, decimal, Result, Ok, Err}
 use Rattle.std.specs.declared.cmp.Ordering.TheVariants.{Greater}
 use Rattle.limits.specs.Profile.{least_accuracy, most_accuracy, most_rows}
@@ -38,7 +38,7 @@ empty_draft = record {
   same_joined_at = 0;
 }
 
--- the draft with one more list or value in its current pair
+-- the draft with one more list or value in its current pair; one function for each kind of line
 abbrev pub with_whole : Draft → List ℕ → Draft
 with_whole s list = record s { pair = record s.pair { whole = list } }
 
@@ -66,7 +66,7 @@ table_ended s = record s { tables = s.tables ++ s.section ∷ []; section = empt
 abbrev pub HasAllNodes : Draft → Type 0
 HasAllNodes s = 0 < s.section.rows → (length s.pair.cuts ≡ 32) × (length s.pair.nodes ≡ 63)
 
--- `place` is the index of a pair whose column is `wanted`, or is beyond the end of `pairs` if no pair has this column
+-- `place` is the index of a pair whose column is `wanted`. If no pair has this column, it is beyond the end of `pairs`
 pub record IsPlaceOf (column : PairStats → ℕ) (wanted : ℕ) (pairs : List PairStats) (place : ℕ) : Type 0 where
   pub found : (q : PairStats) → slice_get pairs place ≡ Some q → column q ≡ wanted
   pub none : slice_get pairs place ≡ None → All (λ q. column q ≢ wanted) pairs
@@ -88,7 +88,7 @@ PairsAscend s = AllPairs ComesBefore s.section.pairs
 
 -- ---- what may come next
 
--- q is an earlier pair with the current pair's filter column
+-- q is an earlier pair that has the current pair's filter column
 abbrev pub HasSameFilter : Draft → PairStats → Type 0
 HasSameFilter s q = slice_get s.section.pairs s.same_filter_at ≡ Some q
 
@@ -98,7 +98,7 @@ HasSameJoined s q = slice_get s.section.pairs s.same_joined_at ≡ Some q
 abbrev pub MayBeAccuracy : ℕ → Type 0
 MayBeAccuracy k = (least_accuracy ≤ k) × (k ≤ most_accuracy)
 
--- a table of the schema, its position in the schema, and its number of rows
+-- a table of the schema, with its position there and its number of rows
 pub record TableWithRows : Type 0 where
   pub table : Table
   pub place : ℕ
@@ -175,9 +175,9 @@ MayBeCut s cut = IsOfKind s.kind cut × CutFollows s cut
 abbrev pub MayBeNode : Draft → List ℕ → Type 0
 MayBeNode s node = IsList s.section.rows node × NodeFollows s node
 
--- ---- a step: the words of a line are read
+-- ---- reading the words of a line
 
--- a value that may come next has these words, and was taken. `ReadsValue` also allows a fault: no value that may come next has these words
+-- some value that may come next has these words, and it was taken. `ReadsValue` also allows a fault, if no value that may come next has these words
 pub record WasRead {X : Type 0} (text : X → List ℕ × List ℕ) (MayBe After : X → Type 0) (words : List ℕ × List ℕ) : Type 0 where
   pub value : X
   pub may : MayBe value
@@ -190,7 +190,7 @@ ReadsValue {X} text MayBe After words (Err fault.Syntax) = ⊥
 ReadsValue {X} text MayBe After words (Err fault.Rule) = (x : X) → MayBe x → text x ≢ words
 ReadsValue {X} text MayBe After words (Err fault.NoMemory) = ⊤
 
--- the words of a line for each kind of value
+-- for each kind of value, the words of the line that has it
 abbrev pub number_word : ℕ → List ℕ × List ℕ
 number_word n = (decimal n, [])
 

@@ -1,5 +1,5 @@
--- What a line does to a draft. Either the draft goes on with the line, or the line is refused: no text of the grammar, or no file that keeps the
--- rules, goes on with it.
+-- What a line does to a draft. Either the line is taken, and the draft changes. Or the line is refused: no text of the grammar, or no file that keeps
+-- the rules, has it after the lines of the draft.
 use Rattle.std.specs.Prelude.{ℕ, ◌≡◌, ◌<◌, ◌↔◌, ⊤, All, length, List, [], ◌∷◌, Some, slice_get, Result, Ok, Err}
 use Rattle.schema_types.specs.declared.types.Schema.{Schema}
 use Rattle.schema_types.specs.declared.types.Table.{Table}
@@ -16,17 +16,17 @@ use Rattle.stats_reading.specs.Stages.{TextRemaining}
 use Rattle.stats_reading.specs.Steps.{Ends, EndsAnd, PairEnds, TableEnds}
 use Rattle.stats_reading.specs.Valid.{IsValidDraft}
 
--- the words of a line are read as those of a new table, in a draft with neither an open pair nor an open table
+-- the words of a line are read as words of a new table. The draft has no open pair and no open table
 abbrev pub BeginsTable : Schema → Draft → List ℕ × List ℕ → Draft → Result (Unit {0}) Fault → Type 0
 BeginsTable schema t words m result =
     ReadsValue table_words (MayBeTable schema m) (λ v. t ≡ record m { section = empty_section v.place v.rows }) words result
 
--- the words of a line are read as those of a new pair, in a draft without an open pair
+-- the words of a line are read as words of a new pair. The draft has no open pair
 abbrev pub BeginsPairOf : Schema → Draft → List ℕ × List ℕ → Draft → Result (Unit {0}) Fault → Type 0
 BeginsPairOf schema t words m result = (table : Table) → slice_get schema.tables m.section.table ≡ Some table
     → ReadsValue (pair_words table) (λ c. MayBePair table m c.0 c.1) (λ c. BeginsPair table m t c.0 c.1) words result
 
--- what must be true of a draft before words of each kind are read: tables or pairs ascend, a table is open, or sums of lists fit into a `u64`
+-- what must be true of a draft before words of this kind are read. Tables or pairs ascend, a table is open, or the sums of lists fit into a `u64`
 abbrev pub IsReadyAt : Stage → LineKind → Schema → Draft → Type 0
 IsReadyAt at kind.Table schema s = (m : Draft) → TableEnds at s m → TablesAscend m
 IsReadyAt at kind.Pair schema s = s.section.table < length schema.tables × ((m : Draft) → PairEnds at s m → PairsAscend m)
@@ -59,7 +59,7 @@ pub record IsTaken (schema : Schema) (s t : Draft) (line : List ℕ) : Type 0 wh
   pub texts : (more : List (List ℕ)) → TextRemaining s.stage (line ∷ more) ↔ TextRemaining t.stage more
   pub valid : IsValidDraft t.stage schema t
 
--- the grammar allows the line here, but no file that keeps the rules has it
+-- the line breaks a rule: the grammar allows the line here, but no file that keeps the rules has it
 pub record BreaksRule (schema : Schema) (s : Draft) (line : List ℕ) : Type 0 where
   pub files : (file : StatsFile) (more : List (List ℕ)) → FileRemaining s.stage schema s file (line ∷ more) → ⊥
   pub some : List (List ℕ)

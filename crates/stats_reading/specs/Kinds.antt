@@ -1,4 +1,4 @@
--- What a line is, without its line end: a fixed first part, and after it one word or two.
+-- The form of a line without its line end: a fixed first part, and after it one word or two.
 use Rattle.std.specs.Prelude.{ℕ, ◌≡◌, Bool, true, false, if◌then◌else◌, List, [], ◌++◌, Option, None, Some, codes}
 use Rattle.stats_file.specs.Grammar.{IsCutLine, IsFirstLine, IsFrequentLine, IsHexWord, IsListWord, IsNodeLine, IsNumeral, IsPairLine, IsRestLine, IsTableLine, IsValueWord, IsWholeLine}
 use Rattle.stats_reading.specs.declared.fault.Fault.{Fault}
@@ -17,7 +17,7 @@ front kind.Cut = codes "cut "
 front kind.Node = codes "node "
 front kind.End = codes "end"
 
--- whether lines of this kind have two words; in the other kinds the second word is empty
+-- whether lines of this kind have two words. In lines with one word the second word is empty
 abbrev pub has_two : LineKind → Bool
 has_two kind.First = false
 has_two kind.Table = true
@@ -60,11 +60,11 @@ pub record MayBeLineOf (kind : LineKind) (first second line : List ℕ) : Type 0
   pub alone : HasEmptySecond kind second
   pub only : (k : LineKind) (a b : List ℕ) → IsLineOf k a b line → AreLineParts kind first second
 
--- a line that the grammar doesn't have
+-- the grammar has no such line
 abbrev pub IsNoLine : List ℕ → Type 0
 IsNoLine line = (kind : LineKind) (first second : List ℕ) → IsLineOf kind first second line → ⊥
 
--- a text splits into these words; if any split of the text gives words of the grammar, this split does
+-- a text splits into these words. If any split of the text gives words of the grammar, this split does
 pub record SplitsInto (kind : LineKind) (words first second : List ℕ) : Type 0 where
   pub whole : words ≡ words_text kind first second
   pub alone : HasEmptySecond kind second
@@ -74,7 +74,8 @@ pub record SplitsInto (kind : LineKind) (words first second : List ℕ) : Type 0
 abbrev pub HasNoLineWords : LineKind → List ℕ → Type 0
 HasNoLineWords kind words = (first second : List ℕ) → AreLineParts kind first second → words ≡ words_text kind first second → ⊥
 
--- whether words of this kind are tested against the grammar before they are read. For the other kinds, words that are read without a fault are in it
+-- whether words of this kind are tested against the grammar before they are read. For the other kinds, words that are read without a fault are words
+-- of the grammar
 abbrev pub is_tested : LineKind → Bool
 is_tested kind.First = true
 is_tested kind.Table = true
@@ -86,7 +87,7 @@ is_tested kind.Cut = false
 is_tested kind.Node = false
 is_tested kind.End = true
 
--- the fault of a line: words that the grammar doesn't allow are a fault of syntax, not of a rule
+-- the fault of a line. Words that the grammar doesn't allow are a fault of syntax, not of a rule
 abbrev pub IsFaultOf : LineKind → List ℕ → List ℕ → Fault → Fault → Type 0
 IsFaultOf kind first second fault.Rule fault.Rule = AreLineParts kind first second
 IsFaultOf kind first second fault.Rule fault.Syntax = AreLineParts kind first second → ⊥
@@ -94,19 +95,19 @@ IsFaultOf kind first second fault.Rule fault.NoMemory = ⊥
 IsFaultOf kind first second fault.Syntax new = new ≡ fault.Syntax
 IsFaultOf kind first second fault.NoMemory new = new ≡ fault.NoMemory
 
--- `None` if the line begins with no kind's fixed first part; otherwise the only kind whose first part it may begin with
+-- the only kind that the line may have. It is `None` if the line begins with no kind's fixed first part
 abbrev pub CanBe : List ℕ → Option LineKind → Type 0
 CanBe line None = (kind : LineKind) (rest : List ℕ) → line ≡ front kind ++ rest → ⊥
 CanBe line (Some only) = (kind : LineKind) (rest : List ℕ) → line ≡ front kind ++ rest → kind ≡ only
 
 -- a line with its line end is one of this kind in the grammar
-abbrev pub IsOfKind : LineKind → List ℕ → Type 0
-IsOfKind kind.First line = IsFirstLine line
-IsOfKind kind.Table line = IsTableLine line
-IsOfKind kind.Pair line = IsPairLine line
-IsOfKind kind.Whole line = IsWholeLine line
-IsOfKind kind.Frequent line = IsFrequentLine line
-IsOfKind kind.Rest line = IsRestLine line
-IsOfKind kind.Cut line = IsCutLine line
-IsOfKind kind.Node line = IsNodeLine line
-IsOfKind kind.End line = line ≡ codes "end\n"
+abbrev pub IsOfLineKind : LineKind → List ℕ → Type 0
+IsOfLineKind kind.First line = IsFirstLine line
+IsOfLineKind kind.Table line = IsTableLine line
+IsOfLineKind kind.Pair line = IsPairLine line
+IsOfLineKind kind.Whole line = IsWholeLine line
+IsOfLineKind kind.Frequent line = IsFrequentLine line
+IsOfLineKind kind.Rest line = IsRestLine line
+IsOfLineKind kind.Cut line = IsCutLine line
+IsOfLineKind kind.Node line = IsNodeLine line
+IsOfLineKind kind.End line = line ≡ codes "end\n"

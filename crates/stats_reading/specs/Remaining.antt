@@ -1,4 +1,4 @@
--- The lines that are still to be read: a file extends the draft, and these are the remaining lines of its text.
+-- The lines that are still to be read. They are the remaining lines of a file that extends the draft (the part that is read so far).
 use Rattle.std.specs.Prelude.{ℕ, ◌≡◌, List, [], ◌∷◌, ◌++◌, map, Some, slice_get, codes}
 use Rattle.std.specs.List.{flat_map}
 use Rattle.schema_types.specs.declared.types.Schema.{Schema}
@@ -99,7 +99,7 @@ pub record InTable (schema : Schema) (s : Draft) (file : StatsFile) (lines : Lis
   pub is : file ≡ file_of_draft s (section_of s pairs ∷ tables)
   pub all : lines ≡ pairs_left schema table pairs tables
 
--- the file is the draft with the rest of the current pair, further pairs and further tables
+-- the file is the draft with the current pair completed, further pairs and further tables
 pub record InPair (Left : PairStats → List (List ℕ) → Type 0) (schema : Schema) (s : Draft) (file : StatsFile) (lines : List (List ℕ))
     : Type 0 where
   pub table : Table
@@ -113,7 +113,7 @@ pub record InPair (Left : PairStats → List (List ℕ) → Type 0) (schema : Sc
   pub is : file ≡ file_of_draft s (section_of s (pair ∷ pairs) ∷ tables)
   pub all : lines ≡ own ++ pairs_left schema table pairs tables
 
--- the file extends the draft, which is at this stage, and `lines` are the remaining lines of the file's text
+-- the file extends the draft at this stage, and `lines` are the remaining lines of the file's text
 abbrev pub FileRemaining : Stage → Schema → Draft → StatsFile → List (List ℕ) → Type 0
 FileRemaining stage.Start schema s file lines = KeepsRules schema file × (lines ≡ file_lines schema file)
 FileRemaining stage.Tables schema s file lines = InFile schema s file lines

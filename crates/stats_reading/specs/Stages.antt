@@ -1,4 +1,4 @@
--- Which kinds of lines may come at each stage, and which lines a text of the grammar may go on with.
+-- The kinds of lines that may come at each stage, and the lines that may follow in a text of the grammar.
 use Rattle.std.specs.Prelude.{ℕ, ◌≡◌, List, [], ◌∷◌, ◌++◌, Option, None, Some, codes}
 use Rattle.std.specs.List.{AllByRecursion, flat_map}
 use Rattle.stats_file.specs.Grammar.{ArePairLines, AreTableLines, IsCutLine, IsFrequentLine, IsNodeLine, IsRestLine, IsText, IsWholeLine}
@@ -44,8 +44,8 @@ pub record Many (IsKind : List ℕ → Type 0) (Next : List (List ℕ) → Type 
   pub next : Next others
   pub all : lines ≡ front ++ others
 
--- the lines are any number of parts (of one or more lines each), then lines that satisfy `Next`
-pub record Parts (ArePart : List (List ℕ) → Type 0) (Next : List (List ℕ) → Type 0) (lines : List (List ℕ)) : Type 0 where
+-- the lines are any number of parts, then lines that satisfy `Next`. A part has one line or more
+pub record ManyParts (ArePart : List (List ℕ) → Type 0) (Next : List (List ℕ) → Type 0) (lines : List (List ℕ)) : Type 0 where
   pub parts : List (List (List ℕ))
   pub others : List (List ℕ)
   pub parts_are : AllByRecursion ArePart parts
@@ -56,10 +56,10 @@ abbrev pub MayEnd : List (List ℕ) → Type 0
 MayEnd lines = lines ≡ codes "end\n" ∷ []
 
 abbrev pub TablesRemaining : List (List ℕ) → Type 0
-TablesRemaining = Parts AreTableLines MayEnd
+TablesRemaining = ManyParts AreTableLines MayEnd
 
 abbrev pub PairsRemaining : List (List ℕ) → Type 0
-PairsRemaining = Parts ArePairLines TablesRemaining
+PairsRemaining = ManyParts ArePairLines TablesRemaining
 
 abbrev pub NodesRemaining : List (List ℕ) → Type 0
 NodesRemaining = Many IsNodeLine PairsRemaining
@@ -70,7 +70,7 @@ CutsRemaining = Many IsCutLine NodesRemaining
 abbrev pub FrequentRemaining : List (List ℕ) → Type 0
 FrequentRemaining = Many IsFrequentLine (One IsRestLine CutsRemaining)
 
--- at this stage a text of the grammar may go on with these lines, to its end
+-- from this stage on, these lines complete some text of the grammar
 abbrev pub TextRemaining : Stage → List (List ℕ) → Type 0
 TextRemaining stage.Start lines = IsText lines
 TextRemaining stage.Tables lines = TablesRemaining lines

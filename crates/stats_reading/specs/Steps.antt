@@ -18,14 +18,14 @@ abbrev pub TableEnds : Stage → Draft → Draft → Type 0
 TableEnds stage.Tables s t = t ≡ s
 TableEnds at s t = (m : Draft) × PairEnds at s m × (t ≡ table_ended m)
 
--- the answer of a step in which something ends: it ended, or it can't end here
+-- the result of a step that ends a pair or a table: it ended, or it can't end here
 abbrev pub Ends : (Draft → Type 0) → Draft → Result (Unit {0}) Fault → Type 0
 Ends MayEnd new (Ok done) = MayEnd new
 Ends MayEnd new (Err fault.Syntax) = ⊥
 Ends MayEnd new (Err fault.Rule) = (t : Draft) → MayEnd t → ⊥
 Ends MayEnd new (Err fault.NoMemory) = ⊤
 
--- the answer of a step in which something ends first and then words are read
+-- the result of a step that first ends a pair or a table, and then reads words
 abbrev pub EndsAnd : (Draft → Type 0) → (Draft → Result (Unit {0}) Fault → Type 0) → Result (Unit {0}) Fault → Type 0
 EndsAnd MayEnd Then result = ((m : Draft) × MayEnd m × Then m result)
     ⊎ (((t : Draft) → MayEnd t → ⊥) × (result ≡ Err fault.Rule)) ⊎ (result ≡ Err fault.NoMemory)

@@ -11,16 +11,16 @@ use Rattle.stats_reading.specs.declared.stages.Stage.TheVariants as stage
 use Rattle.stats_reading.specs.Drafts.{empty_draft, IsPlaceOf}
 use Rattle.stats_reading.specs.Remaining.{file_of_draft, section_of, CutsRemaining, FrequentRemaining, NodesRemaining, WholeRemaining}
 
--- the draft's `kind` and its two indexes of earlier pairs are right for the current pair
-pub record IsKnown (table : Table) (s : Draft) : Type 0 where
+-- the draft's `kind` and its two indexes of earlier pairs belong to the current pair
+pub record HasKindAndIndexes (table : Table) (s : Draft) : Type 0 where
   pub column : Column
   pub column_is : slice_get table.columns s.pair.filter ≡ Some column
   pub kind_is : s.kind ≡ column.kind
   pub same_filter_at : IsPlaceOf (λ q. q.filter) s.pair.filter s.section.pairs s.same_filter_at
   pub same_joined_at : IsPlaceOf (λ q. q.joined) s.pair.joined s.section.pairs s.same_joined_at
 
--- the file with only the tables and pairs so far, the current table included, keeps the rules
-pub record IsValidTable (schema : Schema) (s : Draft) : Type 0 where
+-- the file keeps the rules that has only the tables and pairs so far, the current table included
+pub record IsValidSection (schema : Schema) (s : Draft) : Type 0 where
   pub table : Table
   pub exists : slice_get schema.tables s.section.table ≡ Some table
   pub keeps : KeepsRules schema (file_of_draft s (section_of s [] ∷ []))
@@ -29,7 +29,7 @@ pub record IsValidTable (schema : Schema) (s : Draft) : Type 0 where
 pub record IsValidPair (Left : PairStats → List (List ℕ) → Type 0) (schema : Schema) (s : Draft) : Type 0 where
   pub table : Table
   pub exists : slice_get schema.tables s.section.table ≡ Some table
-  pub known : IsKnown table s
+  pub known : HasKindAndIndexes table s
   pub pair : PairStats
   pub own : List (List ℕ)
   pub left : Left pair own
@@ -38,7 +38,7 @@ pub record IsValidPair (Left : PairStats → List (List ℕ) → Type 0) (schema
 abbrev pub IsValidDraft : Stage → Schema → Draft → Type 0
 IsValidDraft stage.Start schema s = s ≡ empty_draft
 IsValidDraft stage.Tables schema s = KeepsRules schema (file_of_draft s [])
-IsValidDraft stage.Pairs schema s = IsValidTable schema s
+IsValidDraft stage.Pairs schema s = IsValidSection schema s
 IsValidDraft stage.Whole schema s = IsValidPair (WholeRemaining s.pair) schema s
 IsValidDraft stage.Frequent schema s = IsValidPair (FrequentRemaining s.pair) schema s
 IsValidDraft stage.Cuts schema s = IsValidPair (CutsRemaining s.pair) schema s

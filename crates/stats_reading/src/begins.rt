@@ -49,7 +49,7 @@ fn stands_before(earlier: &PairStats, filter: u32, joined: u32) -> bool
     earlier.filter < filter || (earlier.filter == filter && earlier.joined < joined)
 }
 
-// Whether a pair of these columns comes after all pairs of `pairs`. As pairs ascend, comparing with the last pair is enough.
+// Whether a pair of these columns comes after all pairs of `pairs`. Pairs ascend, so comparing with the last pair is enough.
 fn is_later(pairs: &[PairStats], filter: u32, joined: u32) -> bool
     requires { AllPairs ComesBefore pairs.now }
     ensures { IsTrue result ↔ All (λ q. ComesBefore q (empty_pair filter joined)) pairs.now }
@@ -70,9 +70,9 @@ fn is_later_table(tables: &[TableStats], place: u32) -> bool
     tables[tables.len() - 1].table < place
 }
 
-// The index of a pair with this filter column, or the length of `pairs` if there is none. No pair has a later filter column, so only the last pair is
-// looked at.
-fn place_of_filter(pairs: &[PairStats], filter: u32) -> usize
+// The index of a pair with this filter column, or the length of `pairs` if no pair has it. No pair has a later filter column, so only the last pair
+// is looked at.
+fn index_of_filter(pairs: &[PairStats], filter: u32) -> usize
     requires ascend { AllPairs ComesBefore pairs.now }
     requires none_later { All (λ q. q.filter ≤ filter) pairs.now }
     ensures { IsPlaceOf (λ q. q.filter) filter pairs.now result }
@@ -105,7 +105,7 @@ fn begin_table(alloc: Global, draft: &mut Draft, place: u32, rows: u32)
     draft.section = new_section(alloc, place, rows);
 }
 
-/// Begins the table of the schema that `name` spells, with this number of rows.
+/// Begins a table in the draft: the table of the schema whose name `name` spells, with this number of rows.
 pub fn take_table(
     alloc: Global,
     schema: &Schema,
@@ -137,13 +137,13 @@ fn begin_pair(alloc: Global, table: &Table, draft: &mut Draft, filter: u32, join
     requires later { All (λ q. q.filter ≤ filter) draft.old.section.pairs }
     ensures { BeginsPair table.now draft.old draft.new filter joined }
 {
-    draft.same_filter_at = place_of_filter(draft.section.pairs.as_slice(), filter);
+    draft.same_filter_at = index_of_filter(draft.section.pairs.as_slice(), filter);
     draft.same_joined_at = place_of_joined(draft.section.pairs.as_slice(), joined);
     draft.kind = table.columns.get(filter as usize).kind;
     draft.pair = new_pair(alloc, filter, joined);
 }
 
-/// Begins the pair of columns that the two words spell.
+/// Begins a pair in the draft, of the two columns that the words spell.
 pub fn take_pair(
     alloc: Global,
     table: &Table,

@@ -9,10 +9,9 @@ use schema_types::Kind;
 use stats_file::{PairStats, TableStats};
 use std::alloc::Global;
 
-/// The part of a file that is read so far: the complete tables, the table that is being read (without the pair that is being read), and this pair.
-/// Besides, `kind` is the kind of the values in the pair's filter column. `same_filter_at` is the index of an earlier pair
-/// of the table with the same filter column, and `same_joined_at` of one with the same joined column. Without such a pair it is the number of earlier
-/// pairs.
+/// The part of a file that is read so far: the complete tables, the current table, and the current pair, which isn't in the table yet. `kind` is the
+/// kind of the values in the pair's filter column. `same_filter_at` is the index of an earlier pair of the table with the same filter column.
+/// `same_joined_at` is the index of an earlier pair with the same joined column. If there is no such pair, the index is the number of earlier pairs.
 #[derive(Debug, Drop)]
 pub struct Draft {
     pub stage: Stage,
@@ -40,7 +39,7 @@ pub fn new_pair(alloc: Global, filter: u32, joined: u32) -> PairStats
     }
 }
 
-/// A table without pairs.
+/// A table's section without pairs.
 pub fn new_section(alloc: Global, table: u32, rows: u32) -> TableStats
     ensures { result ≡ empty_section table rows }
 {

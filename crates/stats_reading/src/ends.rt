@@ -1,4 +1,4 @@
-//! Lines that end a pair or a table: what was read of it must be complete.
+//! Lines that end the current pair or table. What they end must be complete.
 ghost use Rattle.std.specs.Prelude.{◌≡◌, ◌↔◌, IsTrue, OnOk};
 ghost use Rattle.stats_reading.specs.Drafts.{pair_ended, table_ended, HasAllNodes};
 ghost use Rattle.stats_reading.specs.declared.draft.Draft.{Draft as State};

@@ -9,7 +9,7 @@ use base_io::NoMemory;
 pub enum Fault {
     /// No text of the grammar begins with the lines up to this one.
     Syntax,
-    /// Some text of the grammar begins with the lines up to this one, but no text of a file that keeps the rules does.
+    /// Some text of the grammar begins with the lines up to this one. No text of a file that keeps the rules does.
     Rule,
     NoMemory,
 }

@@ -5,7 +5,7 @@ ghost use Rattle.schema_types.specs.Validity.{IsValid};
 ghost use Rattle.stats_file.specs.declared.types.StatsError.{StatsError};
 ghost use Rattle.stats_file.specs.declared.types.StatsError.TheVariants as error;
 ghost use Rattle.stats_file.specs.declared.types.StatsFile.{StatsFile};
-ghost use Rattle.stats_file.specs.Answers.{Answers};
+ghost use Rattle.stats_file.specs.Answers.{IsAllowedResult};
 ghost use Rattle.stats_file.specs.FileText.{file_text};
 ghost use Rattle.stats_file.specs.Rules.{KeepsRules};
 ghost use Rattle.stats_reading.specs.Names.{HasByteColumns};
@@ -16,10 +16,10 @@ pub fn a_text_spells_one_file()
         → file_text schema a ≡ file_text schema b → a ≡ b }
 {}
 
-/// If the text of a file is read, the answer is this file, or that memory ran out; the text is never refused. The law requires that the schema's
+/// If the text of a file is read, the result is this file, or that memory ran out. The text is never refused. The law requires that the schema's
 /// column names consist of bytes. By the rules, the other names and the values consist of bytes too.
 pub fn a_written_file_is_read()
     ensures { (schema : Schema) (file : StatsFile) (answer : Result StatsFile StatsError)
         → IsValid schema → HasByteColumns schema → KeepsRules schema file
-        → Answers schema (file_text schema file) answer → (answer ≡ Ok file) ⊎ (answer ≡ Err error.NoMemory) }
+        → IsAllowedResult schema (file_text schema file) answer → (answer ≡ Ok file) ⊎ (answer ≡ Err error.NoMemory) }
 {}

@@ -1,7 +1,7 @@
-//! Texts of statistics files: from the bytes to the file that they spell, or the first line that is refused.
+//! Reads a statistics file from its bytes, or names the first line that is refused.
 //!
-//! In: a schema and the bytes of a file. Out: the one file whose text the bytes are; or the first line at which they stop being the text of any file,
-//! with the cause. Callers cite `Answers` of stats_file (in `specs/Answers.antt`).
+//! In: a schema and the bytes of a file. Out: the one file that has these bytes as its text. If there is no such file: the cause, and the first line
+//! up to which the bytes begin no file. The contract is `IsAllowedResult` of stats_file (in `specs/Answers.antt`).
 //!
 //! ```text
 //! let file = read_stats(alloc, &schema, bytes)?;

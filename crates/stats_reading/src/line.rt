@@ -5,7 +5,7 @@ ghost use Rattle.stats_reading.specs.Kinds.{front, has_two, is_tested as tested,
 use crate::fault::Fault;
 use stats_words::{is_hex_word, is_list_word, is_numeral, is_value_word, split_at_byte};
 
-/// The kind of a line, which its first word tells.
+/// The kind of a line. The line's first word tells it.
 #[derive(Clone, Copy, Debug, PartialEq, Eq)]
 pub enum LineKind {
     First,
@@ -19,7 +19,7 @@ pub enum LineKind {
     End,
 }
 
-/// A line without its line end: its kind, and the words after its fixed first part. If there is one word, `second` is empty.
+/// A line without its line end: its kind, and the words after its fixed first part. In a line with only one word, `second` is empty.
 #[derive(Clone, Copy)]
 pub struct Line<'a> {
     pub kind: LineKind,
@@ -27,7 +27,7 @@ pub struct Line<'a> {
     pub second: &'a [u8],
 }
 
-/// The only kind that this line may have, by its first byte.
+/// The only kind that a line with this first byte may have.
 pub fn kind_of(line: &[u8]) -> Option<LineKind>
     ensures { CanBe line.now result }
 {
@@ -63,14 +63,14 @@ const NODE: &[u8] = b"node ";
 
 const END: &[u8] = b"end";
 
-// What comes after `front` in a line.
+// The part of a line after `front`, if the line begins with `front`.
 fn after_front<'a>(line: &'a [u8], front: &[u8]) -> Option<&'a [u8]>
     ensures { MatchOption result ((rest : List ℕ) → line.now ≢ front.now ++ rest) (λ rest. line.now ≡ front.now ++ rest.now) }
 {
     line.strip_prefix(front)
 }
 
-// What comes after the fixed first part that lines of this kind have.
+// The part of a line after the fixed first part of this kind, if the line begins with it.
 fn after_kind(kind: LineKind, line: &[u8]) -> Option<&[u8]>
     ensures { MatchOption result ((rest : List ℕ) → line.now ≢ front kind ++ rest) (λ rest. line.now ≡ front kind ++ rest.now) }
 {
@@ -87,7 +87,7 @@ fn after_kind(kind: LineKind, line: &[u8]) -> Option<&[u8]>
     }
 }
 
-// Whether `word` may be the word of a line of this kind. Lines of this kind have one word.
+// Whether the grammar allows `word` in a line of this kind. Lines of this kind have one word.
 fn is_part(kind: LineKind, word: &[u8]) -> bool
     requires { has_two kind ≡ false }
     ensures { IsTrue result ↔ AreLineParts kind word.now [] }
@@ -100,7 +100,7 @@ fn is_part(kind: LineKind, word: &[u8]) -> bool
     }
 }
 
-// Whether two words may be those of a line of this kind. Lines of this kind have two words.
+// Whether the grammar allows the two words in a line of this kind. Lines of this kind have two words.
 fn are_parts(kind: LineKind, first: &[u8], second: &[u8]) -> bool
     requires { has_two kind ≡ true }
     ensures { IsTrue result ↔ AreLineParts kind first.now second.now }
@@ -140,7 +140,7 @@ fn words_of(kind: LineKind, words: &[u8]) -> Option<(&[u8], &[u8])>
     }
 }
 
-/// Splits a line without its line end into its words, if the line may be one of the grammar. The words themselves aren't tested.
+/// Splits a line without its line end into its words, if the grammar may allow the line. The words themselves aren't tested.
 pub fn words_in(kind: LineKind, line: &[u8]) -> Option<(&[u8], &[u8])>
     requires { CanBe line.now (Some kind) }
     ensures { MatchOption result (IsNoLine line.now) (λ w. MayBeLineOf kind w.0.now w.1.now line.now) }
@@ -149,7 +149,7 @@ pub fn words_in(kind: LineKind, line: &[u8]) -> Option<(&[u8], &[u8])>
     words_of(kind, words)
 }
 
-// Whether `word` may be the word of a line of this kind and `second` is empty. Lines of this kind have one word.
+// Whether the grammar allows `word` in a line of this kind, and `second` is empty. Lines of this kind have one word.
 fn is_part_alone(kind: LineKind, word: &[u8], second: &[u8]) -> bool
     requires { has_two kind ≡ false }
     ensures { IsTrue result ↔ AreLineParts kind word.now second.now }
@@ -177,8 +177,8 @@ fn is_tested(kind: LineKind) -> bool
     )
 }
 
-/// Whether the words of a line may be read without breaking the grammar: either lines of this kind aren't tested beforehand, or the grammar allows the
-/// words.
+/// Whether the words of a line may be read without breaking the grammar: either lines of this kind aren't tested beforehand, or the grammar allows
+/// the words.
 pub fn may_be_read(line: Line) -> bool
     ensures { IsTrue result ↔ (tested line.entry.kind ≡ true → AreLineParts line.entry.kind line.entry.first.now line.entry.second.now) }
 {

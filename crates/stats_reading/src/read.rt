@@ -2,7 +2,7 @@
 ghost use Rattle.std.specs.Prelude.{◌≡◌, ◌≤◌, ◌↔◌, ◌++◌, [], codes, length, IsTrue};
 ghost use Rattle.limits.specs.Profile.{most_file};
 ghost use Rattle.schema_types.specs.Validity.{IsValid};
-ghost use Rattle.stats_file.specs.Answers.{Answers as FileAnswers};
+ghost use Rattle.stats_file.specs.Answers.{IsAllowedResult as FileAnswers};
 ghost use Rattle.stats_reading.specs.declared.stages.Stage.TheVariants as stages;
 ghost use Rattle.stats_reading.specs.IsTaken.{LineAnswers};
 ghost use Rattle.stats_reading.specs.Remaining.{file_of_draft};
@@ -29,8 +29,8 @@ fn refusal(fault: Fault, line: u32) -> StatsError
     }
 }
 
-// Takes a line without its line end. The words of lists and values are read in one pass: only if they are refused, they are tested against the
-// grammar. Kind and words are found by two calls, since an `Option` of both is slow to copy.
+// Takes a line without its line end. The words of lists and values are read in one pass, and tested against the grammar only if they are refused. Two
+// calls find the kind and the words, since an `Option` of both is slow to copy.
 fn take_line(alloc: Global, schema: &Schema, draft: &mut Draft, text: &[u8]) -> Result<(), Fault>
     requires schema { IsValid schema.now }
     requires valid { IsValidDraft draft.old.stage schema.now draft.old }
@@ -84,8 +84,9 @@ fn finish(draft: Draft) -> StatsFile
     StatsFile { accuracy, tables }
 }
 
-/// Reads the text of a file over a schema. Out: the file, or the first line, counted from 1, that no text of the grammar can have here (Syntax), or no
-/// text of a file that keeps the rules (Rule). For a text that ends too early the answer is Syntax, at the line after its last line.
+/// Reads the text of a file over a schema. Out: the file, or the first line that is refused, counted from 1. `Syntax`: no text of the grammar begins
+/// with the lines up to this one. `Rule`: some text of the grammar does, but no file that keeps the rules. A text that ends too early is refused by
+/// `Syntax`, at the line after its last complete line.
 pub fn read_stats(alloc: Global, schema: &Schema, bytes: &[u8]) -> Result<StatsFile, StatsError>
     requires schema { IsValid schema.now }
     requires length { length bytes.now ≤ most_file }

@@ -5,7 +5,7 @@ ghost use Rattle.stats_reading.specs.Stages.{next_stage};
 
 use crate::line::LineKind;
 
-/// What was read last. A stage is named by the lines that may come next.
+/// What was read last. The stage is named after the lines that may come next.
 #[derive(Clone, Copy, Debug, PartialEq, Eq)]
 pub enum Stage {
     /// Nothing.

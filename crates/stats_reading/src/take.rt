@@ -77,8 +77,8 @@ fn take_words(alloc: Global, schema: &Schema, draft: &mut Draft, line: Line) -> 
     }
 }
 
-/// Takes a line, if its kind and its words may come next. The answer is that of a line of the grammar. If the words of this kind of lines aren't
-/// tested beforehand, taking them shows that the grammar allows them.
+/// Takes a line, if its kind and its words may come next. The grammar is tested only for kinds of lines that are tested beforehand. For the other
+/// kinds, words that are taken are words of the grammar.
 pub fn take(alloc: Global, schema: &Schema, draft: &mut Draft, line: Line) -> Result<(), Fault>
     requires schema { IsValid schema.now }
     requires valid { IsValidDraft draft.old.stage schema.now draft.old }

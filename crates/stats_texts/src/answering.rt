@@ -8,8 +8,8 @@ use stats_file::{StatsError, StatsFile, write_stats};
 use stats_reading::read_stats;
 use std::alloc::Global;
 
-/// The answer to a text over a schema: the text is read, and either written again as the same bytes or as others (`Changed`); or it is refused at a
-/// line.
+/// The answer to a text over a schema. `Read`: the text was read, and written again as the same bytes. `Changed`: it was written again as other
+/// bytes. `Syntax` and `Rule`: it was refused at a line.
 #[derive(Clone, Copy, Debug)]
 pub enum Verdict {
     Read,
@@ -29,7 +29,7 @@ fn is_written(alloc: Global, file: &StatsFile, schema: &Schema, bytes: &[u8]) ->
     write_stats(file, schema, &mut sink).is_ok() && sink.written() == bytes
 }
 
-/// The answer to a text over a schema. It is `Other` if a text is too long, the schema can't be read or memory is lacking.
+/// The answer to a text over a schema. It is `Other` if a text is too long, the schema can't be read, or memory runs out.
 pub fn answer(alloc: Global, schema: &str, bytes: &[u8]) -> Verdict {
     if bytes.len() > MOST_FILE as usize || schema.len() > MOST_TEXT as usize {
         return Verdict::Other;

@@ -1,9 +1,9 @@
-//! Tells how statistics files are answered: texts come from standard input, and one line is written for each text.
+//! Reads statistics files from standard input, and writes one line for each: whether it was read, or why it was refused.
 //!
 //! A line of input is a word, a space and a text in which each `|` stands for a line end. After `schema` comes the schema for the texts that follow.
 //! After `head` comes what these texts begin with, and `more N` appends its text N times to this head. After `text` comes the rest of one text, which
-//! is then read and answered. The answer is `Read` if the file that was read is written as the same bytes again, and `Changed` if it is written as
-//! other bytes. If the text is refused, the answer is the cause with the number of the line.
+//! is then read and answered. The answer is `Read` if the file that was read is written as the same bytes again. It is `Changed` if the file is
+//! written as other bytes. If the text is refused, the answer is the cause with the number of the line.
 #![tactic(auto)]
 
 mod answering;

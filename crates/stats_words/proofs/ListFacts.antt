@@ -1,4 +1,4 @@
--- A list is read run by run. A run is a value and a count, for equal neighbours.
+-- A list is read run by run. A run is a value and how often it comes in a row.
 use Rattle.std.proofs.Common.{[], ◌≡◌, ◌≢◌, ℕ, zero, suc, ◌+◌, ◌*◌, ◌-◌, ◌^◌, ◌<◌, ◌≤◌, List, ◌∷◌, ◌++◌, replicate, length, length-append, refl, ap, sym, subst, ◌∙◌, arith, append_assoc, append-nil, None, Some}
 use Rattle.std.specs.Prelude.{All, codes, sum}
 use Rattle.std.specs.List.{AllByRecursion, flat_map}
@@ -49,8 +49,8 @@ elements_above a (r ∷ rs) all = front r.count (elements_above a rs all.1)
     front zero rest = rest
     front (suc n) rest = (omega (arith, all.0), front n rest)
 
--- this is the state of the loop: `word` is the text of `runs`, each with a blank after it, and then `rest`; `list` is the list of these runs. The next value
--- must be below `below`, and the remaining elements sum to at most `left`
+-- the state of the loop: `word` is the text of `runs`, each with a blank after it, followed by `rest`. The list of these runs is `list`. The next
+-- value must be below `below`, and the remaining elements sum to at most `left`
 pub record RunsReadSoFar (rows : ℕ) (word rest list : List ℕ) (below left : ℕ) : Type 0 where
   pub runs : List Piece
   pub front : word ≡ flat_map with_blank_after runs ++ rest

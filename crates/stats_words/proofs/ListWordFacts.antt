@@ -1,4 +1,4 @@
--- The lemmas say when a word is one run (a value, a star and a count), and when it is runs with blanks between them.
+-- A word is either one run (a value, a star and a count), or several runs with blanks between them.
 use Rattle.std.proofs.Common.{[], ◌≡◌, ℕ, zero, suc, ◌<◌, ◌↔◌, List, ◌∷◌, ◌++◌, ap, sym, subst, ◌∙◌, arith, append-nil}
 use Rattle.std.specs.Prelude.{codes}
 use Rattle.std.specs.List.{AllByRecursion, flat_map}

@@ -32,7 +32,7 @@ next_value ds i v lt is =
     let e : v * 10 + digit_value (get_or ds i 0) ≡ 10 * v + (get_or ds i 0 - 48) = omega (arith, digit_is (get_or ds i 0) is) in
     at_drop_more (digits_value_after 10 v) ds i 0 lt ∙ ap (λ n. digits_value_after 10 n (drop (i + 1) ds)) e
 
--- this is the state of the loop: the first i bytes are digits, and v is their value
+-- the state of the loop: the first i bytes are digits, and v is their value
 pub record Reads (ds : List ℕ) (i v : ℕ) : Type 0 where
   pub value : digits_value_after 10 v (drop i ds) ≡ digits_value 10 ds
   pub digits : list_all is_ascii_digit (drop i ds) ≡ list_all is_ascii_digit ds
@@ -85,7 +85,7 @@ not_spelled word most small not_so n le e =
     let is : is_numeral word ≡ true = subst (λ (w : List ℕ). is_numeral w ≡ true) e (numeral n (omega arith)) in
     absurd (cc)
 
--- `lead` says whether the word has a digit that may come first
+-- `lead` says whether the word's first digit may begin a numeral
 pub number_read : (word : List ℕ) (most : ℕ) (lead : Bool) (r : Option ℕ) → most < 2 ^ 64 → is_numeral word ≡ (list_all is_ascii_digit word && lead) → lead ≡ true
     → SomeIff r ((list_all is_ascii_digit word ≡ true) × (digits_value 10 word ≤ most)) (digits_value 10 word) → Spells decimal (λ n. n ≤ most) word r
 number_read word most lead None small whole leads stops = λ n le e.
@@ -107,7 +107,7 @@ no_dash n rest small e =
 behind : (a b : List ℕ) → 45 ∷ a ≡ 45 ∷ b → a ≡ b
 behind a b e = cc
 
--- ---- a number after a dash: the digits may spell no number, zero, or another number
+-- ---- a number after a dash, by the digits: they spell no number, zero, or another number
 pub negative_none : (digits : List ℕ) → Spells decimal (λ n. n ≤ 2 ^ 63) digits None → Spells signed_decimal (FitsSigned w64) (45 ∷ digits) None
 negative_none digits h = none
   where

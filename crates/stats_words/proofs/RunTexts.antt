@@ -107,7 +107,7 @@ some_run below left value count v c hv hc may word split = (
 pub starless : (below left : ℕ) (word : List ℕ) → Without 42 word → Spells run_text (RunMayFollow below left) word None
 starless below left word none run may e = not_without 42 (decimal run.value) (decimal run.count) (subst (λ (w : List ℕ). Without 42 w) (sym e) none)
 
--- a blank comes after a run that another run follows
+-- the text of a run that another run follows, with the blank between them
 abbrev pub with_blank_after : Piece → List ℕ
 with_blank_after run = run_text run ++ codes " "
 

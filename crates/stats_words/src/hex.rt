@@ -28,7 +28,7 @@ fn are_pairs(digits: &[u8]) -> bool
     are_hex_digits(digits)
 }
 
-/// Whether a word is the letter x and then pairs of hexadecimal digits in lower case.
+/// Whether a word is the letter x, followed by pairs of hexadecimal digits in lower case.
 pub fn is_hex_word(word: &[u8]) -> bool
     ensures { IsTrue result ↔ IsHexWord word.now }
 {

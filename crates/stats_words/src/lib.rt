@@ -1,8 +1,8 @@
-//! The words of a statistics file, one by one: which of them the grammar knows, and which values they spell.
+//! Reads single words of a statistics file: whether the grammar allows a word, and which value it spells.
 //!
-//! In: a word, without the blanks before and after it. Out: whether the grammar has such a word, or the one value that the word spells.
+//! In: a word, without the blanks before and after it. Out: whether the word is a word of the grammar, or the value that it spells.
 //!
-//! Callers cite `Spells` (in `specs/Words.antt`) and the words of stats_file's `specs/Grammar.antt`.
+//! Contracts use `Spells` (in `specs/Words.antt`) and the words in stats_file's `specs/Grammar.antt`.
 //!
 //! ```text
 //! let rows = number(word, u64::from(MOST_ROWS));

@@ -57,7 +57,7 @@ pub fn is_list_word(word: &[u8]) -> bool
     are_run_words(word)
 }
 
-// Whether a run may follow in a list. `below` is the value of the run before it, and the run's sum is at most `left`.
+// Whether a run may come next in a list. `below` is the value of the run before it, and `left` is the greatest sum that the run may have.
 fn may_follow(value: u64, count: u64, below: u64, left: u64) -> bool
     requires small { value < 2 ^ 32 }
     requires few { count < 2 ^ 32 }
@@ -66,7 +66,7 @@ fn may_follow(value: u64, count: u64, below: u64, left: u64) -> bool
     value > 0 && count > 0 && value < below && count * value <= left
 }
 
-// The run with this value and count, if it may follow: its value is below `below`, and its sum is at most `left`.
+// The run with this value and count, if it may come next in a list: its value is below `below`, and its sum is at most `left`.
 fn run_of_words(value: &[u8], count: &[u8], below: u64, left: u64) -> Option<Piece>
     requires { left < 2 ^ 32 }
     ensures { (word : List ℕ) → IsSplitAt 42 word value.now count.now → Spells run_text (RunMayFollow below left) word result }
@@ -81,7 +81,7 @@ fn run_of_words(value: &[u8], count: &[u8], below: u64, left: u64) -> Option<Pie
     }
 }
 
-// The run that a word spells, if it may follow: its value is below `below`, and its sum is at most `left`.
+// The run that a word spells, if it may come next in a list: its value is below `below`, and its sum is at most `left`.
 fn next_run(word: &[u8], below: u64, left: u64) -> Option<Piece>
     requires { left < 2 ^ 32 }
     ensures { Spells run_text (RunMayFollow below left) word.now result }
@@ -115,7 +115,7 @@ fn runs(alloc: Global, word: &[u8], rows: u32) -> Result<Option<Pieces>, NoMemor
     Ok(Some(list))
 }
 
-/// The degree list with a sum of at most `rows` that a word spells.
+/// The degree list that a word spells, if its sum is at most `rows`.
 pub fn list(alloc: Global, word: &[u8], rows: u32) -> Result<Option<Pieces>, NoMemory>
     ensures { IfOk result (λ list. Spells list_text (IsList rows) word.now list) }
 {

@@ -15,7 +15,7 @@ fn are_digits(bytes: &[u8]) -> bool
     bytes.iter().all(|byte| byte.is_ascii_digit())
 }
 
-// Whether the word with this first byte and these other bytes is a numeral.
+// Whether the word is a numeral that has this first byte and these other bytes.
 fn begins_numeral(first: u8, others: &[u8]) -> bool
     ensures { result ≡ (digit_test first && list_all digit_test others.now && (nat_lt 48 first || length others.now == 0)) }
 {
@@ -32,7 +32,7 @@ pub fn is_numeral(word: &[u8]) -> bool
     }
 }
 
-// Whether a word that consists of digits is a numeral: it has at least one digit, and no leading zero unless it is 0 alone.
+// Whether a word may be a numeral, if it consists of digits: it has at least one digit, and no leading zero unless it is 0 alone.
 fn may_begin_numeral(word: &[u8]) -> bool
     ensures { numeral_test word.now ≡ (list_all digit_test word.now && result) }
 {
@@ -42,7 +42,7 @@ fn may_begin_numeral(word: &[u8]) -> bool
     }
 }
 
-// The value after one more digit, if the byte is a digit and the new value is at most `most`.
+// The value of the digits with one more digit appended, if the byte is a digit and this value is at most `most`.
 fn next_value(value: u64, byte: u8, most: u64) -> Option<u64>
     ensures { SomeIff result ((digit_test byte ≡ true) × (10 * value + (byte - 48) ≤ most)) (10 * value + (byte - 48)) }
 {
@@ -92,8 +92,8 @@ fn negative(digits: &[u8]) -> Option<i64>
     Some(-1 - (size - 1) as i64)
 }
 
-// The number that a word without a dash spells.
-fn natural(word: &[u8]) -> Option<i64>
+// The signed number of 64 bits that a word without a dash spells.
+fn number_without_dash(word: &[u8]) -> Option<i64>
     requires { slice_index word.now 0 ≢ 45 }
     ensures { Spells signed_decimal (FitsSigned w64) word.now result }
 {
@@ -109,7 +109,7 @@ pub fn signed_number(word: &[u8]) -> Option<i64>
 {
     match word {
         [b'-', digits @ ..] => negative(digits),
-        _ => natural(word),
+        _ => number_without_dash(word),
     }
 }
 

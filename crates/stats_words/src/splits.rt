@@ -2,7 +2,7 @@
 ghost use Rattle.std.specs.Prelude.{MatchOption};
 ghost use Rattle.stats_words.specs.Splits.{IsSplitAt, Without};
 
-/// The parts of `text` before the first `byte` and after it.
+/// The part of `text` before the first `byte`, and the part after it.
 pub fn split_at_byte(text: &[u8], byte: u8) -> Option<(&[u8], &[u8])>
     ensures { MatchOption result (Without byte text.now) (λ parts. IsSplitAt byte text.now parts.0.now parts.1.now) }
 {

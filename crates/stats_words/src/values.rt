@@ -14,7 +14,7 @@ use schema_types::Kind;
 use stats_file::Datum;
 use std::alloc::Global;
 
-/// Whether a word is a value: a numeral, perhaps with a dash before it, or hexadecimal digits.
+/// Whether a word is a value: a numeral, perhaps with a dash before it, or a word of hexadecimal digits.
 pub fn is_value_word(word: &[u8]) -> bool
     ensures { IsTrue result ↔ IsValueWord word.now }
 {

@@ -32,7 +32,7 @@ use Rattle.table_files.proofs.FewRows.{HasFewRows, tables_are_few}
 use Rattle.table_files.proofs.EntryRows.{db, each_long, each_sound, has_cells, place_low, slot_is}
 use Rattle.table_files.proofs.IndexFacts.{different_all, different_short}
 
--- ---- if property Q of a comparison implies property R, it does so for whole conditions
+-- ---- if property Q of a comparison implies property R, the same holds for AND, OR and NOT of comparisons
 
 module _ (Q R : Cond-F Cond → Type 0) (and : (all : List Cond) → R (layer.And all)) (or : (any : List Cond) → R (layer.Or any)) (not' : (inner : Cond) → R (layer.Not inner))
     (one : (op : Op) (left right : Operand) → Q (layer.Compare op left right) → R (layer.Compare op left right)) where

@@ -55,7 +55,8 @@ parted schema (m ∷ before) n after files =
 
 -- ---- reading one more table, number n: its refusal ends the reading, its rows are appended
 
--- `Reads` asks at which file a reading may have ended. For a reading that succeeds any condition will do, so this one holds of every file
+-- `Reads` needs a condition on the file at which a reading may fail. For a reading that succeeds, any condition is enough. `AnyFile` holds for every
+-- file
 abbrev pub AnyFile : Files → FileId → Type 0
 AnyFile files id = ⊤
 

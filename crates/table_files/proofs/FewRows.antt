@@ -78,7 +78,7 @@ file_is_few table bytes rows is =
     let same : read.0 ≡ rows = with_keys table.keys read.0 rows read.2 in
     omega (arith, ap (λ (s : List Row). length s) same, under_header table.columns records read.0 read.1)
 
--- ---- the limit for cells of a table, and for the tables of a database
+-- ---- the limit of 4,000,000 rows for the cells of a table, and for the tables of a database
 
 abbrev pub HasFewRows : Cells → Type 0
 HasFewRows cells = cells.rows ≤ 4000000

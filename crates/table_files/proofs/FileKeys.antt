@@ -1,4 +1,4 @@
--- Rows that were read from a table's file: their texts are UTF-8, and no two rows have the same value in a column that is a key by itself.
+-- Rows that were read from a table's file have UTF-8 texts. No two of them have the same value in a column that is a key by itself.
 use Rattle.std.proofs.Common.{◌≡◌, ℕ, ℤ, zero, suc, ◌+◌, ◌<◌, ◌≤◌, Bool, true, false, nat_eq, nat_lt, List, [], ◌∷◌, ◌++◌, length, map, get_or, pos, Option, None, Some, Result, Ok, Err, refl, ap, sym, ◌∙◌, subst, inl, inr, not, arith, length-append, append_assoc}
 use Rattle.std.specs.Prelude.{IsUtf8, encode_utf8_all, position, if◌then◌else◌, option_map, nat_le, ⊤}
 use Rattle.std.specs.Cmp.Lexicographic.{slice_cmp}
@@ -186,7 +186,7 @@ row_at [] i h = tt
 row_at (row ∷ rows) zero h = h.0
 row_at (row ∷ rows) (suc i) h = row_at rows i h.1
 
--- ---- the rows in a file
+-- ---- the rows of a file are readable, and keep the table's keys
 
 pub record KeepsKeys (table : Table) (rows : List Row) : Type 0 where
   pub readable : AllByRecursion (AllByRecursion IsReadable) rows

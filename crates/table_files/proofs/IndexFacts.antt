@@ -108,7 +108,7 @@ different_old ns n lt = elim (cases_Bool (has (without_repeats ns) n)) [
   | inr fresh ↦ absurd (omega (arith, no_place (without_repeats ns) n fresh))
 ]
 
--- ---- `without_repeats` gives a list that isn't longer, and a property of all numbers of the list stays
+-- ---- the list that `without_repeats` gives isn't longer, and its numbers keep a property that all numbers had
 
 kept_short : (m : ℕ) (xs : List ℕ) → length (without m xs) ≤ length xs
 kept_short m [] = omega arith

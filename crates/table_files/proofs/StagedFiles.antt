@@ -22,9 +22,9 @@ use Rattle.table_files.specs.Stage.{numbers_of, index_of, rows_by_entry, rows_of
 use Rattle.table_files.specs.TableFile.{bytes_of, file_rows, read, rows_of_bytes}
 use Rattle.table_files.proofs.EntryLaws.{entries_have, two_steps}
 
-pub told_ok : {A E : Type 0} (refusal_of : E → Refusal) (r : Result A E) (x : A) → with_refusal refusal_of r ≡ Ok x → r ≡ Ok x
-told_ok refusal_of (Ok y) x e = (let same : y ≡ x = cc in ap Ok same)
-told_ok refusal_of (Err s) x e = cc
+pub ok_without_refusal : {A E : Type 0} (refusal_of : E → Refusal) (r : Result A E) (x : A) → with_refusal refusal_of r ≡ Ok x → r ≡ Ok x
+ok_without_refusal refusal_of (Ok y) x e = (let same : y ≡ x = cc in ap Ok same)
+ok_without_refusal refusal_of (Err s) x e = cc
 
 limited_ok : {A : Type 0} (long : Bool) (r : Refusal) (y x : A) → (if long then Err r else Ok y) ≡ Ok x → y ≡ x
 limited_ok true r y x e = cc
@@ -44,7 +44,7 @@ table_ok number table files rows e =
     let steps = two_steps (read (file.Table number) 67108864 (file_name table) files) (rows_of_bytes number table) rows e in (
       steps.0,
       read_ok (file.Table number) 67108864 (file_name table) files steps.0 steps.1,
-      told_ok (table_refusal number) (rows_of_file table steps.0) rows steps.2,
+      ok_without_refusal (table_refusal number) (rows_of_file table steps.0) rows steps.2,
     )
 
 module _ (schema : Schema) (from : List Source) (files : Files) (rows : List (List Row)) (staged : tables_stage schema from files ≡ Ok rows) where

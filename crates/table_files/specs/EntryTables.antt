@@ -26,7 +26,7 @@ abbrev pub HasCells : Schema → List Source → Database → Type 0
 HasCells schema from db = (entry : ℕ) → entry < length from
     → AreCellsOf (table_at schema (slice_index (numbers_of from) entry)) db.pool (cells_of db entry)
 
--- both lists are equally long, and each `Cells` is that of the table whose number is at the same index
+-- There are as many `Cells` as table numbers. `Cells` i are those of the table whose number is element i of the numbers
 abbrev pub AreCellsOfEach : Schema → List (List ℕ) → List ℕ → List Cells → Type 0
 AreCellsOfEach schema texts [] [] = ⊤
 AreCellsOfEach schema texts [] (cells ∷ others) = ⊥
@@ -52,7 +52,7 @@ AreOfAFile table rows = (bytes : List ℕ) × (rows_of_file table bytes ≡ Ok r
 abbrev pub AreOfFiles : Schema → List Source → Tables → Type 0
 AreOfFiles schema from tables = (entry : ℕ) → entry < length from → AreOfAFile (table_at schema (slice_index (numbers_of from) entry)) (tables entry)
 
--- both lists are equally long, and each item has the rows of some file of the table whose number is at the same index
+-- There are as many lists of rows as table numbers. List i comes from some file of the table whose number is element i of the numbers
 abbrev pub AreOfFilesEach : Schema → List ℕ → List (List Row) → Type 0
 AreOfFilesEach schema [] [] = ⊤
 AreOfFilesEach schema [] (rows ∷ others) = ⊥

@@ -52,13 +52,13 @@ rows_of_each schema (number ∷ numbers) files = do
 abbrev pub rows_by_entry : List Source → List (List Row) → List (List Row)
 rows_by_entry from rows = map (λ number. slice_index_or rows (index_of (tables_of_query from) number) []) (numbers_of from)
 
--- the stage: each table of the query is read once, in the order of FROM, and each entry has the rows of its table
+-- The stage. Each table of the query is read once, in the order of FROM, and each entry gets the rows of its table
 unfoldable pub tables_stage : Schema → List Source → Files → Result (List (List Row)) Refusal
 tables_stage schema from files = do
   rows ← rows_of_each schema (tables_of_query from) files
   Ok (rows_by_entry from rows)
 
--- the reading of tables reaches the file `id`: it is that of one of the tables, and no table before this one is refused
+-- reading the tables in turn reaches the file `id`: it is the file of one of them, and no earlier table is refused
 pub record IsReached (schema : Schema) (numbers : List ℕ) (files : Files) (id : FileId) : Type 0 where
   pub before : List ℕ
   pub number : ℕ

@@ -26,7 +26,7 @@ read id most name files = bytes_of id most (file_of files name)
 abbrev pub rows_of_bytes : ℕ → Table → List ℕ → Result (List Row) Refusal
 rows_of_bytes number table bytes = with_refusal (table_refusal number) (rows_of_file table bytes)
 
--- the rows of the table with this number, read from the file of this name, or why the file is refused: it is absent, too long, or its content is
+-- the rows of the table with this number, read from the file of this name. The file is refused if it is absent or too long, or for its content
 abbrev pub rows_in : ℕ → Table → List ℕ → Files → Result (List Row) Refusal
 rows_in number table name files = do
   bytes ← read (file.Table number) most_file name files

@@ -1,6 +1,6 @@
 //! Reads tables one after another.
 ghost use Rattle.std.specs.Prelude.{◌≡◌, ◌≤◌, ◌<◌, [], All, length, IfOk};
-ghost use Rattle.limits.specs.Profile.{most_rows};
+ghost use Rattle.limits.specs.Profile.{most_entries, most_rows};
 ghost use Rattle.base_io.specs.Devices.{reading};
 ghost use Rattle.outcomes.specs.Reads.{Reads, mapped};
 ghost use Rattle.schema_types.specs.Validity.{IsValid};
@@ -14,7 +14,7 @@ use outcomes::Failure;
 use schema_types::Schema;
 use std::alloc::Global;
 
-/// Reads the tables with these numbers in the schema, in this order, into one pool.
+/// Reads the tables with these numbers in the schema, in this order, into one pool. All files are read into the same memory, one after another.
 pub(crate) fn read_each<S: Store>(
     alloc: Global,
     store: &mut S,
@@ -24,7 +24,7 @@ pub(crate) fn read_each<S: Store>(
 ) -> Result<Seq<Cells>, Failure>
     requires valid { IsValid schema.now }
     requires numbers { All (λ number. number < length schema.now.tables) numbers.now }
-    requires few { length numbers.now ≤ 12 }
+    requires few { length numbers.now ≤ most_entries }
     requires empty { pool.old ≡ [] }
     ensures cells { IfOk result (AreCellsOfEach schema.now pool.new numbers.now) }
     ensures few_rows { IfOk result (All (λ cells. cells.rows ≤ most_rows)) }
@@ -32,10 +32,11 @@ pub(crate) fn read_each<S: Store>(
     ensures reads { Reads (reading S.files S.faults S.misses store.old store.new) (rows_of_each schema.now numbers.now)
         (IsReached schema.now numbers.now) (mapped (rows_of_tables pool.new) result) }
 {
+    let mut file_memory = Seq::new(alloc);
     let mut found = Seq::new(alloc);
     'numbers: for number in numbers {
         let table = schema.tables.get(*number as usize);
-        let cells = load_table(alloc, store, *number, table, pool)?;
+        let cells = load_table(alloc, store, *number, table, &mut file_memory, pool)?;
         let Ok(()) = found.push(cells) else {
             return Err(Failure::NoMemory);
         };

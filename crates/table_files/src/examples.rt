@@ -1,4 +1,4 @@
-//! Examples of the stage, as theorems that are proved by computation.
+//! Examples of `tables_stage`, as theorems that are proved by computation.
 ghost use Rattle.std.specs.Prelude.{◌≡◌, ◌∷◌, [], codes, Err};
 ghost use Rattle.outcomes.specs.declared.names.FileId.TheVariants as file;
 ghost use Rattle.outcomes.specs.declared.refusal.Refusal.TheVariants as refusal;
@@ -15,7 +15,7 @@ pub fn orders()
 {}
 
 #[tactic(auto, unfolding(crate::specs::TableFile::file_rows, crate::specs::Stage::tables_stage))]
-/// If the files of two tables are absent, the one of FROM's first table is reported, whatever the order of the schema is.
+/// The first absent file in the order of FROM is reported, whatever the order of the schema is.
 pub fn absences()
     ensures none { tables_stage two_tables s_r_s [] ≡ Err (refusal.Missing (file.Table 1)) }
     ensures first { tables_stage two_tables s_r_s only_r ≡ Err (refusal.Missing (file.Table 1)) }

@@ -8,8 +8,8 @@ ghost use Rattle.schema_types.specs.declared.types.Schema.{Schema};
 ghost use Rattle.table_files.specs.EntryTables.{AreOfFiles, tables_in};
 ghost use Rattle.table_files.specs.Stage.{numbers_of, table_rows, tables_stage};
 
-/// If no file is refused, each entry has the rows of its own table's file, both in the rows of the stage and as `Tables` of a query. A query of one
-/// entry has the rows of its table, or the refusal of its table. The function does nothing.
+/// If no file is refused, the stage gives each entry the rows of its own table's file. The `Tables` made of these rows come from files too. For a
+/// query of one entry the stage gives the rows of its table, or the refusal of its file. The function does nothing.
 pub fn entries_have_their_rows()
     ensures each { (schema : Schema) (from : List Source) (files : Files) (rows : List (List Row))
         → tables_stage schema from files ≡ Ok rows

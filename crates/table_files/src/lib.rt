@@ -1,12 +1,13 @@
 //! Reads the tables of a query from their files: the stage of a run after the query is read.
 //!
 //! A query has from one to twelve FROM entries. Each table that they name is read once, in the order in
-//! which FROM first names it, from the file that has its name in lower case and `.csv`. Entries of one table
-//! share its cells, and all tables share one pool of texts. A file's bytes are freed as soon as its cells are made.
+//! which FROM first names it. Its file has the table's name in lower case and `.csv`. Entries of one table
+//! share its cells, and all tables share one pool of texts. All files are read into the same memory, one after
+//! another. This memory is freed after the last file.
 //!
-//! Callers cite `tables_stage` (in `specs/Stage.antt`): for each entry the rows of its table, or the first
-//! refusal, as the schema, FROM and the files determine it. `IsReached`, in the same file, says which files the stage
-//! reads. `entry_rows` and `HasCells` (in `specs/EntryTables.antt`) say what a database has for each entry.
+//! In contracts `tables_stage` (in `specs/Stage.antt`) gives the rows of each entry's table, or the first refusal. `IsReached` (in
+//! `specs/Stage.antt`) says which files the stage reads. `entry_rows` and `HasCells` (in `specs/EntryTables.antt`) say what a database has for
+//! each entry.
 #![tactic(auto)]
 
 mod each;

@@ -8,11 +8,10 @@ ghost use Rattle.table_files.specs.TableFile.{read};
 use base_io::{ReadError, Seq, Store, read_file};
 use outcomes::{Failure, FileId, Refusal};
 use schema_types::LimitKind;
-use std::alloc::Global;
 
-/// Reads a file of at most `limit` bytes.
+/// Reads a file of at most `limit` bytes, into the memory of a list that is no longer needed.
 pub fn load_file<S: Store>(
-    alloc: Global,
+    memory: Seq<u8>,
     store: &mut S,
     file: FileId,
     name: &str,
@@ -22,7 +21,7 @@ pub fn load_file<S: Store>(
     ensures short { IfOk result (λ bytes. length bytes ≤ limit) }
     ensures reads { Reads (reading S.files S.faults S.misses store.old store.new) (read file limit name.now) (AtFile file) result }
 {
-    match read_file(alloc, store, name, limit) {
+    match read_file(memory, store, name, limit) {
         Ok(bytes) => Ok(bytes),
         Err(ReadError::Missing) => Err(Failure::Refused(Refusal::Missing { file })),
         Err(ReadError::Fault) => Err(Failure::Fault { file }),

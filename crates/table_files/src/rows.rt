@@ -11,7 +11,7 @@ ghost use Rattle.table_files.specs.Stage.{table_at};
 ghost use Rattle.table_files.specs.TableFile.{rows_in};
 
 use crate::table::load_rows;
-use base_io::Store;
+use base_io::{Seq, Store};
 use csv_tables::{Cells, Pool};
 use outcomes::{Failure, FileId};
 use schema_types::Schema;
@@ -24,7 +24,7 @@ pub struct TableRows {
     pub cells: Cells,
 }
 
-/// Reads rows of the table with this number in the schema from the file of this name, and refuses what a table's file may not have. A key is tested
+/// Reads rows of the table with this number in the schema from the file of this name. It refuses what a table's file may not have. It tests keys
 /// among these rows alone.
 pub fn read_rows<S: Store>(
     alloc: Global,
@@ -42,13 +42,22 @@ pub fn read_rows<S: Store>(
     ensures texts { IfOk result (λ read. All IsUtf8 read.pool) }
     ensures different { IfOk result (λ read. TextsAreDifferent read.pool) }
 
-    // Over a store that tells its files, the rows are those that `rows_in` gives. If the reading ended, the `Failure` says why.
+    // Over a store that tells its files, the rows are those that `rows_in` gives. If the reading stopped early, the `Failure` says why.
     ensures reads { Reads (reading S.files S.faults S.misses store.old store.new) (rows_in number (table_at schema.now number) name.now)
         (AtFile (FileId.Table number)) (mapped rows_of_read result) }
 {
     let mut pool = Pool::new(alloc);
     let table = schema.tables.get(number as usize);
-    let cells = load_rows(alloc, store, number, table, name, &mut pool)?;
+    let mut file_memory = Seq::new(alloc);
+    let cells = load_rows(
+        alloc,
+        store,
+        number,
+        table,
+        name,
+        &mut file_memory,
+        &mut pool,
+    )?;
     // The contract of `len` says that the pool's texts are UTF-8 and different.
     let _texts = pool.len();
     Ok(TableRows { pool, cells })

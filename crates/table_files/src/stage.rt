@@ -22,8 +22,8 @@ use std::alloc::Global;
 /// Reads the tables of a query of the schema, each once, in the order in which FROM first names them. Entries
 /// of one table share one element of `cells`.
 ///
-/// The first refusal of a file ends the reading: the file is absent, has more than 67,108,864 bytes, or its rows are refused. A failed read ends it
-/// too, and is counted as a fault. A lack of memory may end it anywhere.
+/// The reading stops at the first file that is absent, has more than 67,108,864 bytes, or has refused rows. It stops at a failed read too, which
+/// the store counts as a fault. It may run out of memory at any point.
 pub fn read_tables<S: Store>(
     alloc: Global,
     store: &mut S,
@@ -50,7 +50,7 @@ pub fn read_tables<S: Store>(
     // The tables made of the entries' rows are those of the database.
     ensures tables { IfOk result (λ db. tables_in (entry_rows db) ≡ tables_of db) }
 
-    // Over a store that tells its files, the entries' rows are those that `tables_stage` gives. If the reading ended, the `Failure` says why.
+    // Over a store that tells its files, the entries' rows are those that `tables_stage` gives. If the reading stopped early, the `Failure` says why.
     ensures reads { Reads (reading S.files S.faults S.misses store.old store.new) (tables_stage schema.now query.now.from)
         (IsReached schema.now (tables_of_query query.now.from)) (mapped entry_rows result) }
 {

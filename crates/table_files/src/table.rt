@@ -11,12 +11,13 @@ ghost use Rattle.table_files.specs.FileNames.{file_name};
 ghost use Rattle.table_files.specs.TableFile.{file_rows, rows_in};
 
 use crate::load::load_file;
-use base_io::{NoMemory, Store};
+use base_io::{NoMemory, Seq, Store};
 use csv_tables::{Cells, Pool, read_table};
 use limits::MOST_FILE;
 use outcomes::{Failure, FileId, table_failure};
 use schema_types::Table;
 use std::alloc::Global;
+use std::mem;
 
 // The name of a table's file: the table's name in lower case, and `.csv`.
 fn table_file_name(alloc: Global, table: &Table) -> Result<String, NoMemory>
@@ -27,13 +28,15 @@ fn table_file_name(alloc: Global, table: &Table) -> Result<String, NoMemory>
     Ok(name)
 }
 
-/// Reads rows of the table with this number in the schema from the file of this name. The bytes are freed once the table's cells are made.
+/// Reads rows of the table with this number in the schema from the file of this name. The file is read into the memory of `file_memory`, which the
+/// next file can use.
 pub(crate) fn load_rows<S: Store>(
     alloc: Global,
     store: &mut S,
     number: u32,
     table: &Table,
     name: &str,
+    file_memory: &mut Seq<u8>,
     pool: &mut Pool,
 ) -> Result<Cells, Failure>
     requires valid { IsValidTable table.now }
@@ -48,9 +51,13 @@ pub(crate) fn load_rows<S: Store>(
         (mapped (rows_of_cells pool.new) result) }
 {
     let file = FileId::Table(number);
-    let bytes = load_file(alloc, store, file, name, MOST_FILE)?;
+    let memory = mem::replace(file_memory, Seq::new(alloc));
+    let bytes = load_file(memory, store, file, name, MOST_FILE)?;
     match read_table(alloc, table, bytes.as_slice(), pool) {
-        Ok(cells) => Ok(cells),
+        Ok(cells) => {
+            *file_memory = bytes;
+            Ok(cells)
+        }
         Err(error) => Err(table_failure(number, error)),
     }
 }
@@ -61,6 +68,7 @@ pub(crate) fn load_table<S: Store>(
     store: &mut S,
     number: u32,
     table: &Table,
+    file_memory: &mut Seq<u8>,
     pool: &mut Pool,
 ) -> Result<Cells, Failure>
     requires valid { IsValidTable table.now }
@@ -77,5 +85,13 @@ pub(crate) fn load_table<S: Store>(
     let Ok(name) = table_file_name(alloc, table) else {
         return Err(Failure::NoMemory);
     };
-    load_rows(alloc, store, number, table, name.as_str(), pool)
+    load_rows(
+        alloc,
+        store,
+        number,
+        table,
+        name.as_str(),
+        file_memory,
+        pool,
+    )
 }

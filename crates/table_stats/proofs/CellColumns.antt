@@ -1,4 +1,4 @@
--- A column of cells has the same lists as the column of their values: each cell has one number, and cells compare as their values do.
+-- A column of cells has the same lists as the column of their values. Each cell has one number, and cells compare as their values do.
 use Rattle.std.proofs.Common.{◌≡◌, ℕ, ◌<◌, true, List, [], ◌∷◌, length, map, get_or, pos, Option, None, Some, refl, ap, sym, ◌∙◌, subst, arith, inl, inr}
 use Rattle.std.specs.Prelude.{option_map}
 use Rattle.std.specs.List.{All, Contains, zip}

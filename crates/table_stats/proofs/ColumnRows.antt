@@ -9,7 +9,7 @@ use Rattle.filtered_lists.specs.Standing.{value_in_row}
 use Rattle.level_bounds.proofs.Lists.{map_both}
 use Rattle.relabelling_laws.proofs.Rows.{columns_are}
 use Rattle.sql_meaning.specs.Tables.{Tables, row_counts}
-use Rattle.table_stats.specs.Keys.{TellsListed, SeparatesValues}
+use Rattle.table_stats.specs.Keys.{SeparatesListed, SeparatesValues}
 use Rattle.table_stats.specs.Columns.{column_values, first_row, as_first_rows, paired, value_of_row}
 use Rattle.table_stats.proofs.EqualValues.{equal_itself, is_equal}
 use Rattle.table_stats.proofs.FirstRows.{first_has, first_there, same_first}
@@ -93,7 +93,7 @@ module _ (tables : Tables) (entry : ℕ) where
           long,
         ))).0
 
-  pub listed_tell : (column : ℕ) (key : ℕ → ℕ) → SeparatesValues tables entry column key → TellsListed (values column) key
+  pub listed_tell : (column : ℕ) (key : ℕ → ℕ) → SeparatesValues tables entry column key → SeparatesListed (values column) key
   listed_tell column key tells row other low also =
       let below : row < row_count = omega (arith, low, height column) in
       let beside : other < row_count = omega (arith, also, height column) in

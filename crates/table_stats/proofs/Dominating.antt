@@ -23,7 +23,7 @@ use Rattle.relabelling_laws.proofs.Dominated.{passing_dominated}
 use Rattle.relabelling_laws.proofs.Rows.{of_rows}
 use Rattle.sql_meaning.specs.Tables.{Tables, row_counts}
 use Rattle.table_stats.specs.Columns.{column_values, first_row, as_first_rows, paired, row_le, value_of_row}
-use Rattle.table_stats.specs.Keys.{TellsListed, SeparatesValues}
+use Rattle.table_stats.specs.Keys.{SeparatesListed, SeparatesValues}
 use Rattle.table_stats.specs.Statistics.{column_lists, end_leaf, lists_over}
 use Rattle.table_stats.proofs.ColumnRows.{filter_numbers, height, listed_below, listed_number, listed_numbers_are, listed_tell, number_at, number_has, pairs_are, row_count, rows, value_at, values}
 use Rattle.table_stats.proofs.EqualValues.{alike_le, equal_itself, is_equal, le_from_ge}
@@ -161,14 +161,14 @@ module _ (tables : Tables) (accuracy entry : ℕ) (joined : List Value) (long : 
 
 -- ---- keys that tell which values are equal
 
-keys_tell : (joined : List Value) (key : ℕ → ℕ) → TellsListed joined key
+keys_tell : (joined : List Value) (key : ℕ → ℕ) → SeparatesListed joined key
     → (row other : ℕ) → row < length joined → other < length joined → (listed_number joined row ≡ listed_number joined other) ↔ (key row ≡ key other)
 keys_tell joined key tells row other low also = (
   (λ same. (tells row other low also).1 (equal_firsts joined (value_of_row joined row) (value_of_row joined other) (listed_below joined row low) same)),
   (λ same. same_first joined (value_of_row joined row) (value_of_row joined other) ((tells row other low also).0 same)),
 )
 
-pub listed_stand : (tables : Tables) (accuracy entry : ℕ) (joined : List Value) (key : ℕ → ℕ) → length joined ≡ row_counts tables entry → TellsListed joined key
+pub listed_stand : (tables : Tables) (accuracy entry : ℕ) (joined : List Value) (key : ℕ → ℕ) → length joined ≡ row_counts tables entry → SeparatesListed joined key
     → ListsStandFor (lists_over accuracy (column_values tables entry) joined) tables entry key
 listed_stand tables accuracy entry joined key long tells =
     let alike : (row other : ℕ) → row < row_count tables entry → other < row_count tables entry → (listed_number joined row ≡ listed_number joined other) ↔ (key row ≡ key other) =

@@ -1,4 +1,4 @@
--- If each row that passes test p passes test q, any given keys have at most as many rows that pass p as rows that pass q.
+-- Suppose that each row that passes test p passes test q too. Then any given keys have at most as many rows that pass p as rows that pass q.
 use Rattle.std.proofs.Common.{◌≡◌, ℕ, zero, suc, ◌+◌, ◌<◌, ◌≤◌, Bool, true, cond, List, [], ◌∷◌, map, arith, inl, inr}
 use Rattle.std.specs.List.{AllByRecursion, count_by, filter, range_with_len}
 use Rattle.std.proofs.lemmas.Bool.{cases_Bool}

@@ -17,7 +17,7 @@ use Rattle.degree_sequences.proofs.DegreeLists.{IsDescending-degree_list, places
 use Rattle.degree_sequences.specs.Domination.{DominatesKeys}
 use Rattle.filtered_lists.specs.Lists.{ColumnLists}
 use Rattle.filtered_lists.specs.Ranges.{Range}
-use Rattle.filtered_lists.specs.Standing.{CountsStandFor, ListsFall, SumTo, has_value, is_in_range, rows_where}
+use Rattle.filtered_lists.specs.Standing.{CountsStandFor, ListsDescend, SumTo, has_value, is_in_range, rows_where}
 use Rattle.sql_meaning.specs.Tables.{Tables, row_counts}
 use Rattle.table_stats.specs.Columns.{first_row, as_first_rows, paired, row_le}
 use Rattle.table_stats.specs.Statistics.{column_lists, count_with, entry_counts, lists_over}
@@ -48,7 +48,7 @@ module _ (tables : Tables) (accuracy entry : ℕ) (joined : List Value) where
   abbrev pairs : ℕ → List (ℕ × ℕ)
   pairs column = paired (values tables entry column) joined
 
-  pub listed_fall : ListsFall (lists_over accuracy (values tables entry) joined)
+  pub listed_fall : ListsDescend (lists_over accuracy (values tables entry) joined)
   listed_fall = record {
     whole = compressed-falls accuracy (as_first_rows joined);
     equal = λ column value. value-falls accuracy (pairs column) (first_row (values tables entry column) value);
@@ -91,7 +91,7 @@ module _ (tables : Tables) (accuracy entry : ℕ) (joined : List Value) where
 
 -- ---- the lists of an entry's columns
 
-pub lists_descend : (tables : Tables) (accuracy entry joined : ℕ) → ListsFall (column_lists tables accuracy entry joined)
+pub lists_descend : (tables : Tables) (accuracy entry joined : ℕ) → ListsDescend (column_lists tables accuracy entry joined)
 lists_descend tables accuracy entry joined = listed_fall tables accuracy entry (values tables entry joined)
 
 pub lists_sum : (tables : Tables) (accuracy entry joined : ℕ) → SumTo (column_lists tables accuracy entry joined) (entry_counts tables entry)
@@ -100,7 +100,7 @@ lists_sum tables accuracy entry joined = listed_sum tables accuracy entry (value
 -- ---- the counts are at least the numbers of rows that pass
 
 module _ (tables : Tables) (entry : ℕ) where
-  -- rows are counted here by the numbers of column 0; any column would do
+  -- this counts rows by the numbers of column 0; any other column would serve as well
   abbrev first_column : List Value
   first_column = values tables entry 0
 

@@ -3,8 +3,8 @@ use Rattle.std.specs.Prelude.{ℕ, Bool, List, map, pos, slice_index_or}
 use Rattle.std.specs.List.{position_or_len, range_with_len, zip}
 use Rattle.std.specs.Ordering.{is_eq}
 use Rattle.csv_tables.specs.Values.{Value, Int, value_cmp}
-use Rattle.cond_stats.specs.Columns.{value_le}
-use Rattle.cond_stats.specs.Leaves.{last_leaf_where}
+use Rattle.cond_stats.specs.Columns.{leaf_among, value_le}
+use Rattle.cond_stats.specs.Leaves.{cuts}
 use Rattle.filtered_lists.specs.Standing.{value_in_row}
 use Rattle.sql_meaning.specs.Tables.{Tables, row_counts}
 
@@ -28,9 +28,9 @@ value_of_row values row = slice_index_or values row (Int (pos 0))
 abbrev pub row_le : List Value → ℕ → ℕ → Bool
 row_le values row other = value_le (value_of_row values row) (value_of_row values other)
 
--- the leaf of any value, also of one that no row has: the last leaf whose cut is at most the value, or leaf 0 if there is none
+-- The leaf of any value, even if no row has it
 abbrev pub leaf_of_value : List Value → Value → ℕ
-leaf_of_value values value = last_leaf_where (row_le values) (as_first_rows values) (λ cut. value_le (value_of_row values cut) value)
+leaf_of_value values value = leaf_among (value_of_row values) (cuts (row_le values) (as_first_rows values)) value
 
 -- the numbers of a filter column and a joined column, as one pair for each row
 abbrev pub paired : List Value → List Value → List (ℕ × ℕ)

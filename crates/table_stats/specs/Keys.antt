@@ -12,6 +12,6 @@ SeparatesValues tables entry column key = (row other : ℕ) → row < row_counts
     → (key row ≡ key other) ↔ (is_eq (value_cmp (value_in_row tables entry column row) (value_in_row tables entry column other)) ≡ true)
 
 -- two rows have the same key exactly if the elements of the list at these rows are equal
-abbrev pub TellsListed : List Value → (ℕ → ℕ) → Type 0
-TellsListed values key = (row other : ℕ) → row < length values → other < length values
+abbrev pub SeparatesListed : List Value → (ℕ → ℕ) → Type 0
+SeparatesListed values key = (row other : ℕ) → row < length values → other < length values
     → (key row ≡ key other) ↔ (is_eq (value_cmp (value_of_row values row) (value_of_row values other)) ≡ true)

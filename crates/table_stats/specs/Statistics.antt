@@ -16,7 +16,7 @@ end_leaf values end = option_map (leaf_of_value values) end
 
 -- ---- lists
 
--- the list of a joined column for a value of a filter column: if the value is frequent, that of the value's rows, otherwise the rest list
+-- The list of a joined column for a value of a filter column. It is the list of the value's rows if the value is frequent, otherwise the rest list
 abbrev pub list_with : ℕ → List Value → List Value → Value → List ℕ
 list_with accuracy filter joined value = list_of_value accuracy (paired filter joined) (Some (first_row filter value))
 
@@ -38,9 +38,9 @@ lists_over accuracy filters joined = record {
 abbrev pub column_lists : Tables → ℕ → ℕ → ℕ → ColumnLists
 column_lists tables accuracy entry joined = lists_over accuracy (column_values tables entry) (column_values tables entry joined)
 
--- ---- numbers of rows
+-- ---- row counts
 
--- the number of rows with this value if the value is frequent, otherwise the number of rows of the most frequent value among the others
+-- The number of rows with this value, if the value is frequent. Otherwise the number of rows of the most frequent value among those that aren't
 abbrev pub count_with : List Value → Value → ℕ
 count_with filter value =
     if list_any (λ other. other == first_row filter value) (frequent (as_first_rows filter))
@@ -52,11 +52,11 @@ abbrev pub count_in_node : List Value → ℕ → ℕ → ℕ
 count_in_node filter first last =
     count_by (λ number. in_node (node_size first last) first (leaf_of (row_le filter) (as_first_rows filter) number)) (as_first_rows filter)
 
--- the number of rows in the node of a range: without a low end the range begins in leaf 0, without a high end it ends in leaf 31
+-- The number of rows in the node of a range. Without a low end the range begins in leaf 0, without a high end it ends in leaf 31
 abbrev pub count_between : List Value → Option Value → Option Value → ℕ
 count_between filter low high = count_in_node filter (unwrap_or (end_leaf filter low) 0) (unwrap_or (end_leaf filter high) 31)
 
--- the numbers of an entry's rows: of all rows, of those with a value, and of those in a range
+-- the row counts of an entry: for all rows, for a value of a column, and for a range of a column
 abbrev pub entry_counts : Tables → ℕ → RowCounts
 entry_counts tables entry = record {
   whole = row_counts tables entry;

@@ -18,17 +18,17 @@ pub fn lists()
     ensures equal { map ((column_lists table_of_six 1 0 0).equal 0) (value 1 ∷ value 2 ∷ value 3 ∷ [])
         ≡ (3 ∷ []) ∷ (2 ∷ []) ∷ (1 ∷ []) ∷ [] }
     ensures absent { (column_lists table_of_six 1 0 0).equal 0 (value 7) ≡ [] }
-    // up to 1, from 3 on, and up to 2
+    // the ranges up to 1, from 3 on, and up to 2
     ensures ranges { map (column_lists table_of_six 1 0 0).range
         (range_x None (Some (value 1)) ∷ range_x (Some (value 3)) None ∷ range_x None (Some (value 2)) ∷ [])
         ≡ (3 ∷ []) ∷ (1 ∷ []) ∷ (3 ∷ 3 ∷ []) ∷ [] }
-    // from 3 to 1: leaves 31 and 15 lie in the node of all leaves
-    ensures crossed { (column_lists table_of_six 1 0 0).range (range_x (Some (value 3)) (Some (value 1))) ≡ 3 ∷ 3 ∷ [] }
+    // the range from 3 to 1: only the node of all leaves has both leaves, 31 and 15
+    ensures ends_swapped { (column_lists table_of_six 1 0 0).range (range_x (Some (value 3)) (Some (value 1))) ≡ 3 ∷ 3 ∷ [] }
     ensures no_rows { let none = column_lists table_without_rows 1 0 0 in
         none.whole ∷ none.equal 0 (value 1) ∷ none.range (range_x (Some (value 1)) None) ∷ [] ≡ [] ∷ [] ∷ [] ∷ [] }
 {}
 
-/// The numbers of rows of column X. Each is the sum of the list for the same condition.
+/// The row counts for conditions on column X. Each count is the sum of the list for the same condition.
 pub fn counts()
     ensures whole { (entry_counts table_of_six 0).whole ≡ 6 }
     ensures equal { map ((entry_counts table_of_six 0).equal 0) (value 1 ∷ value 2 ∷ value 3 ∷ value 7 ∷ []) ≡ 3 ∷ 2 ∷ 1 ∷ 0 ∷ [] }

@@ -1,12 +1,12 @@
-//! The statistics of a query's tables, as definitions over plain rows. For a filter column and a joined column of an entry's table they give the lists
-//! of which bounds are made (SafeBound, SIGMOD 2023), and numbers of rows.
+//! The statistics of a query's tables, as definitions over plain rows. They give lists and row counts for a filter column and a joined column of an
+//! entry's table. Bounds are made from them (SafeBound, SIGMOD 2023).
 //!
-//! Of the definitions only those of `specs/Cells.antt` know of cells or of a pool of texts. If a value needs a number, its number is the first row
-//! that has the value. Two laws say that columns of cells have the same lists, and that the lists stand for the tables.
+//! Only the definitions of `specs/Cells.antt` know of cells or of a pool of texts. Where a value has to be a number, it is the number of the first
+//! row that has the value. Two laws say that columns of cells have the same lists, and that the lists stand for the tables.
 //!
-//! In: tables as lists of rows. Out: definitions and laws; nothing here runs. Callers cite `column_lists` and `entry_counts` (in
-//! `specs/Statistics.antt`) for the statistics, and `SeparatesValues` (in `specs/Keys.antt`) for keys of rows. For the cell of a literal they cite
-//! `IsCellFor` (in `specs/Cells.antt`). `laws` has the laws, and `examples` works out a table of six rows.
+//! In: tables as lists of rows. Out: definitions and laws; nothing here runs. In contracts `column_lists` and `entry_counts` (in
+//! `specs/Statistics.antt`) are the statistics. `SeparatesValues` (in `specs/Keys.antt`) is about keys of rows, and `IsCellFor` (in
+//! `specs/Cells.antt`) about the cell of a literal. `laws` has the laws, and `examples` works out a table of six rows.
 #![tactic(auto)]
 
 pub mod examples;

@@ -1,4 +1,4 @@
--- The computed answer to a query text is the only one that the contract of `read_query` allows, apart from a lack of memory.
+-- The computed result for a query text is the only one that the contract of `read_query` allows, unless memory runs out.
 use Rattle.std.proofs.Common.{◌≡◌, ◌≢◌, ◌⊎◌, inl, inr, ℕ, ◌≤◌, Bool, true, false, cond, nat_lt, List, [], ◌∷◌, ◌++◌, length, Result, Ok, Err, refl, subst}
 use Rattle.std.proofs.lemmas.Bool.{ltb-true, ltb-false}
 use Rattle.std.specs.Bool.{⊤}
@@ -20,7 +20,7 @@ use Rattle.query_names.specs.declared.errors.QueryError.TheVariants as error
 use Rattle.query_names.specs.Names.{entries}
 use Rattle.query_names.specs.Offences.{name_offences, all_kind_offences}
 use Rattle.query_names.specs.Values.{query_of}
-use Rattle.sql_parse.specs.QueryOrRefusal.{refusal, over, first_list, limit_refusals, refusal_at_first, name_error, kind_error, long_lists, refusals, unless, query_or_refusal}
+use Rattle.sql_parse.specs.QueryOrRefusal.{refusal, refusal_if_above, first_list, limit_refusals, refusal_at_first, name_error, kind_error, long_lists, refusals, first_refusal_or, query_or_refusal}
 use Rattle.query_names.specs.Numbers.{number_offences}
 use Rattle.sql_parse.specs.Reading.{lexemes_of, most_nesting, unless_number, IsAnswer}
 use Rattle.sql_parse.proofs.OneAnswer.{one_answer}
@@ -34,7 +34,7 @@ trees_told : (text_len : ℕ) (tokens : List Lexeme) → SpellsOrGoesWrong Query
 unfolding syntax_tree_of
 trees_told text_len tokens = is_spelling reads_queries tokens text_len
 
--- ---- the computed answer is allowed
+-- ---- the computed result is allowed
 
 module _ (schema : Schema) (text : List ℕ) where
   spelled_allowed : (tokens : List Token) (tree : Result QueryNode ℕ) → IsLexed text tokens → nesting (lexemes_of text tokens) ≤ most_nesting → SpellsOrGoesWrong QuerySpecification (lexemes_of text tokens) (length text) tree
@@ -59,42 +59,42 @@ module _ (schema : Schema) (text : List ℕ) where
   unfolding query_answer
   allowed = lexed_allowed (tokens_of text) (are_told text)
 
--- ---- the computed answer isn't a lack of memory
+-- ---- the computed result isn't NoMemory
 
-abbrev BeginsWell : List QueryError → Type 0
-BeginsWell [] = ⊤
-BeginsWell (wrong ∷ rest) = wrong ≢ error.NoMemory
+abbrev FirstIsNotNoMemory : List QueryError → Type 0
+FirstIsNotNoMemory [] = ⊤
+FirstIsNotNoMemory (wrong ∷ rest) = wrong ≢ error.NoMemory
 
-both_begin : (front rest : List QueryError) → BeginsWell front → BeginsWell rest → BeginsWell (front ++ rest)
+both_begin : (front rest : List QueryError) → FirstIsNotNoMemory front → FirstIsNotNoMemory rest → FirstIsNotNoMemory (front ++ rest)
 both_begin [] rest h k = k
 both_begin (wrong ∷ front) rest h k = h
 
-places_begin : (wrong : ℕ → QueryError) (places : List ℕ) → ((n : ℕ) → wrong n ≢ error.NoMemory) → BeginsWell (refusal_at_first wrong places)
+places_begin : (wrong : ℕ → QueryError) (places : List ℕ) → ((n : ℕ) → wrong n ≢ error.NoMemory) → FirstIsNotNoMemory (refusal_at_first wrong places)
 places_begin wrong [] none = tt
 places_begin wrong (place ∷ rest) none = none place
 
-over_begins : (which : LimitKind) (most n : ℕ) → BeginsWell (over which most n)
+over_begins : (which : LimitKind) (most n : ℕ) → FirstIsNotNoMemory (refusal_if_above which most n)
 over_begins which most n = by (nat_lt most n) where
-  by : (more : Bool) → BeginsWell (cond more (refusal which n ∷ []) [])
+  by : (more : Bool) → FirstIsNotNoMemory (cond more (refusal which n ∷ []) [])
   by true = λ e. cc
   by false = tt
 
-lists_begin : (lists : List ℕ) → BeginsWell (first_list lists)
+lists_begin : (lists : List ℕ) → FirstIsNotNoMemory (first_list lists)
 lists_begin [] = tt
 lists_begin (n ∷ rest) = λ e. cc
 
-limits_begin : (query : Query) (lists : List ℕ) → BeginsWell (limit_refusals query lists)
+limits_begin : (query : Query) (lists : List ℕ) → FirstIsNotNoMemory (limit_refusals query lists)
 limits_begin query lists =
-    let many_entries = over limit.FromEntries most_entries (length query.from) in
-    let many_conjuncts = over limit.Conjuncts most_conjuncts (length query.conjuncts) in
-    let many_outputs = over limit.Outputs most_outputs (length query.select) in
+    let many_entries = refusal_if_above limit.FromEntries most_entries (length query.from) in
+    let many_conjuncts = refusal_if_above limit.Conjuncts most_conjuncts (length query.conjuncts) in
+    let many_outputs = refusal_if_above limit.Outputs most_outputs (length query.select) in
     both_begin ((many_entries ++ first_list lists) ++ many_conjuncts) many_outputs
     (both_begin (many_entries ++ first_list lists) many_conjuncts
     (both_begin many_entries (first_list lists) (over_begins limit.FromEntries most_entries (length query.from)) (lists_begin lists))
     (over_begins limit.Conjuncts most_conjuncts (length query.conjuncts)))
     (over_begins limit.Outputs most_outputs (length query.select))
 
-refusals_begin : (schema : Schema) (text : List ℕ) (tree : QueryNode) → BeginsWell (refusals schema text tree)
+refusals_begin : (schema : Schema) (text : List ℕ) (tree : QueryNode) → FirstIsNotNoMemory (refusals schema text tree)
 unfolding refusals
 refusals_begin schema text tree =
     let from = entries schema text tree in
@@ -104,7 +104,7 @@ refusals_begin schema text tree =
     (both_begin names kinds (places_begin name_error (name_offences schema text from tree) (λ n e. cc)) (places_begin kind_error (all_kind_offences schema text from tree) (λ n e. cc)))
     (limits_begin (query_of schema text tree) (long_lists from tree))
 
-unless_not_memory : (wrong : List QueryError) (query : Query) → BeginsWell wrong → unless wrong query ≢ Err error.NoMemory
+unless_not_memory : (wrong : List QueryError) (query : Query) → FirstIsNotNoMemory wrong → first_refusal_or wrong query ≢ Err error.NoMemory
 unless_not_memory [] query h e = cc
 unless_not_memory (w ∷ rest) query h e = h (let same : w ≡ error.NoMemory = cc in same)
 
@@ -136,7 +136,7 @@ module _ (schema : Schema) (text : List ℕ) where
   unfolding query_answer
   never_memory = lexed_not_memory (tokens_of text)
 
--- ---- no other answer is allowed
+-- ---- no other result is allowed
 
 pub only : (schema : Schema) (text : List ℕ) (answer : Result Query QueryError) → IsAnswer schema text answer → (answer ≡ Err error.NoMemory) ⊎ (answer ≡ query_answer schema text)
 only schema text answer is = by (one_answer schema text answer (query_answer schema text) is (allowed schema text)) where

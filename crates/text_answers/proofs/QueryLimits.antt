@@ -1,4 +1,4 @@
--- If a query text is answered by a query, the query keeps the limits.
+-- If the result for a query text is a query, the query keeps the limits.
 use Rattle.std.proofs.Common.{◌≡◌, inl, inr, ℕ, ◌≤◌, List, [], ◌∷◌, ◌++◌, length, Ok, Err, subst}
 use Rattle.limits.specs.Profile.{most_conjuncts, most_entries, most_outputs}
 use Rattle.query_grammar.specs.declared.tree.QueryNode.{QueryNode}
@@ -9,7 +9,7 @@ use Rattle.query_names.specs.declared.errors.QueryError.{QueryError}
 use Rattle.query_names.specs.Names.{entries}
 use Rattle.query_names.specs.Offences.{name_offences, all_kind_offences}
 use Rattle.query_names.specs.Values.{query_of}
-use Rattle.sql_parse.specs.QueryOrRefusal.{over, first_list, limit_refusals, refusal_at_first, name_error, kind_error, long_lists, refusals, query_or_refusal}
+use Rattle.sql_parse.specs.QueryOrRefusal.{refusal_if_above, first_list, limit_refusals, refusal_at_first, name_error, kind_error, long_lists, refusals, query_or_refusal}
 use Rattle.query_names.specs.Numbers.{number_offences}
 use Rattle.sql_parse.specs.Reading.{lexemes_of, IsAnswer}
 use Rattle.sql_parse.proofs.AnswerOfSchema.{none_before, none_behind, unless_ok, unless_number_ok}
@@ -17,7 +17,7 @@ use Rattle.sql_parse.proofs.BindFacts.{not_over}
 use Rattle.text_answers.specs.QueryTexts.{query_answer}
 use Rattle.text_answers.proofs.QueryAnswers.{allowed}
 
--- ---- a query that is made from a syntax tree keeps the limits, since the tree has no offence against them
+-- ---- a query that is made from a syntax tree without a refusal keeps the limits
 
 pub record KeepsLimits (query : Query) : Type 0 where
   pub conjuncts : length query.conjuncts ≤ most_conjuncts
@@ -25,9 +25,9 @@ pub record KeepsLimits (query : Query) : Type 0 where
 
 kept : (query : Query) (lists : List ℕ) → limit_refusals query lists ≡ [] → KeepsLimits query
 kept query lists none =
-    let before : List QueryError = over limit.FromEntries most_entries (length query.from) ++ first_list lists in
-    let many_conjuncts : List QueryError = over limit.Conjuncts most_conjuncts (length query.conjuncts) in
-    let many_outputs : List QueryError = over limit.Outputs most_outputs (length query.select) in
+    let before : List QueryError = refusal_if_above limit.FromEntries most_entries (length query.from) ++ first_list lists in
+    let many_conjuncts : List QueryError = refusal_if_above limit.Conjuncts most_conjuncts (length query.conjuncts) in
+    let many_outputs : List QueryError = refusal_if_above limit.Outputs most_outputs (length query.select) in
     record {
       conjuncts = not_over limit.Conjuncts most_conjuncts (length query.conjuncts)
           (none_behind before many_conjuncts (none_before (before ++ many_conjuncts) many_outputs none));

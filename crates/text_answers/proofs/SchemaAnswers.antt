@@ -1,4 +1,4 @@
--- The computed answer to a schema text is the only one that the contract of `read_schema` allows, apart from a lack of memory.
+-- The computed result for a schema text is the only one that the contract of `read_schema` allows, unless memory runs out.
 use Rattle.std.proofs.Common.{◌≡◌, ◌≢◌, ◌⊎◌, inl, inr, ℕ, List, [], ◌∷◌, map, length, Option, Some, None, Result, Ok, Err, refl, subst}
 use Rattle.std.specs.Bool.{⊤}
 use Rattle.schema_grammar.specs.declared.tree.TableNode.{TableNode}
@@ -51,7 +51,7 @@ bound_declared text tables =
     unless_declared (first (offences text tables)) (λ at. error.Name at) _ (λ n. tt)
     (unless_declared (first (nullable_offsets text tables)) (λ at. error.Nullable at) _ (λ n. tt) (within_declared text tables _ tt))
 
--- ---- the computed answer is allowed
+-- ---- the computed result is allowed
 
 declared_allowed : (text : List ℕ) (tables : List TableNode) (answer : Result Schema SchemaError) → Spells text tables → schema_or_refusal text tables ≡ answer → IsDeclared answer → IsSchemaOf text answer
 declared_allowed text tables (Ok schema) spells e is = record { tables = tables; spells = spells; answers = e }
@@ -78,7 +78,7 @@ pub allowed : (text : List ℕ) → IsSchemaOf text (schema_answer text)
 unfolding schema_answer
 allowed text = lexed_allowed text (tokens_of text) (are_told text)
 
--- ---- the computed answer isn't a lack of memory
+-- ---- the computed result isn't NoMemory
 
 not_memory : (answer : Result Schema SchemaError) → IsDeclared answer → answer ≢ Err error.NoMemory
 not_memory answer is e = subst IsDeclared e is
@@ -95,7 +95,7 @@ pub never_memory : (text : List ℕ) → schema_answer text ≢ Err error.NoMemo
 unfolding schema_answer
 never_memory text = lexed_not_memory text (tokens_of text)
 
--- ---- no other answer is allowed
+-- ---- no other result is allowed
 
 no_memory_or_not : (answer : Result Schema SchemaError) → (answer ≡ Err error.NoMemory) ⊎ (answer ≢ Err error.NoMemory)
 no_memory_or_not (Ok schema) = inr (λ e. cc)

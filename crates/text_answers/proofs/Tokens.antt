@@ -1,4 +1,4 @@
--- The relation allows the computed tokens of a text, or the computed byte offset at which the text goes wrong.
+-- The relation allows the computed tokens of a text, or the computed byte offset of its error.
 use Rattle.std.proofs.Common.{◌≡◌, ℕ, ◌-◌, Bool, true, false, cond, List, length, take, drop, Result, Ok, Err, refl, sym, ap, ◌∙◌, inl}
 use Rattle.std.proofs.lemmas.Bool.{false≢true}
 use Rattle.std.proofs.lemmas.List.{take_rest}

@@ -1,4 +1,4 @@
--- The answer to a query text over a schema, as a function of the text. It is computed from the text's tokens, the depth of their nesting and the
+-- The result for a query text over a schema, as a function of the text. It is computed from the text's tokens, the depth of their nesting and the
 -- syntax tree that they spell.
 use Rattle.std.specs.Prelude.{ℕ, nat_lt, if◌then◌else◌, List, length, Result, Ok, Err}
 use Rattle.ll_grammars.specs.declared.lexeme.Lexeme.{Lexeme}
@@ -12,7 +12,7 @@ use Rattle.query_names.specs.declared.errors.QueryError.{QueryError}
 use Rattle.query_names.specs.declared.errors.QueryError.TheVariants as error
 use Rattle.sql_parse.specs.QueryOrRefusal.{query_or_refusal, refusal}
 use Rattle.query_names.specs.Numbers.{number_offences}
-use Rattle.sql_parse.specs.Reading.{lexemes_of, most_nesting, least, unless_number}
+use Rattle.sql_parse.specs.Reading.{lexemes_of, most_nesting, earlier_offset, unless_number}
 use Rattle.text_answers.specs.Stages.{or_refused_at, tokens_of, parsed}
 
 abbrev pub syntax : ℕ → QueryError
@@ -23,11 +23,11 @@ unfoldable pub syntax_tree_of : ℕ → List Lexeme → Result QueryNode ℕ
 syntax_tree_of text_len tokens = parsed (read_query read_condition) text_len tokens
 
 module _ (schema : Schema) (text : List ℕ) where
-  -- the answer to tokens that spell a tree or go wrong at some byte. A number outside the range is an offence against syntax too; the first offence
-  -- is refused
+  -- the result for tokens that spell a tree or have a syntax error at some byte. A number outside the range is a syntax error too. The first of these
+  -- errors is refused
   abbrev pub spelled_answer : List Lexeme → Result QueryNode ℕ → Result Query QueryError
   spelled_answer tokens (Ok tree) = unless_number (number_offences text tokens) (query_or_refusal schema text tree)
-  spelled_answer tokens (Err at) = Err (error.Syntax (least at (number_offences text tokens)))
+  spelled_answer tokens (Err at) = Err (error.Syntax (earlier_offset at (number_offences text tokens)))
 
   -- the limit on nesting is tested before the grammar
   unfoldable pub nested_answer : List Lexeme → Result Query QueryError

@@ -1,4 +1,4 @@
--- The answer to a schema text, as a function of the text. It is computed from the text's tokens and the tables that they spell.
+-- The result for a schema text, as a function of the text. It is computed from the text's tokens and the tables that they spell.
 use Rattle.std.specs.Prelude.{ℕ, List, map, length, Result}
 use Rattle.schema_grammar.specs.declared.tree.TableNode.{TableNode}
 use Rattle.schema_grammar.specs.Readers.{read_all_tables}

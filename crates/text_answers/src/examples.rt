@@ -1,4 +1,4 @@
-//! The answers to small texts.
+//! Examples: the results for small texts.
 ghost use Rattle.std.specs.Prelude.{◌≡◌, Ok, Err, [], ◌∷◌, codes};
 ghost use Rattle.schema_types.specs.declared.errors.LimitKind.TheVariants as limit;
 ghost use Rattle.schema_types.specs.declared.errors.SchemaError.TheVariants as schema_error;
@@ -7,7 +7,7 @@ ghost use Rattle.text_answers.specs.SmallTexts.{one_column, where_x_is_one};
 ghost use Rattle.text_answers.specs.SchemaTexts.{schema_answer};
 ghost use Rattle.text_answers.specs.QueryTexts.{query_answer};
 
-/// The answers to small schema texts. Names are tested before nullable columns, and these before limits.
+/// Results for small schema texts. Names are tested first, then nullable columns, then limits.
 pub fn small_schemas()
     ensures whole { schema_answer (codes "CREATE TABLE R (X INTEGER NOT NULL);") ≡ Ok one_column }
     ensures bad_byte { schema_answer (239 ∷ 187 ∷ 191 ∷ 255 ∷ []) ≡ Err (schema_error.Syntax 3) }
@@ -19,8 +19,8 @@ pub fn small_schemas()
         ≡ Err (schema_error.Limit limit.TextLength 1000001) }
 {}
 
-/// The answers to small query texts over a schema with one column. If a number is outside the range and an offence against the grammar comes after it,
-/// the number is refused. FROM is tested before the outputs. A column name without a table must be that of exactly one entry.
+/// Results for small query texts over a schema with one column. A number outside the range is refused if the syntax error comes after it. FROM is
+/// tested before the outputs. A column name without a table must be that of exactly one entry.
 pub fn small_queries()
     ensures whole { query_answer one_column (codes "SELECT X FROM R WHERE X = 1") ≡ Ok where_x_is_one }
     ensures other_kind { query_answer one_column (codes "SELECT X FROM R WHERE X = 'a'") ≡ Err (query_error.Kind 26) }

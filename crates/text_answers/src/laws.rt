@@ -1,4 +1,4 @@
-//! Laws of the answers to texts. The functions do nothing when they run.
+//! Laws of the results for texts. The functions do nothing when they run.
 ghost use Rattle.std.specs.Prelude.{◌≡◌, ◌≢◌, ◌≤◌, ◌⊎◌, ℕ, List, length, Result, Ok, Err};
 ghost use Rattle.limits.specs.Profile.{most_conjuncts, most_outputs};
 ghost use Rattle.schema_types.specs.declared.errors.SchemaError.{SchemaError};
@@ -14,7 +14,7 @@ ghost use Rattle.sql_parse.specs.Reading.{IsAnswer};
 ghost use Rattle.text_answers.specs.SchemaTexts.{schema_answer};
 ghost use Rattle.text_answers.specs.QueryTexts.{query_answer};
 
-/// A schema text has exactly one answer, `schema_answer`, apart from a lack of memory. A schema that is the answer is valid.
+/// A schema text has exactly one result, `schema_answer`, unless memory runs out. If it is a schema, the schema is valid.
 pub fn schema_texts()
     ensures allowed { (text : List ℕ) → IsSchemaOf text (schema_answer text) }
     ensures only { (text : List ℕ) (answer : Result Schema SchemaError) → IsSchemaOf text answer
@@ -23,7 +23,7 @@ pub fn schema_texts()
     ensures valid { (text : List ℕ) (schema : Schema) → schema_answer text ≡ Ok schema → IsValid schema }
 {}
 
-/// A query text has exactly one answer over a schema, `query_answer`, apart from a lack of memory. A query that is the answer is one over the schema.
+/// A query text over a schema has exactly one result, `query_answer`, unless memory runs out. If it is a query, it is a query over the schema.
 pub fn query_texts()
     ensures allowed { (schema : Schema) (text : List ℕ) → IsAnswer schema text (query_answer schema text) }
     ensures only { (schema : Schema) (text : List ℕ) (answer : Result Query QueryError) → IsAnswer schema text answer
@@ -32,7 +32,7 @@ pub fn query_texts()
     ensures of_schema { (schema : Schema) (text : List ℕ) (query : Query) → query_answer schema text ≡ Ok query → IsOf schema query }
 {}
 
-/// A query that is computed as an answer has at most 256 conjuncts and 1,024 outputs, and so has each query that the contract of `read_query` allows.
+/// A query that `query_answer` gives has at most 256 conjuncts and 1,024 outputs. So has each query that the contract of `read_query` allows.
 pub fn query_limits()
     ensures few_conjuncts { (schema : Schema) (text : List ℕ) (query : Query) → query_answer schema text ≡ Ok query
         → length query.conjuncts ≤ most_conjuncts }

@@ -1,9 +1,8 @@
-//! The answers to a schema text and to a query text, as functions of the text.
+//! The results of reading a schema text and a query text, as functions of the text.
 //!
-//! The contracts of `read_schema` and `read_query` are relations between a text and its answer. They leave open only
-//! whether a call runs out of memory. `schema_answer` (in `specs/SchemaTexts.antt`) and `query_answer` (in
-//! `specs/QueryTexts.antt`) are the answers if it doesn't. Callers cite them if they need a value; the laws say that
-//! the relations allow these answers and no others.
+//! The contracts of `read_schema` and `read_query` are relations between a text and its result. They leave open only whether a call runs out of
+//! memory. If it doesn't, the results are `schema_answer` (in `specs/SchemaTexts.antt`) and `query_answer` (in `specs/QueryTexts.antt`). Callers use
+//! them if they need a value. The laws say that the relations allow these results and no others.
 #![tactic(auto)]
 
 mod examples;

@@ -39,7 +39,7 @@ listed_are_trees (suc (suc n)) =
         (λ tree is_with. subst (λ (k : ℕ). IsTreeOver k tree) whole (with_over (full_set (suc n)) (suc n) rest tree (omega (arith, pow_pos (suc n))) over is_with))
         (trees_with (suc n) rest) (listed_with (suc n) rest)
 
--- ---- if each tree in the list has a property, so has each tree over the entries
+-- ---- a property of each tree in the list is a property of each tree over the entries
 
 at_with : (last : ℕ) (Q : PlanTree → Type 0) (rest tree : PlanTree) → IsWith last rest tree → Each Q (trees_with last rest) → Q tree
 at_with last Q (leaf entry) tree is_with h = subst Q (sym is_with) h.0

@@ -83,7 +83,7 @@ tells c d s t behind cheaper smaller earlier = elim (cases_lt c d) [
       ]))
 ]
 
--- ---- the first tree that passes a test
+-- ---- the first tree in a list that passes a test
 
 record IsFirst (P : PlanTree → Type 0) (test : PlanTree → Bool) (xs : List PlanTree) (x : PlanTree) : Type 0 where
   found : find test xs ≡ Some x
@@ -106,7 +106,7 @@ each_true : (test : PlanTree → Bool) (xs : List PlanTree) → list_all test xs
 each_true test [] h = tt
 each_true test (x ∷ xs) h = let parts : (test x ≡ true) × (list_all test xs ≡ true) = and_parts (test x) (list_all test xs) h in (parts.0, each_true test xs parts.1)
 
--- ---- the best tree
+-- ---- the computed tree is best
 
 module _ (bounds : List ℕ) (n : ℕ) (some : 0 < n) where
   abbrev test : PlanTree → Bool

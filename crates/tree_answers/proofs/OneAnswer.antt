@@ -1,7 +1,8 @@
--- The contract of `choose_bushy` allows exactly one answer, the computed one, apart from a lack of memory.
+-- Apart from NoMemory, the contract of `choose_bushy` allows exactly one result, the computed result.
 use Rattle.std.proofs.Common.{◌≡◌, ℕ, ◌-◌, ◌^◌, ◌<◌, ◌≤◌, List, length, Ok, Err, Result, refl, ap, sym, ◌∙◌, arith, inl, inr}
 use Rattle.std.specs.Prelude.{◌⊎◌, ◌≢◌}
 use Rattle.std.proofs.lemmas.Bool.{cases_lt, le-ltb, lt-ltb}
+use Rattle.limits.specs.Profile.{most_entries}
 use Rattle.order_search.specs.declared.refusal.PlanError.{PlanError}
 use Rattle.order_search.specs.declared.refusal.PlanError.TheVariants as error
 use Rattle.tree_plans.specs.declared.bushy.BushyPlan.{BushyPlan}
@@ -19,7 +20,7 @@ pub only_best : (bounds : List ℕ) (n : ℕ) (tree : PlanTree) → 0 < n → Is
 only_best bounds n tree some is = one_best bounds n tree (best_tree bounds n) is (best_computed bounds n some)
 
 module _ (bounds scans : List ℕ) (budget : ℕ) where
-  -- ---- the three cases of the answer
+  -- ---- the three cases of the result
 
   past : (tree : PlanTree) → 2 ^ 128 - 2 < cost bounds tree → answer_over bounds scans budget tree ≡ Err error.PastBits
   past tree above = rw (lt-ltb (2 ^ 128 - 2) (cost bounds tree) above) refl
@@ -30,12 +31,12 @@ module _ (bounds scans : List ℕ) (budget : ℕ) where
   fits : (tree : PlanTree) → cost bounds tree ≤ 2 ^ 128 - 2 → cost bounds tree ≤ budget → answer_over bounds scans budget tree ≡ Ok (plan_over bounds scans tree)
   fits tree is_told within = rw (le-ltb (2 ^ 128 - 2) (cost bounds tree) is_told, le-ltb budget (cost bounds tree) within) refl
 
-  -- ---- the computed answer is allowed
+  -- ---- the computed result is allowed
 
   of_best : (tree : PlanTree) → IsBest bounds (length scans) tree → AreOfBest bounds (length scans) (cost bounds tree) (joins_from bounds (length scans) tree)
   of_best tree is = record { tree = tree; is_best = is; are_its = refl; is_its = refl }
 
-  along : (tree : PlanTree) → length scans ≤ 12 → IsBest bounds (length scans) tree → IsPromised bounds scans budget (answer_over bounds scans budget tree)
+  along : (tree : PlanTree) → length scans ≤ most_entries → IsBest bounds (length scans) tree → IsPromised bounds scans budget (answer_over bounds scans budget tree)
   along tree few is = elim (cases_lt (2 ^ 128 - 2) (cost bounds tree)) [
     | inl above ↦ rw (past tree above) (record { plan = tt; best = tt; within = tt; scans_kept = tt; refused = (cost bounds tree, least_of_best bounds (length scans) tree is, above) })
     | inr is_told ↦ elim (cases_lt budget (cost bounds tree)) [
@@ -50,11 +51,11 @@ module _ (bounds scans : List ℕ) (budget : ℕ) where
     ]
   ]
 
-  pub allowed : 1 ≤ length scans → length scans ≤ 12 → IsPromised bounds scans budget (tree_answer bounds scans budget)
+  pub allowed : 1 ≤ length scans → length scans ≤ most_entries → IsPromised bounds scans budget (tree_answer bounds scans budget)
   unfolding tree_answer
   allowed some few = along (best_tree bounds (length scans)) few (best_computed bounds (length scans) (omega arith))
 
-  -- ---- no other answer is allowed
+  -- ---- no other result is allowed
 
   same_plan : (plan : BushyPlan) (tree : PlanTree) → plan.joins ≡ joins_from bounds (length scans) tree → plan.cost ≡ cost bounds tree → plan.scans ≡ scans → plan ≡ plan_over bounds scans tree
   same_plan plan tree has_joins has_cost has_scans = rw (sym has_joins, sym has_cost, sym has_scans) refl

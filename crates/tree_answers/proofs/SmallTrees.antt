@@ -1,4 +1,4 @@
--- The answers of small choices are computed.
+-- The results of small choices, by computation.
 use Rattle.std.proofs.Common.{◌≡◌, ◌^◌, ◌-◌, [], ◌∷◌, Ok, Err, refl}
 use Rattle.order_search.specs.declared.refusal.PlanError.TheVariants as error
 use Rattle.tree_plans.specs.Examples.{join, plan_of}

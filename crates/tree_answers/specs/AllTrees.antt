@@ -23,7 +23,7 @@ is_same (leaf a) (node left right) = false
 is_same (node left right) (leaf b) = false
 is_same (node left right) (node left' right') = is_same left left' && is_same right right'
 
--- computes whether one tree is before another in the order `IsBefore`
+-- whether one tree comes before another, by the left sets at their roots, then by the left trees, then by the right trees
 abbrev pub is_before : PlanTree → PlanTree → Bool
 is_before (leaf a) other = false
 is_before (node left right) (leaf b) = false
@@ -31,8 +31,8 @@ is_before (node left right) (node left' right') =
     nat_lt (leaf_set left) (leaf_set left')
     || ((leaf_set left == leaf_set left') && (is_before left left' || (is_same left left' && is_before right right')))
 
--- a tree is no worse than another if it costs less. If both cost the same, the tree with the smaller total is better. If the totals are the same too,
--- it is no worse if the other tree isn't before it
+-- whether a tree is no worse than another. The lower cost decides. If the costs are the same, the smaller total decides. If the totals are the same
+-- too, the tree is no worse unless the other tree comes before it
 abbrev pub is_no_worse : List ℕ → PlanTree → PlanTree → Bool
 is_no_worse bounds tree other =
     nat_lt (cost bounds tree) (cost bounds other)

@@ -1,5 +1,5 @@
--- What the contract of `choose_bushy` promises of the answer, clause by clause. Two clauses are left out, since they follow from the others: no order
--- costs less, and the bound of each join is within the budget.
+-- The promise of `choose_bushy` about its result for at most `most_entries` entries, clause by clause. Two clauses of the contract are left out,
+-- since they follow from the others: no order costs less, and the bound of each join is within the budget.
 use Rattle.std.specs.Prelude.{◌≡◌, ℕ, ◌≤◌, List, length, IfOk, IfErr, Result}
 use Rattle.order_search.specs.declared.refusal.PlanError.{PlanError}
 use Rattle.tree_plans.specs.TreePlans.{IsTreePlan}

@@ -1,4 +1,4 @@
--- The answer of a choice among join trees, as a function of the bounds: the plan of the best tree, or the cause of a refusal.
+-- The result of a choice among join trees, as a function of the bounds: the plan of the best tree, or a refusal.
 use Rattle.std.specs.Prelude.{ℕ, ◌-◌, ◌^◌, nat_lt, if◌then◌else◌, List, length, Result, Ok, Err}
 use Rattle.order_search.specs.declared.refusal.PlanError.{PlanError}
 use Rattle.order_search.specs.declared.refusal.PlanError.TheVariants as error
@@ -11,13 +11,14 @@ use Rattle.tree_answers.specs.AllTrees.{best_tree}
 abbrev pub plan_over : List ℕ → List ℕ → PlanTree → BushyPlan
 plan_over bounds scans tree = record { joins = joins_from bounds (length scans) tree; scans = scans; cost = cost bounds tree }
 
--- a tree is refused if its cost doesn't fit into 128 bits, or otherwise if the cost is above the budget
+-- the result for a tree. If its cost doesn't fit into 128 bits, the tree is refused as past 128 bits. Otherwise it is refused if its cost is above
+-- the budget
 abbrev pub answer_over : List ℕ → List ℕ → ℕ → PlanTree → Result BushyPlan PlanError
 answer_over bounds scans budget tree =
     if nat_lt (2 ^ 128 - 2) (cost bounds tree) then Err error.PastBits
     else if nat_lt budget (cost bounds tree) then Err (error.Budget (cost bounds tree))
     else Ok (plan_over bounds scans tree)
 
--- the answer for a bound of each set of entries and a bound of each scan
+-- the result for a bound of each set of entries and a bound of each scan
 unfoldable pub tree_answer : List ℕ → List ℕ → ℕ → Result BushyPlan PlanError
 tree_answer bounds scans budget = answer_over bounds scans budget (best_tree bounds (length scans))

@@ -1,4 +1,4 @@
-//! The answers of small choices.
+//! The results of small choices among join trees.
 ghost use Rattle.std.specs.Prelude.{◌≡◌, ◌-◌, ◌^◌, true, [], ◌∷◌, Ok, Err};
 ghost use Rattle.order_search.specs.declared.refusal.PlanError.TheVariants as error;
 ghost use Rattle.tree_plans.specs.Examples.{join, plan_of};
@@ -7,8 +7,8 @@ ghost use Rattle.bushy_plan.specs.PlanTrees.{leaf, node};
 ghost use Rattle.tree_answers.specs.AllTrees.{all_trees, best_tree, is_before};
 ghost use Rattle.tree_answers.specs.TreeAnswer.{tree_answer};
 
-/// The answers of choices among one, two and three entries. If three trees have the same cost and the same total, the best one is the tree whose left
-/// set has the least number.
+/// The results of choices among one, two and three entries. In one example three trees have the same cost and the same total. The best of them has
+/// the left set with the least number.
 pub fn small_trees()
     ensures trees { all_trees 3 ≡ node (node (leaf 0) (leaf 1)) (leaf 2) ∷ node (node (leaf 0) (leaf 2)) (leaf 1) ∷ node (leaf 0) (node (leaf 1) (leaf 2)) ∷ [] }
     ensures by_left { is_before (node (leaf 0) (node (leaf 1) (leaf 2))) (node (node (leaf 0) (leaf 1)) (leaf 2)) ≡ true }

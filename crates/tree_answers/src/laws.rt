@@ -1,4 +1,4 @@
-//! Laws of the answers of choices among join trees. The functions do nothing when they run.
+//! Laws of the results of choices among join trees. The functions do nothing when they run.
 ghost use Rattle.std.specs.Prelude.{◌≡◌, ◌≢◌, ◌≤◌, ◌⊎◌, ℕ, List, length, Result, Ok, Err};
 ghost use Rattle.limits.specs.Profile.{greatest_budget, most_entries};
 ghost use Rattle.order_search.specs.declared.refusal.PlanError.{PlanError};
@@ -11,14 +11,14 @@ ghost use Rattle.tree_answers.specs.AllTrees.{best_tree};
 ghost use Rattle.tree_answers.specs.Promised.{IsPromised};
 ghost use Rattle.tree_answers.specs.TreeAnswer.{tree_answer};
 
-/// The computed tree is the best one, and the only best one.
+/// The computed tree is the best tree, and there is no other best tree.
 pub fn best_trees()
     ensures best { (bounds : List ℕ) (n : ℕ) → 1 ≤ n → IsBest bounds n (best_tree bounds n) }
     ensures only { (bounds : List ℕ) (n : ℕ) (tree : PlanTree) → 1 ≤ n → IsBest bounds n tree → tree ≡ best_tree bounds n }
 {}
 
-/// The contract of `choose_bushy` allows exactly one answer, `tree_answer`, apart from a lack of memory. Two clauses say it for the exits: a best
-/// plan within the budget is the plan of the answer, and a refusal that has its cause is the refusal of the answer.
+/// Apart from `NoMemory`, the contract of `choose_bushy` allows exactly one result, `tree_answer`. Two clauses say this for the exits of
+/// `choose_bushy`. A best plan within the budget is `tree_answer`. A refusal that has a cause and isn't `NoMemory` is `tree_answer`.
 pub fn tree_choices()
     ensures allowed { (bounds scans : List ℕ) (budget : ℕ) → 1 ≤ length scans → length scans ≤ most_entries
         → IsPromised bounds scans budget (tree_answer bounds scans budget) }

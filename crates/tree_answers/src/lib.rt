@@ -1,8 +1,8 @@
-//! The answer of a choice among join trees, as a function of the bounds. `tree_answers` is to `choose_bushy` what `plan_answers` is to `choose`.
+//! The result of `choose_bushy` (of bushy_plan), as a function of the bounds. The crate plan_answers has the same for `choose`.
 //!
-//! The contract of `choose_bushy` is a relation between bounds and an answer. It leaves open only whether the call
-//! runs out of memory. `tree_answer` (in `specs/TreeAnswer.antt`) is the answer if it doesn't: the plan of
-//! `best_tree` (in `specs/AllTrees.antt`) or a refusal. It searches all trees; it is for specifications and never runs.
+//! The contract of `choose_bushy` is a relation between bounds and a result. It leaves open only whether the call runs out of memory. If the call
+//! doesn't, the result is `tree_answer` (in `specs/TreeAnswer.antt`): the plan of `best_tree` (in `specs/AllTrees.antt`) or a refusal. `tree_answer`
+//! searches all trees. It is for specifications and never runs.
 #![tactic(auto)]
 
 mod examples;

@@ -1,5 +1,5 @@
--- A choice that satisfies all equalities of a set agrees in each tree of the kept equalities. If each column that the equalities
--- name has a property, so has each column of these trees.
+-- A choice that satisfies all equalities of a set agrees in each tree of the kept equalities. A property of each column that the equalities name is a
+-- property of each column of these trees.
 use Rattle.std.proofs.Common.{◌≡◌, ℕ, zero, suc, ◌<◌, ◌≤◌, eqb, List, [], ◌∷◌, ◌++◌, length, take, drop, refl, sym, subst, inl, inr}
 use Rattle.std.specs.List.{AllByRecursion, Contains}
 use Rattle.std.proofs.lemmas.Bool.{cases_Bool}
@@ -21,7 +21,7 @@ use Rattle.tree_bounds.specs.SetBounds.{SetHasLists}
 use Rattle.tree_bounds.specs.Tables.{KeyedTables, key_of, AgreesBelow, AgreesWithin, Agrees, Satisfies, ChoicesAreDifferent, RowsFit, Dominates, TreeDominates, SetDominates}
 use Rattle.tree_bounds.proofs.Injected.{for_each, choices_within_all}
 
--- ---- if each equality of a set has a property, so has each kept equality
+-- ---- a property of each equality of a set, carried over to the kept equalities
 
 module _ (P : Edge → Type 0) where
   of_later : (n : ℕ) (es : List Edge) → AllByRecursion P es → AllByRecursion P (drop n es)
@@ -46,7 +46,7 @@ module _ (P : Edge → Type 0) where
       let of_set : List Edge = equalities_within subset es in
       of_kept (λ x. x) (order_of_turn subset turn es) (append_all P (drop turn of_set) (take turn of_set) (of_later turn of_set h) (of_earlier turn of_set h))
 
--- ---- if each column that equalities name has a property, so has each column of a tree
+-- ---- a property of each column that equalities name, carried over to the columns of a tree
 
 module _ (Q : ℕ → ℕ → Type 0) where
   abbrev AtBoth : Edge → Type 0
@@ -143,7 +143,7 @@ module _ (tables : KeyedTables) (choice : ℕ → ℕ) (es : List Edge)
     agrees_all ts trees.1 (all_right HasRow (entries t) (entries_of_all ts) rows),
   )
 
--- ---- the trees of a turn
+-- ---- properties of the trees of a turn
 
 pub at_roots : (Q : ℕ → Type 0) (ts : List BergeTree) → AllByRecursion Q (entries_of_all ts) → AllByRecursion (λ t. Q t.root) ts
 at_roots Q [] h = tt

@@ -1,4 +1,4 @@
--- The bound of a tree is at least the number of its choices. This is shown from the leaves up, by products at classes and compositions at entries.
+-- The bound of a tree is at least the number of its choices. The proof goes from the leaves up, by products at classes and compositions at entries.
 use Rattle.std.proofs.Common.{◌≡◌, ℕ, ◌≤◌, List, length}
 use Rattle.std.specs.List.{AllByRecursion, AllZip}
 use Rattle.degree_sequences.specs.Composition.{ChildLists, composed}
@@ -24,7 +24,7 @@ member_descends rows g children is all = IsDescending-composed g children is.fal
 mutual
   pub children_descend : (b : EntryBounds) (entry : ℕ) (cs : Classes) → EachColumnBelow (HasList b) entry cs → AllByRecursion (IsChildOf (b.rows entry)) (child_lists b entry cs)
   children_descend b entry no_class h = tt
-  children_descend b entry (and_class column members rest) h = (record { class_falls = class_descends b members h.1; column_sum = h.0.total }, children_descend b entry rest h.2)
+  children_descend b entry (and_class column members rest) h = (record { class_is_descending = class_descends b members h.1; column_sum = h.0.total }, children_descend b entry rest h.2)
 
   pub class_descends : (b : EntryBounds) (ms : Members) → EachColumnWithin (HasList b) ms → IsDescending (class_list b ms)
   class_descends b (one_member entry column below) h = member_descends (b.rows entry) (b.list entry column) (child_lists b entry below) h.0 (children_descend b entry below h.1)
@@ -44,7 +44,7 @@ module _ (b : EntryBounds) (tables : KeyedTables) where
         → AllZip (DominatesChild (tables.rows entry)) (child_lists b entry cs) (child_keys tables entry cs)
     children_dominate entry no_class h d = tt
     children_dominate entry (and_class column members rest) h d = (
-      record { column = d.0.keys; class = class_dominates members h.1 d.1; class_falls = class_descends b members h.1; key_per_row = d.0.key_per_row },
+      record { column = d.0.keys; class = class_dominates members h.1 d.1; class_is_descending = class_descends b members h.1; key_per_row = d.0.key_per_row },
       children_dominate entry rest h.2 d.2,
     )
 

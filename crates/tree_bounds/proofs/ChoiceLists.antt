@@ -1,4 +1,4 @@
--- The list of all choices of a tree is as long as their number, which is computed as a sum of products, says.
+-- The list of all choices of a tree is as long as their number, which is computed as a sum of products.
 use Rattle.std.proofs.Common.{◌≡◌, ℕ, ◌*◌, Bool, true, false, cond, eqb, List, [], ◌∷◌, ◌++◌, length, get_or, map, refl, sym, ◌∙◌, arith, length-append}
 use Rattle.std.specs.List.{range_with_len}
 use Rattle.std.proofs.Math.Nat.{suc-mul, zero-mul}

@@ -1,4 +1,5 @@
--- Different choices that agree in a tree are different members of the list of all its choices, so there are at most as many as the list has.
+-- Different choices that agree in a tree are different members of the list of all its choices. So there are at most as many of them as the list is
+-- long.
 use Rattle.std.proofs.Common.{◌≡◌, ◌≢◌, ℕ, zero, suc, ◌+◌, ◌<◌, ◌≤◌, true, false, cond, eqb, List, [], ◌∷◌, ◌++◌, length, get_or, map, refl, ap, sym, ◌∙◌, subst, arith, ◌⊎◌, inl, inr, nat_eq}
 use Rattle.std.specs.List.{AllByRecursion, Contains, IsDistinct, flat_map, range_with_len, list_any}
 use Rattle.std.specs.Set.{is_member}
@@ -147,7 +148,7 @@ no_more : (set : List ℕ) (cs : List (ℕ → ℕ)) (xs : List (List ℕ)) → 
 no_more set cs xs differ all =
     omega (arith, length-map cs (λ c. map c set), length-le_from_is_member nat_list_eq_equiv (map (λ c. map c set) cs) xs (all_unlike set cs differ) (all_members set cs xs all))
 
--- ---- one tree, and several
+-- ---- the bound of one tree, and of several trees
 
 pub for_each : (Q R : (ℕ → ℕ) → Type 0) → ((c : ℕ → ℕ) → Q c → R c) → (cs : List (ℕ → ℕ)) → AllByRecursion Q cs → AllByRecursion R cs
 for_each Q R f [] h = tt

@@ -1,4 +1,4 @@
--- If the bounds of entries are near exact ones, the bound of a set is near its exact bound, in each turn and over all turns.
+-- If the bounds of entries are near exact bounds, the bound of a set is near its exact bound, in each turn and over all turns.
 use Rattle.std.proofs.Common.{◌≡◌, ◌≢◌, ℕ, suc, ◌+◌, ◌-◌, ◌*◌, ◌^◌, ◌<◌, ◌≤◌, true, false, eqb, List, [], ◌∷◌, length, get_or, refl, sym, subst, arith, inl, inr, nat_eq}
 use Rattle.std.specs.List.{AllByRecursion, AllPairs, Contains, IsDistinct, list_any}
 use Rattle.std.specs.Set.{is_member}
@@ -69,7 +69,7 @@ as_many es subset ts all =
     let back : length set ≤ length (entries_of_all ts) = no_longer set (entries_of_all ts) (below_apart set (AllPairs-from_increasing set (set_increases subset))) all.covers in
     omega arith
 
--- ---- the bound of a set
+-- ---- nearness of the bound of a set
 
 module _ (accuracy : ℕ) (b exact : EntryBounds) (es : List Edge) (subset : ℕ) (h : SetHasLists b es subset) (k : SetHasLists exact es subset) (near : SetIsNear accuracy b exact es subset) where
   all_near : (turn : ℕ) (ts : List BergeTree) → AllByRecursion (λ t. RowsAreNear accuracy b exact t.root) ts → AllByRecursion (IsTreeOf (kept_of subset turn es)) ts → AllByRecursion (TreeIsNear accuracy b exact) ts

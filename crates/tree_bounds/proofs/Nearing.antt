@@ -1,4 +1,5 @@
--- If lists are near exact ones, the bounds of trees and of sets are near the exact bounds. Each entry adds one factor to the distance.
+-- If lists are near exact lists, the bounds of trees and sets are near the exact bounds. At accuracy K, each entry contributes a factor of at most (K
+-- + 1) / K.
 use Rattle.std.proofs.Common.{◌≡◌, ℕ, zero, suc, ◌+◌, ◌*◌, ◌^◌, ◌≤◌, List, [], ◌∷◌, ◌++◌, length, map, sum, get_or, refl, ap, sym, ◌∙◌, arith, length-append}
 use Rattle.std.specs.List.{AllByRecursion, range_with_len}
 use Rattle.std.proofs.Math.Nat.{mul-le-mul, pow-succ', pow-zero}
@@ -20,14 +21,14 @@ use Rattle.tree_bounds.proofs.BoundsSuffice.{children_descend, class_descends}
 power-add : (a m n : ℕ) → a ^ m * a ^ n ≡ a ^ (m + n)
 power-add a m n = sym (pow-add a m n)
 
--- ---- the list of an entry with its classes, one class after another
+-- ---- nearness of an entry's composed list, by induction over the classes below the entry
 
 module _ (accuracy : ℕ) (b exact : EntryBounds) where
-  abbrev low : ℕ → ℕ
-  low n = accuracy ^ n
+  abbrev accuracy_power : ℕ → ℕ
+  accuracy_power n = accuracy ^ n
 
-  abbrev high : ℕ → ℕ
-  high n = (accuracy + 1) ^ n
+  abbrev next_power : ℕ → ℕ
+  next_power n = (accuracy + 1) ^ n
 
   abbrev matched : ℕ → Classes → List MatchedChild
   matched entry no_class = []
@@ -35,8 +36,8 @@ module _ (accuracy : ℕ) (b exact : EntryBounds) where
       record {
         near = record { column = b.list entry column; class = class_list b members };
         exact = record { column = exact.list entry column; class = class_list exact members };
-        scale = low (length (entries_within members));
-        factor = high (length (entries_within members));
+        scale = accuracy_power (length (entries_within members));
+        factor = next_power (length (entries_within members));
       }
       ∷ matched entry rest
 
@@ -48,33 +49,33 @@ module _ (accuracy : ℕ) (b exact : EntryBounds) where
   exacts_are entry no_class = refl
   exacts_are entry (and_class column members rest) = ap (λ (children : List ChildLists). record { column = exact.list entry column; class = class_list exact members } ∷ children) (exacts_are entry rest)
 
-  scales_are : (entry : ℕ) (cs : Classes) → scales (matched entry cs) ≡ low (length (entries_below cs))
+  scales_are : (entry : ℕ) (cs : Classes) → scales (matched entry cs) ≡ accuracy_power (length (entries_below cs))
   scales_are entry no_class = sym (pow-zero accuracy)
   scales_are entry (and_class column members rest) =
-      ap (λ x. low (length (entries_within members)) * x) (scales_are entry rest) ∙ power-add accuracy (length (entries_within members)) (length (entries_below rest))
-      ∙ ap low (sym (length-append (entries_within members) (entries_below rest)))
+      ap (λ x. accuracy_power (length (entries_within members)) * x) (scales_are entry rest) ∙ power-add accuracy (length (entries_within members)) (length (entries_below rest))
+      ∙ ap accuracy_power (sym (length-append (entries_within members) (entries_below rest)))
 
-  factors_are : (entry : ℕ) (cs : Classes) → factors (matched entry cs) ≡ high (length (entries_below cs))
+  factors_are : (entry : ℕ) (cs : Classes) → factors (matched entry cs) ≡ next_power (length (entries_below cs))
   factors_are entry no_class = sym (pow-zero (accuracy + 1))
   factors_are entry (and_class column members rest) =
-      ap (λ x. high (length (entries_within members)) * x) (factors_are entry rest) ∙ power-add (accuracy + 1) (length (entries_within members)) (length (entries_below rest))
-      ∙ ap high (sym (length-append (entries_within members) (entries_below rest)))
+      ap (λ x. next_power (length (entries_within members)) * x) (factors_are entry rest) ∙ power-add (accuracy + 1) (length (entries_within members)) (length (entries_below rest))
+      ∙ ap next_power (sym (length-append (entries_within members) (entries_below rest)))
 
-  columns_fall : (entry : ℕ) (cs : Classes) → EachColumnBelow (HasList b) entry cs → AllByRecursion ColumnIsDescending (map (λ m. m.near) (matched entry cs))
-  columns_fall entry no_class h = tt
-  columns_fall entry (and_class column members rest) h = (h.0.falls, columns_fall entry rest h.2)
+  columns_descend : (entry : ℕ) (cs : Classes) → EachColumnBelow (HasList b) entry cs → AllByRecursion ColumnIsDescending (map (λ m. m.near) (matched entry cs))
+  columns_descend entry no_class h = tt
+  columns_descend entry (and_class column members rest) h = (h.0.falls, columns_descend entry rest h.2)
 
   composed_near : (g f : List ℕ) (entry : ℕ) (cs : Classes) → SumsAreWithin accuracy (accuracy + 1) g f → sum g ≡ b.rows entry → sum f ≡ exact.rows entry
       → EachColumnBelow (HasList b) entry cs → EachColumnBelow (HasList exact) entry cs → AllByRecursion (IsNear accuracy) (matched entry cs)
-      → SumsAreWithin (low (suc (length (entries_below cs)))) (high (suc (length (entries_below cs)))) (composed g (child_lists b entry cs)) (composed f (child_lists exact entry cs))
+      → SumsAreWithin (accuracy_power (suc (length (entries_below cs)))) (next_power (suc (length (entries_below cs)))) (composed g (child_lists b entry cs)) (composed f (child_lists exact entry cs))
   composed_near g f entry cs near total total' h k each r =
       let ms : List MatchedChild = matched entry cs in
       let n : ℕ = length (entries_below cs) in
       let step : (accuracy * scales ms) * running_sum (composed g (map (λ m. m.near) ms)) r ≤ ((accuracy + 1) * factors ms) * running_sum (composed f (map (λ m. m.exact) ms)) r =
       composed-near accuracy g f ms near each
-      (rw (nears_are entry cs, total) (children_descend b entry cs h)) (rw (exacts_are entry cs, total') (children_descend exact entry cs k)) (columns_fall entry cs h) r in
-      let lower : low (suc n) ≡ accuracy * scales ms = pow-succ' accuracy n ∙ ap (λ x. accuracy * x) (sym (scales_are entry cs)) in
-      let upper : high (suc n) ≡ (accuracy + 1) * factors ms = pow-succ' (accuracy + 1) n ∙ ap (λ x. (accuracy + 1) * x) (sym (factors_are entry cs)) in
+      (rw (nears_are entry cs, total) (children_descend b entry cs h)) (rw (exacts_are entry cs, total') (children_descend exact entry cs k)) (columns_descend entry cs h) r in
+      let lower : accuracy_power (suc n) ≡ accuracy * scales ms = pow-succ' accuracy n ∙ ap (λ x. accuracy * x) (sym (scales_are entry cs)) in
+      let upper : next_power (suc n) ≡ (accuracy + 1) * factors ms = pow-succ' (accuracy + 1) n ∙ ap (λ x. (accuracy + 1) * x) (sym (factors_are entry cs)) in
       rw (lower, upper, sym (nears_are entry cs), sym (exacts_are entry cs)) step
 
   mutual
@@ -84,7 +85,7 @@ module _ (accuracy : ℕ) (b exact : EntryBounds) where
     below_near entry (and_class column members rest) h k near = (record { column = near.0; class = within_near members h.1 k.1 near.1 }, below_near entry rest h.2 k.2 near.2)
 
     within_near : (ms : Members) → EachColumnWithin (HasList b) ms → EachColumnWithin (HasList exact) ms → EachColumnWithin (ListIsNear accuracy b exact) ms
-        → SumsAreWithin (low (length (entries_within ms))) (high (length (entries_within ms))) (class_list b ms) (class_list exact ms)
+        → SumsAreWithin (accuracy_power (length (entries_within ms))) (next_power (length (entries_within ms))) (class_list b ms) (class_list exact ms)
     within_near (one_member entry column below) h k near =
         composed_near (b.list entry column) (exact.list entry column) entry below near.0 h.0.total k.0.total h.1 k.1 (below_near entry below h.1 k.1 near.1)
     within_near (and_member entry column below rest) h k near =
@@ -95,13 +96,13 @@ module _ (accuracy : ℕ) (b exact : EntryBounds) where
         let count : suc (length (entries_below below ++ entries_within rest)) ≡ n + m = omega (arith, length-append (entries_below below) (entries_within rest)) in
         let falls : (r : ℕ) → get_or g (suc r) 0 ≤ get_or g r 0 = IsDescending-composed (b.list entry column) (child_lists b entry below) h.0.falls (rw h.0.total (children_descend b entry below h.1)) in
         rw (count, sym (power-add accuracy n m), sym (power-add (accuracy + 1) n m))
-        (rank_product-near (low n) (high n) (low m) (high m) f (class_list exact rest) g (class_list b rest) (class_descends exact rest k.2) falls
+        (rank_product-near (accuracy_power n) (next_power n) (accuracy_power m) (next_power m) f (class_list exact rest) g (class_list b rest) (class_descends exact rest k.2) falls
         (composed_near (b.list entry column) (exact.list entry column) entry below near.0 h.0.total k.0.total h.1 k.1 (below_near entry below h.1 k.1 near.1))
         (within_near rest h.2 k.2 near.2))
 
-  -- ---- the bound of a tree
+  -- ---- nearness of the bound of a tree
 
-  -- the total of the root is the first element of a composed list: the one for n rows that all have one key
+  -- the root's total is the first element of the list composed from one element n: n rows with a single key
   root_is : (children : List ChildLists) (n : ℕ) → root_total children n ≡ running_sum (composed (n ∷ []) children) 1
   root_is children n =
       let whole : sum (n ∷ []) ≡ n = omega arith in
@@ -117,14 +118,14 @@ module _ (accuracy : ℕ) (b exact : EntryBounds) where
   one_within m n h zero = omega arith
   one_within m n h (suc r) = let a : running_sum (m ∷ []) (suc r) ≡ m = omega (arith, running_sum-nil r) in let c : running_sum (n ∷ []) (suc r) ≡ n = omega (arith, running_sum-nil r) in rw (a, c) h
 
-  pub tree_near : (t : BergeTree) → TreeHasLists b t → TreeHasLists exact t → TreeIsNear accuracy b exact t → low (length (entries t)) * bound_of_tree b t ≤ high (length (entries t)) * bound_of_tree exact t
+  pub tree_near : (t : BergeTree) → TreeHasLists b t → TreeHasLists exact t → TreeIsNear accuracy b exact t → accuracy_power (length (entries t)) * bound_of_tree b t ≤ next_power (length (entries t)) * bound_of_tree exact t
   tree_near t h k near =
       let g : List ℕ = b.rows t.root ∷ [] in
       let f : List ℕ = exact.rows t.root ∷ [] in
       rw (root_is (child_lists b t.root t.below) (b.rows t.root), root_is (child_lists exact t.root t.below) (exact.rows t.root))
       (composed_near g f t.root t.below (one_within (b.rows t.root) (exact.rows t.root) near.root) (omega arith) (omega arith) h k (below_near t.root t.below h k near.columns) 1)
 
-  -- ---- the bound of several trees
+  -- ---- nearness of the bound of several trees
 
   multiplied : (p q x y p' q' x' y' : ℕ) → p * x ≤ q * y → p' * x' ≤ q' * y' → (p * p') * (x * x') ≤ (q * q') * (y * y')
   multiplied p q x y p' q' x' y' h k = omega (arith, mul-le-mul h k, regrouped p x p' x', regrouped q y q' y')
@@ -133,11 +134,11 @@ module _ (accuracy : ℕ) (b exact : EntryBounds) where
       regrouped a c e d = omega arith
 
   pub trees_near : (ts : List BergeTree) → AllByRecursion (TreeHasLists b) ts → AllByRecursion (TreeHasLists exact) ts → AllByRecursion (TreeIsNear accuracy b exact) ts
-      → low (length (entries_of_all ts)) * bound_of_trees b ts ≤ high (length (entries_of_all ts)) * bound_of_trees exact ts
+      → accuracy_power (length (entries_of_all ts)) * bound_of_trees b ts ≤ next_power (length (entries_of_all ts)) * bound_of_trees exact ts
   trees_near [] h k near = rw (pow-zero accuracy, pow-zero (accuracy + 1)) (omega arith)
   trees_near (t ∷ ts) h k near =
       let n : ℕ = length (entries t) in
       let m : ℕ = length (entries_of_all ts) in
       rw (length-append (entries t) (entries_of_all ts), sym (power-add accuracy n m), sym (power-add (accuracy + 1) n m))
-      (multiplied (low n) (high n) (bound_of_tree b t) (bound_of_tree exact t) (low m) (high m) (bound_of_trees b ts) (bound_of_trees exact ts)
+      (multiplied (accuracy_power n) (next_power n) (bound_of_tree b t) (bound_of_tree exact t) (accuracy_power m) (next_power m) (bound_of_trees b ts) (bound_of_trees exact ts)
       (tree_near t h.0 k.0 near.0) (trees_near ts h.1 k.1 near.1))

@@ -1,4 +1,4 @@
--- There is only one list of trees for given equalities over a set of entries.
+-- For given equalities over a set of entries there is only one list of trees.
 use Rattle.std.proofs.Common.{◌≡◌, ◌≢◌, ℕ, Bool, List, [], ◌∷◌, ◌<◌, ◌≤◌, refl, ap, sym, ◌∙◌, subst, arith, inl, inr, Some, None}
 use Rattle.std.specs.Prelude.{⊤, Option}
 use Rattle.std.specs.List.{AllByRecursion, AllPairs, Contains}

@@ -14,7 +14,7 @@ use Rattle.berge_tree.specs.Trees.{BergeTree}
 use Rattle.tree_bounds.specs.TreeBounds.{EntryBounds, bound_of_tree, bound_of_trees}
 use Rattle.tree_bounds.specs.Saturating.{saturated_class}
 
--- ---- weights of rows
+-- ---- saturated weights of rows
 
 saturated-twice : (n : ℕ) → saturated (saturated n) ≡ saturated n
 saturated-twice n = omega arith
@@ -39,7 +39,7 @@ saturated-weights : (children : List ChildLists) (ts : List ℕ) → map saturat
 saturated-weights children [] = refl
 saturated-weights children (t ∷ ts) = rw (saturated-weight children t, saturated-weights children ts) refl
 
--- ---- compositions
+-- ---- saturated compositions
 
 pub saturated-composed : (parent : List ℕ) (children : List ChildLists) → map saturated (composed parent (map saturated_class children)) ≡ map saturated (composed parent children)
 saturated-composed parent children =
@@ -58,7 +58,7 @@ pub saturated-root_total : (children : List ChildLists) (rows : ℕ) → saturat
 saturated-root_total children rows =
     sym (saturated-sum (row_weights (map saturated_class children) rows)) ∙ ap (λ u. saturated (sum u)) (saturated-weights children (range_with_len 1 rows)) ∙ saturated-sum (row_weights children rows)
 
--- ---- products
+-- ---- saturated products
 
 rank_product-assoc : (s t u : List ℕ) → rank_product (rank_product s t) u ≡ rank_product s (rank_product t u)
 rank_product-assoc [] t u = refl

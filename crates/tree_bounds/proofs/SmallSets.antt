@@ -1,9 +1,10 @@
--- The lemmas compute the bound of the empty set, and that of a set with one entry.
+-- The bound of the empty set, and of a set with one entry, by computation.
 use Rattle.std.proofs.Common.{◌≡◌, ℕ, ◌-◌, ◌≤◌, List, [], ◌∷◌, map, length, sum, refl, ap, sym, ◌∙◌, subst, arith, inl, inr}
 use Rattle.std.specs.List.{Contains, range_with_len}
 use Rattle.std.proofs.Math.Nat.{mul-one}
 use Rattle.std.proofs.lemmas.List.Sums.{sum_by-cons}
 use Rattle.std.proofs.lemmas.List.FromFn.{length-range_with_len}
+use Rattle.limits.specs.Profile.{greatest_entries}
 use Rattle.degree_sequences.specs.Composition.{root_total, weight_by_rank}
 use Rattle.berge_tree.specs.declared.edges.Edge.{Edge}
 use Rattle.berge_tree.specs.Equalities.{AreWithin, ClosesNoCycle}
@@ -24,9 +25,9 @@ unfolding entries_of_set
 no_entries = refl
 
 pub empty_is : (b : EntryBounds) (es : List Edge) → bound_of_set b es 0 ≡ 1
-empty_is b es = all_turns (bound_of_turn b es 0) (turn_count 0 es - 1) 1 (λ turn. ap (λ set. bound_of_trees b (forest 16 (columns_of (kept_of 0 turn es)) [] set)) no_entries)
+empty_is b es = all_turns (bound_of_turn b es 0) (turn_count 0 es - 1) 1 (λ turn. ap (λ set. bound_of_trees b (forest greatest_entries (columns_of (kept_of 0 turn es)) [] set)) no_entries)
 
--- ---- a set with one entry
+-- ---- the bound of a set with one entry
 
 only : (entry x : ℕ) → Contains (entry ∷ []) x → x ≡ entry
 only entry x k = elim (one_in entry [] x k) [ inr is ↦ is | inl none ↦ absurd (in_none x none) ]
@@ -49,6 +50,6 @@ single_is b es subset entry one = all_turns (bound_of_turn b es subset) (turn_co
         let none : kept_of subset turn es ≡ [] =
         none_kept entry (kept_of subset turn es) (subst (λ set. AreWithin set (kept_of subset turn es)) one (kept_within subset turn es)) (closes es subset turn) in
         ap (λ kept. bound_of_trees b (trees_of kept subset)) none
-        ∙ ap (λ set. bound_of_trees b (forest 16 (columns_of []) [] set)) one
+        ∙ ap (λ set. bound_of_trees b (forest greatest_entries (columns_of []) [] set)) one
         ∙ mul-one (root_total [] (b.rows entry))
         ∙ ones (range_with_len 1 (b.rows entry)) ∙ length-range_with_len 1 (b.rows entry)

@@ -1,7 +1,8 @@
--- A set has a bound in each turn. The bound of the set is the least of them, and no bound is under the number of choices.
+-- A set has a bound in each turn. The bound of the set is the least of these, and none of them is less than the number of choices.
 use Rattle.std.proofs.Common.{◌≡◌, ℕ, zero, suc, ◌-◌, ◌<◌, ◌≤◌, List, length, refl, ap, sym, ◌∙◌, subst, arith, inl, inr}
 use Rattle.std.specs.List.{AllByRecursion}
 use Rattle.std.proofs.lemmas.Bool.{cases_lt}
+use Rattle.limits.specs.Profile.{greatest_entries}
 use Rattle.berge_tree.specs.declared.edges.Edge.{Edge}
 use Rattle.berge_tree.specs.Equalities.{ClosesNoCycle}
 use Rattle.berge_tree.specs.Rooted.{AreAllTreesOf}
@@ -42,7 +43,7 @@ least_to-some f (suc n) =
 pub least_to-least : (f : ℕ → ℕ) (n m : ℕ) → ((k : ℕ) → k ≤ n → m ≤ f k) → m ≤ least_to f n
 least_to-least f n m h = let some : (k : ℕ) × (k ≤ n) × (least_to f n ≡ f k) = least_to-some f n in rw some.2 (h some.0 some.1)
 
--- ---- the trees of a turn
+-- ---- the trees of a turn exist
 
 module _ (es : List Edge) (subset turn : ℕ) where
   pub closes : ClosesNoCycle (kept_of subset turn es)
@@ -50,7 +51,7 @@ module _ (es : List Edge) (subset turn : ℕ) where
 
   pub trees_there : AreAllTreesOf (kept_of subset turn es) (entries_of_set subset) (trees_of (kept_of subset turn es) subset)
   trees_there =
-      all_trees (kept_of subset turn es) closes (columns_of (kept_of subset turn es)) (columns_are (kept_of subset turn es)) (entries_of_set subset) 16
+      all_trees (kept_of subset turn es) closes (columns_of (kept_of subset turn es)) (columns_are (kept_of subset turn es)) (entries_of_set subset) greatest_entries
       (kept_within subset turn es) (set_low subset) (set_increases subset)
 
   pub trees_are : (ts : List BergeTree) → AreAllTreesOf (kept_of subset turn es) (entries_of_set subset) ts → ts ≡ trees_of (kept_of subset turn es) subset
@@ -89,7 +90,7 @@ module _ (b : EntryBounds) (es : List Edge) (subset : ℕ) where
       both : (a b : ℕ) → a ≤ b → b ≤ a → a ≡ b
       both a b h k = omega arith
 
--- ---- the bounds are never under the number of choices
+-- ---- the bounds are never less than the number of choices
 
 module _ (b : EntryBounds) (tables : KeyedTables) (es : List Edge) (subset : ℕ) (h : SetHasLists b es subset) (d : SetDominates b tables es subset)
     (cs : List (ℕ → ℕ)) (satisfy : AllByRecursion (Satisfies tables (entries_of_set subset) (equalities_within subset es)) cs) (differ : ChoicesAreDifferent (entries_of_set subset) cs) where

@@ -1,11 +1,11 @@
--- The choices of rows that agree in each class of a tree: their number as a sum of products, and the list of them, each as its row numbers.
+-- The choices of rows that agree in each class of a tree. Their number is a sum of products, and each is listed by its row numbers.
 use Rattle.std.specs.Prelude.{ℕ, ◌*◌, ◌==◌, if◌then◌else◌, List, [], ◌∷◌, ◌++◌, map, length, slice_index}
 use Rattle.std.specs.List.{flat_map, sum_by, range_with_len}
 use Rattle.degree_sequences.specs.KeyedRows.{ChildKeys, weight_of_row, weight_of_key}
 use Rattle.berge_tree.specs.Trees.{Classes, no_class, and_class, Members, one_member, and_member, BergeTree}
 use Rattle.tree_bounds.specs.Tables.{KeyedTables}
 
--- the classes below an entry, each with the keys of the entry's rows, and the number of choices below the class for each key
+-- for each class below an entry: the keys of the entry's rows in the class, and for each key the number of choices below the class
 abbrev mutual
   pub child_keys : KeyedTables → ℕ → Classes → List ChildKeys
   child_keys tables entry no_class = []
@@ -13,7 +13,7 @@ abbrev mutual
       (and_class column members rest) = record { keys = tables.keys entry column; weight = choices_for tables members }
       ∷ child_keys tables entry rest
 
-  -- the number of choices below a class whose rows have this key in the class
+  -- the number of choices below a class in which the chosen rows have this key in the class
   pub choices_for : KeyedTables → Members → ℕ → ℕ
   choices_for tables (one_member entry column below) = weight_of_key (tables.keys entry column) (child_keys tables entry below)
   choices_for tables (and_member entry column below rest) = λ key. weight_of_key (tables.keys entry column)
@@ -32,7 +32,7 @@ with_row row below = map (λ (rows : List ℕ). row ∷ rows) below
 abbrev pub each_followed_by_each : List (List ℕ) → List (List ℕ) → List (List ℕ)
 each_followed_by_each xs ys = flat_map (λ x. map (λ y. x ++ y) ys) xs
 
--- the rows that have this key, each followed by each choice below it
+-- the list of each row that has this key, followed by each choice below the row
 abbrev pub rows_with_key : List ℕ → (ℕ → List (List ℕ)) → ℕ → List (List ℕ)
 rows_with_key keys below key = flat_map (λ row. if slice_index keys row == key then with_row row (below row)
     else []) (range_with_len 0 (length keys))

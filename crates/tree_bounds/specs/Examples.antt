@@ -1,4 +1,4 @@
--- Small trees, bounds and tables for examples. Entries have their FROM positions as numbers, and columns their positions in the table.
+-- Small trees, bounds and tables for examples. An entry's number is its FROM position, and a column's number is its position in the table.
 use Rattle.std.specs.Prelude.{ℕ, zero, suc, List, [], ◌∷◌}
 use Rattle.berge_tree.specs.Trees.{no_class, and_class, Members, one_member, and_member, BergeTree}
 use Rattle.tree_bounds.specs.TreeBounds.{EntryBounds}
@@ -43,7 +43,7 @@ two_tables = record { rows = two_rows; keys = two_keys }
 abbrev pub two_choices : List (ℕ → ℕ)
 two_choices = (λ entry. 0) ∷ (λ entry. entry) ∷ []
 
--- the degree lists of the two tables' keys
+-- the degree lists of the keys in R and in S
 abbrev pub exact_list : ℕ → ℕ → List ℕ
 exact_list zero column = 3 ∷ 2 ∷ 1 ∷ []
 exact_list (suc entry) column = 2 ∷ 1 ∷ 1 ∷ 1 ∷ []
@@ -51,7 +51,7 @@ exact_list (suc entry) column = 2 ∷ 1 ∷ 1 ∷ 1 ∷ []
 abbrev pub exact_bounds : EntryBounds
 exact_bounds = record { rows = two_rows; list = exact_list }
 
--- the degree lists of the two tables' keys, compressed
+-- the compressed degree lists of the keys in R and in S
 abbrev pub compressed_list : ℕ → ℕ → List ℕ
 compressed_list zero column = 3 ∷ 3 ∷ []
 compressed_list (suc entry) column = 2 ∷ 2 ∷ 1 ∷ []
@@ -59,13 +59,13 @@ compressed_list (suc entry) column = 2 ∷ 2 ∷ 1 ∷ []
 abbrev pub compressed_bounds : EntryBounds
 compressed_bounds = record { rows = two_rows; list = compressed_list }
 
--- ---- other bounds
+-- ---- bounds for sets
 
 -- three rows for each entry, and for each column the list 2, 1
 abbrev pub triangle_bounds : EntryBounds
 triangle_bounds = record { rows = λ entry. 3; list = λ entry column. 2 ∷ 1 ∷ [] }
 
--- lists for three rows that have the same key in column 0, and three different keys in each other column
+-- lists of columns with three rows. In column 0 all rows have the same key; in each other column they have three different keys
 abbrev pub alike_or_different : ℕ → List ℕ
 alike_or_different zero = 3 ∷ []
 alike_or_different (suc column) = 1 ∷ 1 ∷ 1 ∷ []
@@ -73,9 +73,9 @@ alike_or_different (suc column) = 1 ∷ 1 ∷ 1 ∷ []
 abbrev pub pair_bounds : EntryBounds
 pair_bounds = record { rows = λ entry. 3; list = λ entry column. alike_or_different column }
 
--- ---- entries in one class: each has 1700 rows, all with one key
+-- ---- entries in one class, each with 1700 rows that all have the same key
 
--- n + 1 entries, numbered from `first` on
+-- n + 1 entries, numbered from `first`
 abbrev pub members_from : ℕ → ℕ → Members
 members_from first zero = one_member first 0 no_class
 members_from first (suc n) = and_member first 0 no_class (members_from (suc first) n)

@@ -1,5 +1,6 @@
--- The bound of a set of entries: in each turn the product of the bounds of its trees, and then the least over all turns.
+-- The bound of a set of entries: the product of its trees' bounds in each turn, and the least of these products.
 use Rattle.std.specs.Prelude.{◌≡◌, ℕ, zero, suc, ◌-◌, ◌<◌, ◌≤◌, min, List, []}
+use Rattle.limits.specs.Profile.{greatest_entries}
 use Rattle.berge_tree.specs.declared.edges.Edge.{Edge}
 use Rattle.berge_tree.specs.Rooted.{AreAllTreesOf}
 use Rattle.entry_sets.specs.Sets.{entries_of_set}
@@ -13,7 +14,7 @@ use Rattle.tree_bounds.specs.TreeBounds.{EntryBounds, HasList, bound_of_trees}
 abbrev pub SetHasLists : EntryBounds → List Edge → ℕ → Type 0
 SetHasLists b es subset = EachNamedColumn (HasList b) (equalities_within subset es)
 
--- n is the bound in a turn: the product of the bounds of the trees that the turn's kept equalities make
+-- n is the bound in a turn: the product of the bounds of the trees that are made from the turn's kept equalities
 pub record IsBoundOfTurn (b : EntryBounds) (es : List Edge) (subset turn n : ℕ) : Type 0 where
   pub trees : List BergeTree
   pub are_all : AreAllTreesOf (kept_of subset turn es) (entries_of_set subset) trees
@@ -28,7 +29,7 @@ pub record IsBoundOfSet (b : EntryBounds) (es : List Edge) (subset n : ℕ) : Ty
 
 -- the trees of given equalities over a set of entries
 abbrev pub trees_of : List Edge → ℕ → List BergeTree
-trees_of es subset = forest 16 (columns_of es) [] (entries_of_set subset)
+trees_of es subset = forest greatest_entries (columns_of es) [] (entries_of_set subset)
 
 abbrev pub bound_of_turn : EntryBounds → List Edge → ℕ → ℕ → ℕ
 bound_of_turn b es subset turn = bound_of_trees b (trees_of (kept_of subset turn es) subset)

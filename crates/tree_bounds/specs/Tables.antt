@@ -1,4 +1,4 @@
--- Tables as the keys of their rows, choices of one row for each entry, and what it means that lists dominate tables.
+-- Tables, given by the keys of their rows. Choices of one row of each entry, and lists that dominate tables.
 use Rattle.std.specs.Prelude.{◌≡◌, ◌≢◌, ℕ, ◌<◌, ◌≤◌, ⊤, List, map, length, slice_index}
 use Rattle.std.specs.List.{AllByRecursion, AllPairs}
 use Rattle.degree_sequences.specs.Domination.{DominatesKeys}
@@ -14,20 +14,20 @@ pub record KeyedTables : Type 0 where
   pub rows : ℕ → ℕ
   pub keys : ℕ → ℕ → List ℕ
 
--- ---- choices: for each entry the number of one of its rows, counted from 0
+-- ---- choices: a row number for each entry, counted from 0
 
 -- the key of the chosen row in a column
 abbrev pub key_of : KeyedTables → (ℕ → ℕ) → ℕ → ℕ → ℕ
 key_of tables choice entry column = slice_index (tables.keys entry column) (choice entry)
 
--- in each class below an entry, the chosen rows have the key of the entry's chosen row, and so on downwards
+-- in each class below an entry, the chosen rows have the same key as the entry's chosen row. The same is true further down the tree
 abbrev mutual
   pub AgreesBelow : KeyedTables → (ℕ → ℕ) → ℕ → Classes → Type 0
   AgreesBelow tables choice entry no_class = ⊤
   AgreesBelow tables choice entry (and_class column members rest) =
       AgreesWithin tables choice (key_of tables choice entry column) members × AgreesBelow tables choice entry rest
 
-  -- the chosen rows of a class's entries have this key, and so on downwards
+  -- the chosen rows of a class's entries have this key, and the choice agrees below these entries
   pub AgreesWithin : KeyedTables → (ℕ → ℕ) → ℕ → Members → Type 0
   AgreesWithin tables choice key (one_member entry column below) =
       (choice entry < tables.rows entry) × (key_of tables choice entry column ≡ key) × AgreesBelow tables choice entry below
@@ -48,7 +48,7 @@ pub record Satisfies (tables : KeyedTables) (entries : List ℕ) (es : List Edge
 abbrev pub ChoicesAreDifferent : List ℕ → List (ℕ → ℕ) → Type 0
 ChoicesAreDifferent entries choices = AllPairs (λ x y. map x entries ≢ map y entries) choices
 
--- ---- when lists dominate tables
+-- ---- domination of tables by lists
 
 -- an entry has at most as many rows as its row bound
 abbrev pub RowsFit : EntryBounds → KeyedTables → ℕ → Type 0
@@ -59,12 +59,13 @@ pub record Dominates (b : EntryBounds) (tables : KeyedTables) (entry column : �
   pub keys : DominatesKeys (b.list entry column) (tables.keys entry column)
   pub key_per_row : length (tables.keys entry column) ≡ tables.rows entry
 
--- the table of the root has at most as many rows as its row bound, and for each column of the tree the list dominates the keys
+-- the root's table has at most as many rows as the root's row bound. The list of each column of the tree dominates the column's keys
 pub record TreeDominates (b : EntryBounds) (tables : KeyedTables) (t : BergeTree) : Type 0 where
   pub root : RowsFit b tables t.root
   pub columns : EachColumn (Dominates b tables) t
 
--- each entry of the set has at most as many rows as its row bound, and for each column that an equality of the set names the list dominates the keys
+-- each entry of the set has at most as many rows as its row bound. For each column that an equality of the set names, the list dominates the column's
+-- keys
 pub record SetDominates (b : EntryBounds) (tables : KeyedTables) (es : List Edge) (subset : ℕ) : Type 0 where
   pub rows : AllByRecursion (RowsFit b tables) (entries_of_set subset)
   pub columns : EachNamedColumn (Dominates b tables) (equalities_within subset es)

@@ -1,4 +1,4 @@
--- The bound of a join tree: a number that is computed from the leaves up, from the columns' lists, which are in descending order.
+-- The bound of a join tree. It is computed from the leaves up, from the columns' descending lists.
 use Rattle.std.specs.Prelude.{◌≡◌, ℕ, ◌*◌, List, [], ◌∷◌}
 use Rattle.std.specs.List.{sum}
 use Rattle.degree_sequences.specs.ByRank.{rank_product}
@@ -7,12 +7,12 @@ use Rattle.degree_sequences.specs.Descending.{IsDescending}
 use Rattle.berge_tree.specs.Trees.{Classes, no_class, and_class, Members, one_member, and_member, BergeTree}
 use Rattle.tree_bounds.specs.Columns.{EachColumn}
 
--- what is known of each entry: a bound for the number of its rows, and a list for each of its joined columns
+-- a bound for the number of rows of each entry, and a list for each of its joined columns
 pub record EntryBounds : Type 0 where
   pub rows : ℕ → ℕ
   pub list : ℕ → ℕ → List ℕ
 
--- a list of a column: it is in descending order, and its sum is the row bound of the entry
+-- `list` may be a list of a column of an entry with this row bound: it is in descending order, and it sums to the row bound
 pub record IsListOf (rows : ℕ) (list : List ℕ) : Type 0 where
   pub falls : IsDescending list
   pub total : sum list ≡ rows
@@ -24,14 +24,14 @@ HasList b entry column = IsListOf (b.rows entry) (b.list entry column)
 abbrev pub TreeHasLists : EntryBounds → BergeTree → Type 0
 TreeHasLists b t = EachColumn (HasList b) t
 
--- for each class below an entry, the entry's list of its column in the class, and the list of the class
+-- for each class below an entry: the list of the entry's column in the class, and the list of the class
 abbrev mutual
   pub child_lists : EntryBounds → ℕ → Classes → List ChildLists
   child_lists b entry no_class = []
   child_lists b entry (and_class column members rest) = record { column = b.list entry column; class = class_list b members }
       ∷ child_lists b entry rest
 
-  -- the list of a class: the product, rank by rank, of the lists of the entries below it. Each of these lists is composed with the classes below its
+  -- the list of a class: the rank-wise product of the lists of the entries below it. Each of these lists is first composed with the classes below its
   -- entry
   pub class_list : EntryBounds → Members → List ℕ
   class_list b (one_member entry column below) = composed (b.list entry column) (child_lists b entry below)

@@ -52,7 +52,7 @@ pub fn one_class()
     ensures twelve { saturated (bound_of_tree many_bounds (one_class 10)) ≡ 2 ^ 128 - 1 }
 {}
 
-/// The premises of the laws can all be met. The exact lists of two tables dominate the tables, for the tree over the two and for the set of the two.
+/// The premises of the laws can all be met. The exact lists of two tables dominate the tables, for the tree over both tables and for the set of both.
 /// Two different choices agree in the tree and satisfy the equality. The compressed lists are near the exact ones at accuracy 1.
 pub fn instances()
     ensures lists { TreeHasLists exact_bounds r_and_s }

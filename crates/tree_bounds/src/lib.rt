@@ -1,12 +1,13 @@
-//! The bound of a join tree and of a set of entries, as mathematics: what the number is, and that no join has more rows.
+//! The bound of a join tree and of a set of entries, as mathematics. Defines the number, and proves that no join has more rows.
 //!
-//! In: for each entry a row bound and descending lists of its joined columns, and the trees of the equalities that a set of entries keeps. Out:
-//! definitions and laws; the crate bound_fold computes what is defined here. A tree's bound is computed from the leaves up. A class multiplies the
-//! lists of the entries below it, rank by rank. An entry composes its own list with the lists of the classes below it, and the root sums the weights
-//! of its rows. In each turn, the bound of a set of entries is the product over its trees; the least of all turns is its bound.
+//! A bound needs, for each entry, a row bound and descending lists of its joined columns. It also needs the trees of the equalities that a set of
+//! entries keeps. This crate has definitions and laws; the crate bound_fold computes the numbers. A tree's bound is computed from the leaves up. A
+//! class multiplies the lists of the entries below it, rank by rank. An entry composes its own list with the lists of the classes below it, and the
+//! root sums the weights of its rows. In each turn, a set of entries has a bound: the product of its trees' bounds. The least bound of all turns is
+//! the bound of the set.
 //!
-//! Callers cite `EntryBounds`, `bound_of_tree` and `bound_of_set` for the numbers, `KeyedTables`, `TreeDominates` and
-//! `SetDominates` for what they bound, and `TreeIsNear` and `SetIsNear` for how near they are.
+//! The numbers are `EntryBounds`, `bound_of_tree` and `bound_of_set`. `KeyedTables`, `TreeDominates` and `SetDominates` say what the numbers bound.
+//! `TreeIsNear` and `SetIsNear` say how near the bounds are to exact ones.
 #![tactic(auto)]
 
 mod examples;

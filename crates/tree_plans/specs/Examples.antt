@@ -1,4 +1,4 @@
--- Plans for worked examples.
+-- Plans for examples.
 use Rattle.std.specs.Prelude.{ℕ, List}
 use Rattle.tree_plans.specs.declared.bushy.BushyPlan.{BushyPlan}
 use Rattle.tree_plans.specs.declared.bushy.Join.{Join}

@@ -1,23 +1,23 @@
--- Plans over join trees. Each node has a number: the n leaves have their FROM positions, and the inner nodes have the numbers from n on, in the plan's
--- order.
+-- Plans over join trees. The number of a leaf is its FROM position. Inner nodes are numbered from n, in the plan's order, where n is the number of
+-- entries.
 use Rattle.std.specs.Prelude.{◌≡◌, ℕ, ◌+◌, ◌-◌, ◌*◌, ◌<◌, ◌≤◌, ◌==◌, List, [], ◌∷◌, length, ⊤}
 use Rattle.std.specs.List.{AllByRecursion, count_by}
 use Rattle.limits.specs.Profile.{most_entries}
 use Rattle.tree_plans.specs.declared.bushy.BushyPlan.{BushyPlan}
 use Rattle.tree_plans.specs.declared.bushy.Join.{Join}
 
--- the nodes that joins have as their sides, each as often as it is one
+-- the nodes on the left and right sides of joins. A node that is a side twice is listed twice
 abbrev pub joined_nodes : List Join → List ℕ
 joined_nodes [] = []
 joined_nodes (join ∷ joins) = join.left ∷ join.right ∷ joined_nodes joins
 
--- each join names two nodes with lower numbers than its own; the first join has the number `own`
+-- each join names two nodes with lower numbers than its own. `own` is the number of the first join
 abbrev pub HaveHigherNumbers : ℕ → List Join → Type 0
 HaveHigherNumbers own [] = ⊤
 HaveHigherNumbers own (join ∷ joins) = (join.left < own) × (join.right < own) × HaveHigherNumbers (own + 1) joins
 
--- a plan for n entries: it has a bound for each entry's scan, and joins that make one tree, in which each node but the last is joined once. `cost`
--- may be any number
+-- a plan for n entries. It has a bound for each entry's scan. Its joins make one tree, in which each node except the root is joined exactly once.
+-- `cost` may be any number
 pub record IsTreePlan (n : ℕ) (plan : BushyPlan) : Type 0 where
   pub few : n ≤ most_entries
   pub scans : length plan.scans ≡ n

@@ -19,7 +19,7 @@ use Rattle.worked_run.specs.Calls.{EachCallEnds, Ended, IsFaultless}
 use Rattle.worked_run.specs.TwoTables.{small_files}
 
 module _ (files : Files) (call : Call) (head : Headline call) (told : call.store.files ≡ Some files) (sound : IsFaultless call) where
-  -- if the verdict is accepted, the call ends in Done, with the texts of the outcome, or memory was lacking
+  -- if the verdict is an outcome, the call ends in Done with the texts of this outcome, or memory ran out
   accepted : (outcome : RunOutcome) → verdict call.words files ≡ Ok outcome
       → Ended call status.Done (notes_text outcome) (out_text outcome) ⊎ (call.status ≡ status.NoMemory)
   accepted outcome is = by (head.nothing_is_refused_without_cause.by_the_sinks sound.store sound.out sound.notes files told) where
@@ -35,7 +35,7 @@ module _ (files : Files) (call : Call) (head : Headline call) (told : call.store
         inl (record { status = done; notes = texts.0; out = texts.1 })
     by (inr memory) = inr memory
 
-  -- if the verdict is a refusal, the call ends with the line of the refusal, or memory was lacking
+  -- if the verdict is a refusal, the call ends with the line of the refusal, or memory ran out
   is_refused : (r : Refusal) (line : List ℕ) → verdict call.words files ≡ Err r
       → fault_text (status.Refused r) call.words files ≡ line → Ended call (status.Refused r) (Some line) None ⊎ (call.status ≡ status.NoMemory)
   is_refused r line is text = by (head.nothing_is_refused_without_cause.by_the_sinks sound.store sound.out sound.notes files told) where
@@ -52,7 +52,7 @@ module _ (files : Files) (call : Call) (head : Headline call) (told : call.store
         })
     by (inr memory) = inr memory
 
--- if the verdict on the words and files is an outcome with these texts, each call with these words ends in Done with these texts
+-- Suppose that the verdict on the words and files is an outcome with these texts. Then each call with these words ends in Done with these texts
 pub answers_done : (files : Files) (words : List (List ℕ)) (outcome : RunOutcome) (notes out : Option (List ℕ)) → verdict words files ≡ Ok outcome
     → notes_text outcome ≡ notes → out_text outcome ≡ out → EachCallEnds files words status.Done notes out
 answers_done files words outcome notes out is left right call head same told sound =
@@ -83,13 +83,13 @@ answers_budget words is call head same told sound =
     is_refused small_files call head told sound (refusal.Budget 12) (codes "error budget 12\n")
     (ap (λ w. verdict w small_files) same ∙ is) (budget_line call.words)
 
-limit_line : (words : List (List ℕ)) → fault_text (status.Refused (refusal.MemoryLimit 556)) words small_files ≡ codes "error memory-limit 556\n"
+limit_line : (words : List (List ℕ)) → fault_text (status.Refused (refusal.MemoryLimit 531)) words small_files ≡ codes "error memory-limit 531\n"
 unfolding error_line digits
 limit_line words = refl
 
--- if the verdict is a refusal since the plan takes 556 bytes, each call with these words ends with the line `error memory-limit 556`
-pub answers_limit : (words : List (List ℕ)) → verdict words small_files ≡ Err (refusal.MemoryLimit 556)
-    → EachCallEnds small_files words (status.Refused (refusal.MemoryLimit 556)) (Some (codes "error memory-limit 556\n")) None
+-- if the verdict is a refusal since the plan takes 531 bytes, each call with these words ends with the line `error memory-limit 531`
+pub answers_limit : (words : List (List ℕ)) → verdict words small_files ≡ Err (refusal.MemoryLimit 531)
+    → EachCallEnds small_files words (status.Refused (refusal.MemoryLimit 531)) (Some (codes "error memory-limit 531\n")) None
 answers_limit words is call head same told sound =
-    is_refused small_files call head told sound (refusal.MemoryLimit 556) (codes "error memory-limit 556\n")
+    is_refused small_files call head told sound (refusal.MemoryLimit 531) (codes "error memory-limit 531\n")
     (ap (λ w. verdict w small_files) same ∙ is) (limit_line call.words)

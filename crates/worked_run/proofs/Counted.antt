@@ -28,16 +28,16 @@ use Rattle.counted_factors.specs.ColumnConjuncts.{ColumnConjunct, column_conjunc
 use Rattle.counted_factors.specs.Limits.{column_conjuncts_of_set, are_all_counted, are_equalities_counted, are_equalities_tried, are_kept, counts_made, column_equalities_of_set, has_only_kept_equalities, is_one_part, is_own_or_equality, is_within_limits, most_pairs_of_all, taken_below, taken_by_all, taken_by_set}
 use Rattle.counted_planning.specs.Bounds.{set_bounds_by_counts}
 use Rattle.table_files.specs.Examples.{two_tables}
-use Rattle.safebound_words.specs.Answer.{command_of, kind_of, parts_from, reading_of}
+use Rattle.safebound_words.specs.Answer.{command_of, kind_of_word, parts_from, reading_of}
 use Rattle.safebound_words.specs.Commands.{over_query}
 use Rattle.safebound_words.specs.Numbers.{number_of}
 use Rattle.safebound_words.specs.Table.{over_files}
 use Rattle.safebound_words.specs.declared.command.ListSource.TheVariants as sources
 use Rattle.safebound_words.specs.declared.command.Shape.TheVariants as shapes
-use Rattle.safebound_words.specs.declared.command.Work.TheVariants as works
+use Rattle.safebound_words.specs.declared.command.QueryTask.TheVariants as works
 use Rattle.prepared_runs.specs.RunOutcome.{Planned}
 use Rattle.prepared_runs.specs.Shapes.{answer_of, planned_by}
-use Rattle.prepared_runs.specs.Sources.{lists_by, scans_by, sets_by, sourced}
+use Rattle.prepared_runs.specs.Sources.{lists_by, scans_by, sets_by, bounds_and_lists_by}
 use Rattle.prepared_runs.specs.Verdict.{command_stage, verdict}
 use Rattle.prepared_runs.specs.declared.shapes.AnyPlan.TheVariants as shaped
 use Rattle.worked_run.specs.Meaning.{reduced_lists, two_tables_reduced}
@@ -144,14 +144,14 @@ lists_kept : lists_by sources.Counted pair T ≡ reduced_lists
 unfolding lists_by
 lists_kept = kept
 
-plan_found : planned_by shapes.Order (sourced sources.Counted two_tables pair T) 1 1000000 ≡ Ok (shaped.OrderPlan plan)
+plan_found : planned_by shapes.Order (bounds_and_lists_by sources.Counted two_tables pair T) 1 1000000 ≡ Ok (shaped.OrderPlan plan)
 unfolding planned_by sets_by scans_by
 plan_found =
     ap (λ (lists : List (List ℕ)). answer_of shapes.Order (set_bounds_by_counts pair T lists) (list_sizes pair lists) 1000000) kept
     ∙ plan_over (set_bounds_by_counts pair T reduced_lists) sets
 
 asked : command_stage counted_words ≡ Ok (over_query None (codes "schema.sql") (codes "query.sql") (works.Plan (task sources.Counted)))
-unfolding command_of reading_of over_files parts_from kind_of number_of
+unfolding command_of reading_of over_files parts_from kind_of_word number_of
 asked = refl
 
 pub counted_verdict : verdict counted_words small_files ≡ Ok (Planned (two_tables_reduced sources.Counted))

@@ -24,7 +24,7 @@ use Rattle.plan_answers.specs.PlanAnswer.{plan_answer}
 use Rattle.planning.specs.Bounds.{scan_bounds_of}
 use Rattle.plans.specs.Examples.{plan_of}
 use Rattle.plans.specs.declared.left_deep.Plan.{Plan}
-use Rattle.query_bounds.specs.Bounds.{scan_rows}
+use Rattle.query_bounds.specs.Bounds.{scan_row_bound}
 use Rattle.query_grammar.specs.declared.tree.Op.TheVariants as op
 use Rattle.query_types.proofs.CondFacts.{entries_compare}
 use Rattle.query_types.specs.declared.types.Operand.TheVariants as operand
@@ -36,22 +36,22 @@ use Rattle.table_files.specs.EntryTables.{tables_in}
 use Rattle.table_files.specs.Stage.{tables_stage}
 use Rattle.table_files.specs.TableFile.{file_rows}
 use Rattle.table_stats.specs.Statistics.{entry_counts}
-use Rattle.safebound_words.specs.Answer.{command_of, kind_of, parts_from, reading_of}
+use Rattle.safebound_words.specs.Answer.{command_of, kind_of_word, parts_from, reading_of}
 use Rattle.safebound_words.specs.Commands.{over_query}
 use Rattle.safebound_words.specs.Numbers.{number_of}
 use Rattle.safebound_words.specs.Table.{over_files}
-use Rattle.safebound_words.specs.declared.command.Aim.TheVariants as aims
+use Rattle.safebound_words.specs.declared.command.SchemaTask.TheVariants as aims
 use Rattle.safebound_words.specs.declared.command.Command.{Command}
 use Rattle.safebound_words.specs.declared.command.ListSource.TheVariants as sources
 use Rattle.safebound_words.specs.declared.command.OutText.TheVariants as out_text
 use Rattle.safebound_words.specs.declared.command.PlanWork.{PlanWork}
 use Rattle.safebound_words.specs.declared.command.Shape.TheVariants as shapes
-use Rattle.safebound_words.specs.declared.command.Work.TheVariants as works
+use Rattle.safebound_words.specs.declared.command.QueryTask.TheVariants as works
 use Rattle.prepared_runs.specs.AcceptedQuery.{AcceptedQuery}
 use Rattle.prepared_runs.specs.Limits.{within_limit}
 use Rattle.prepared_runs.specs.RunOutcome.{Planned}
 use Rattle.prepared_runs.specs.Shapes.{answer_of, planned_by, shape_bytes}
-use Rattle.prepared_runs.specs.Sources.{sets_by, scans_by, sourced}
+use Rattle.prepared_runs.specs.Sources.{sets_by, scans_by, bounds_and_lists_by}
 use Rattle.prepared_runs.specs.Verdict.{aim_run, command_run, command_stage, plan_stage, query_stage, run_asked, schema_stage, verdict, work_run}
 use Rattle.prepared_runs.specs.declared.shapes.AnyPlan.{AnyPlan}
 use Rattle.prepared_runs.specs.declared.shapes.AnyPlan.TheVariants as shaped
@@ -69,7 +69,7 @@ command = over_query None (codes "schema.sql") (codes "query.sql") (works.Plan t
 -- ---- the words and the files are read
 
 asked : command_stage keyed_words ≡ Ok command
-unfolding command_of reading_of over_files parts_from kind_of number_of
+unfolding command_of reading_of over_files parts_from kind_of_word number_of
 asked = refl
 
 schema_found : schema_stage (codes "schema.sql") workers_files ≡ Ok worker_schema
@@ -103,21 +103,21 @@ one_table (suc (suc n)) = refl
 
 -- ---- the plan
 
-boss_scan : scan_rows by_manager (statistics_of worker_tables 1) 1 ≡ 1
+boss_scan : scan_row_bound by_manager (statistics_of worker_tables 1) 1 ≡ 1
 boss_scan = rw (
   entries_compare op.Eq (column_operand 0 1) (column_operand 1 0),
   entries_compare op.Eq (column_operand 1 2) (operand.Int (pos 3)),
   of_compare (count_answers (entry_counts worker_tables 1)) op.Eq (column_operand 1 2) (operand.Int (pos 3)) true,
 ) refl
 
-worker_scan : scan_rows by_manager (statistics_of worker_tables 1) 0 ≡ 5
+worker_scan : scan_row_bound by_manager (statistics_of worker_tables 1) 0 ≡ 5
 worker_scan = rw (
   entries_compare op.Eq (column_operand 0 1) (column_operand 1 0),
   entries_compare op.Eq (column_operand 1 2) (operand.Int (pos 3)),
 ) refl
 
 scans : scan_bounds_of by_manager worker_tables 1 ≡ 5 ∷ 1 ∷ []
-scans = ap (λ (n : ℕ). n ∷ scan_rows by_manager (statistics_of worker_tables 1) 1 ∷ []) worker_scan ∙ ap (λ (n : ℕ). 5 ∷ n ∷ []) boss_scan
+scans = ap (λ (n : ℕ). n ∷ scan_row_bound by_manager (statistics_of worker_tables 1) 1 ∷ []) worker_scan ∙ ap (λ (n : ℕ). 5 ∷ n ∷ []) boss_scan
 
 chosen : plan_answer (1 ∷ 5 ∷ 1 ∷ 2 ∷ []) (5 ∷ 1 ∷ []) 1000000 ≡ Ok (plan_of (1 ∷ 0 ∷ []) (5 ∷ 1 ∷ []) (1 ∷ 2 ∷ []))
 unfolding plan_answer best_order
@@ -129,7 +129,7 @@ as_order answer = mapped (λ plan. shaped.OrderPlan plan) answer
 abbrev plan : AnyPlan
 plan = shaped.OrderPlan (plan_of (1 ∷ 0 ∷ []) (5 ∷ 1 ∷ []) (1 ∷ 2 ∷ []))
 
-plan_found : planned_by shapes.Order (sourced sources.Keyed worker_schema by_manager (tables_in (rows ∷ rows ∷ []))) 1 1000000 ≡ Ok plan
+plan_found : planned_by shapes.Order (bounds_and_lists_by sources.Keyed worker_schema by_manager (tables_in (rows ∷ rows ∷ []))) 1 1000000 ≡ Ok plan
 unfolding planned_by sets_by scans_by
 plan_found =
     ap (λ (ts : Tables). answer_of shapes.Order (bounds_in_sets (bounds_by_keys worker_schema by_manager ts 1) (equalities_of by_manager) 2) (scan_bounds_of by_manager ts 1) 1000000)

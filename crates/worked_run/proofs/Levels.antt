@@ -70,7 +70,7 @@ pub notes_text : (out : OutText) → plan_text (two_tables_run out None) ≡ cod
 unfolding digits
 notes_text out = refl
 
-pub limited_notes : plan_text (two_tables_run out_text.Rows (Some 556)) ≡ codes "scan R 6\nscan S 5\nlevel 1 S 5\nlevel 2 R 12\nmemory 556\n"
+pub limited_notes : plan_text (two_tables_run out_text.Rows (Some 531)) ≡ codes "scan R 6\nscan S 5\nlevel 1 S 5\nlevel 2 R 12\nmemory 531\n"
 unfolding digits
 limited_notes = refl
 

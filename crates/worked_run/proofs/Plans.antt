@@ -20,7 +20,7 @@ use Rattle.planning.specs.Bounds.{scan_bounds_of, set_bounds_of}
 use Rattle.table_files.specs.EntryTables.{tables_in}
 use Rattle.table_files.specs.Examples.{two_tables}
 use Rattle.prepared_runs.specs.Shapes.{answer_of, planned_by}
-use Rattle.prepared_runs.specs.Sources.{sets_by, scans_by, sourced}
+use Rattle.prepared_runs.specs.Sources.{sets_by, scans_by, bounds_and_lists_by}
 use Rattle.prepared_runs.specs.declared.shapes.AnyPlan.{AnyPlan}
 use Rattle.prepared_runs.specs.declared.shapes.AnyPlan.TheVariants as shaped
 use Rattle.safebound_words.specs.declared.command.ListSource.TheVariants as sources
@@ -47,7 +47,7 @@ tree_chosen : tree_answer (1 ∷ 6 ∷ 5 ∷ 12 ∷ []) (6 ∷ 5 ∷ []) 1000000
 unfolding best_tree tree_answer
 tree_chosen = refl
 
-over_these : (shape : Shape) (budget : ℕ) → planned_by shape (sourced sources.Columns two_tables pair (tables_in small_rows)) 1 budget
+over_these : (shape : Shape) (budget : ℕ) → planned_by shape (bounds_and_lists_by sources.Columns two_tables pair (tables_in small_rows)) 1 budget
     ≡ answer_of shape (1 ∷ 6 ∷ 5 ∷ 12 ∷ []) (6 ∷ 5 ∷ []) budget
 unfolding planned_by sets_by scans_by
 over_these shape budget =
@@ -60,13 +60,13 @@ as_order answer = mapped (λ plan. shaped.OrderPlan plan) answer
 abbrev as_tree : Result BushyPlan PlanError → Result AnyPlan PlanError
 as_tree answer = mapped (λ plan. shaped.TreePlan plan) answer
 
-pub plan_found : planned_by shapes.Order (sourced sources.Columns two_tables pair (tables_in small_rows)) 1 1000000
+pub plan_found : planned_by shapes.Order (bounds_and_lists_by sources.Columns two_tables pair (tables_in small_rows)) 1 1000000
     ≡ Ok (shaped.OrderPlan (plan_of (1 ∷ 0 ∷ []) (6 ∷ 5 ∷ []) (5 ∷ 12 ∷ [])))
 plan_found = over_these shapes.Order 1000000 ∙ ap as_order chosen
 
-pub tree_found : planned_by shapes.Tree (sourced sources.Columns two_tables pair (tables_in small_rows)) 1 1000000
+pub tree_found : planned_by shapes.Tree (bounds_and_lists_by sources.Columns two_tables pair (tables_in small_rows)) 1 1000000
     ≡ Ok (shaped.TreePlan (tree_of (join 0 1 12 ∷ []) (6 ∷ 5 ∷ []) 12))
 tree_found = over_these shapes.Tree 1000000 ∙ ap as_tree tree_chosen
 
-pub plan_refused : planned_by shapes.Order (sourced sources.Columns two_tables pair (tables_in small_rows)) 1 11 ≡ Err (error.Budget 12)
+pub plan_refused : planned_by shapes.Order (bounds_and_lists_by sources.Columns two_tables pair (tables_in small_rows)) 1 11 ≡ Err (error.Budget 12)
 plan_refused = over_these shapes.Order 11 ∙ ap as_order refused

@@ -5,11 +5,11 @@ use Rattle.std.specs.Str.Lossy.{utf8_valid_len}
 use Rattle.ll_grammars.specs.Reading.{read_many, read_tails}
 use Rattle.query_grammar.specs.Nesting.{nesting}
 use Rattle.query_grammar.specs.Readers.{read_name, read_other_name, read_new_name, read_dotted_name, read_column, read_number, read_literal, read_operand, read_operator, read_negation, read_next_literal, read_literals, read_value_list, read_predicate, read_flat, read_factor, read_next_factor, read_factors, read_term, read_next_term, read_terms, read_cond, read_inside, read_test, read_within, read_condition, read_source, read_join, read_joins, read_part, read_next_part, read_parts, read_dotted_out, read_out, read_next_out, read_listed_outs, read_outs, read_condition_after_where, read_filter, read_query}
-use Rattle.sql_tokens.specs.Pieces.{closed, identifier, literal, symbol, piece, tokens_at}
-use Rattle.sql_tokens.specs.Words.{terminal_of, name_of, literal_of, number_of}
+use Rattle.sql_tokens.specs.Pieces.{closing_length, identifier, literal, symbol, piece, tokens_at}
+use Rattle.sql_tokens.specs.Words.{terminal_of, name_of, literal_text_of, number_of}
 use Rattle.schema_types.specs.Names.{index_of_name}
 use Rattle.query_names.specs.Names.{column_in, entries, from_offences}
-use Rattle.query_names.specs.Scopes.{in_scope, entry_named, column_alone, resolve, conditions}
+use Rattle.query_names.specs.Scopes.{in_scope, entry_named, column_without_alias, resolve, conditions}
 use Rattle.query_names.specs.Offences.{name_offences, all_kind_offences}
 use Rattle.query_names.specs.Numbers.{number_value, number_offences}
 use Rattle.query_names.specs.Values.{conjuncts, outs_of_entry, query_of}
@@ -53,15 +53,15 @@ tree = record {
 }
 
 spelled : query_answer two_tables query_text ≡ query_or_refusal two_tables query_text tree
-unfolding query_answer nested_answer syntax_tree_of tokens_of chars is_utf8 utf8_valid_len lib.Utf8.encode closed identifier literal symbol piece tokens_at terminal_of name_of literal_of number_of read_many read_tails nesting read_name read_other_name read_new_name read_dotted_name read_column read_number read_literal read_operand read_operator read_negation read_next_literal read_literals read_value_list read_predicate read_flat read_factor read_next_factor read_factors read_term read_next_term read_terms read_cond read_inside read_test read_within read_condition read_source read_join read_joins read_part read_next_part read_parts read_dotted_out read_out read_next_out read_listed_outs read_outs read_condition_after_where read_filter read_query number_offences query_text
+unfolding query_answer nested_answer syntax_tree_of tokens_of chars is_utf8 utf8_valid_len lib.Utf8.encode closing_length identifier literal symbol piece tokens_at terminal_of name_of literal_text_of number_of read_many read_tails nesting read_name read_other_name read_new_name read_dotted_name read_column read_number read_literal read_operand read_operator read_negation read_next_literal read_literals read_value_list read_predicate read_flat read_factor read_next_factor read_factors read_term read_next_term read_terms read_cond read_inside read_test read_within read_condition read_source read_join read_joins read_part read_next_part read_parts read_dotted_out read_out read_next_out read_listed_outs read_outs read_condition_after_where read_filter read_query number_offences query_text
 spelled = refl
 
 conjoined : conjuncts two_tables query_text pair.from tree ≡ pair.conjuncts
-unfolding query_answer nested_answer syntax_tree_of tokens_of chars is_utf8 utf8_valid_len lib.Utf8.encode closed identifier literal symbol piece tokens_at terminal_of name_of literal_of number_of read_many read_tails nesting read_name read_other_name read_new_name read_dotted_name read_column read_number read_literal read_operand read_operator read_negation read_next_literal read_literals read_value_list read_predicate read_flat read_factor read_next_factor read_factors read_term read_next_term read_terms read_cond read_inside read_test read_within read_condition read_source read_join read_joins read_part read_next_part read_parts read_dotted_out read_out read_next_out read_listed_outs read_outs read_condition_after_where read_filter read_query index_of_name column_in entries from_offences in_scope entry_named column_alone resolve conditions name_offences all_kind_offences number_value number_offences conjuncts outs_of_entry query_of long_lists refusals query_or_refusal query_text
+unfolding query_answer nested_answer syntax_tree_of tokens_of chars is_utf8 utf8_valid_len lib.Utf8.encode closing_length identifier literal symbol piece tokens_at terminal_of name_of literal_text_of number_of read_many read_tails nesting read_name read_other_name read_new_name read_dotted_name read_column read_number read_literal read_operand read_operator read_negation read_next_literal read_literals read_value_list read_predicate read_flat read_factor read_next_factor read_factors read_term read_next_term read_terms read_cond read_inside read_test read_within read_condition read_source read_join read_joins read_part read_next_part read_parts read_dotted_out read_out read_next_out read_listed_outs read_outs read_condition_after_where read_filter read_query index_of_name column_in entries from_offences in_scope entry_named column_without_alias resolve conditions name_offences all_kind_offences number_value number_offences conjuncts outs_of_entry query_of long_lists refusals query_or_refusal query_text
 conjoined = ap (λ (m : Meaning). m.members ++ []) (means_test two_tables query_text pair.from (record { first = 0; end = 2 }) is_joined)
 
 meant : query_or_refusal two_tables query_text tree ≡ Ok pair
-unfolding query_answer nested_answer syntax_tree_of tokens_of chars is_utf8 utf8_valid_len lib.Utf8.encode closed identifier literal symbol piece tokens_at terminal_of name_of literal_of number_of read_many read_tails nesting read_name read_other_name read_new_name read_dotted_name read_column read_number read_literal read_operand read_operator read_negation read_next_literal read_literals read_value_list read_predicate read_flat read_factor read_next_factor read_factors read_term read_next_term read_terms read_cond read_inside read_test read_within read_condition read_source read_join read_joins read_part read_next_part read_parts read_dotted_out read_out read_next_out read_listed_outs read_outs read_condition_after_where read_filter read_query index_of_name column_in entries from_offences in_scope entry_named column_alone resolve conditions name_offences all_kind_offences number_value number_offences outs_of_entry query_of long_lists refusals query_or_refusal query_text
+unfolding query_answer nested_answer syntax_tree_of tokens_of chars is_utf8 utf8_valid_len lib.Utf8.encode closing_length identifier literal symbol piece tokens_at terminal_of name_of literal_text_of number_of read_many read_tails nesting read_name read_other_name read_new_name read_dotted_name read_column read_number read_literal read_operand read_operator read_negation read_next_literal read_literals read_value_list read_predicate read_flat read_factor read_next_factor read_factors read_term read_next_term read_terms read_cond read_inside read_test read_within read_condition read_source read_join read_joins read_part read_next_part read_parts read_dotted_out read_out read_next_out read_listed_outs read_outs read_condition_after_where read_filter read_query index_of_name column_in entries from_offences in_scope entry_named column_without_alias resolve conditions name_offences all_kind_offences number_value number_offences outs_of_entry query_of long_lists refusals query_or_refusal query_text
 meant = rw (tests_test is_joined, conjoined) refl
 
 pub query_read : query_answer two_tables query_text ≡ Ok pair
@@ -90,7 +90,7 @@ workers_tree = record {
 }
 
 workers_spelled : query_answer worker_schema workers_query ≡ query_or_refusal worker_schema workers_query workers_tree
-unfolding query_answer nested_answer syntax_tree_of tokens_of chars is_utf8 utf8_valid_len lib.Utf8.encode closed identifier literal symbol piece tokens_at terminal_of name_of literal_of number_of read_many read_tails nesting read_name read_other_name read_new_name read_dotted_name read_column read_number read_literal read_operand read_operator read_negation read_next_literal read_literals read_value_list read_predicate read_flat read_factor read_next_factor read_factors read_term read_next_term read_terms read_cond read_inside read_test read_within read_condition read_source read_join read_joins read_part read_next_part read_parts read_dotted_out read_out read_next_out read_listed_outs read_outs read_condition_after_where read_filter read_query number_offences workers_query
+unfolding query_answer nested_answer syntax_tree_of tokens_of chars is_utf8 utf8_valid_len lib.Utf8.encode closing_length identifier literal symbol piece tokens_at terminal_of name_of literal_text_of number_of read_many read_tails nesting read_name read_other_name read_new_name read_dotted_name read_column read_number read_literal read_operand read_operator read_negation read_next_literal read_literals read_value_list read_predicate read_flat read_factor read_next_factor read_factors read_term read_next_term read_terms read_cond read_inside read_test read_within read_condition read_source read_join read_joins read_part read_next_part read_parts read_dotted_out read_out read_next_out read_listed_outs read_outs read_condition_after_where read_filter read_query number_offences workers_query
 workers_spelled = refl
 
 abbrev everywhere : Scope
@@ -109,11 +109,11 @@ both_mean =
     ∙ ap (λ (m : Meaning). all_of (says is_boss ∷ m ∷ [])) (means_test worker_schema workers_query by_manager.from everywhere is_of_region)
 
 workers_conjoined : conjuncts worker_schema workers_query by_manager.from workers_tree ≡ by_manager.conjuncts
-unfolding query_answer nested_answer syntax_tree_of tokens_of chars is_utf8 utf8_valid_len lib.Utf8.encode closed identifier literal symbol piece tokens_at terminal_of name_of literal_of number_of read_many read_tails nesting read_name read_other_name read_new_name read_dotted_name read_column read_number read_literal read_operand read_operator read_negation read_next_literal read_literals read_value_list read_predicate read_flat read_factor read_next_factor read_factors read_term read_next_term read_terms read_cond read_inside read_test read_within read_condition read_source read_join read_joins read_part read_next_part read_parts read_dotted_out read_out read_next_out read_listed_outs read_outs read_condition_after_where read_filter read_query index_of_name column_in entries from_offences in_scope entry_named column_alone resolve conditions name_offences all_kind_offences number_value number_offences conjuncts outs_of_entry query_of long_lists refusals query_or_refusal workers_query
+unfolding query_answer nested_answer syntax_tree_of tokens_of chars is_utf8 utf8_valid_len lib.Utf8.encode closing_length identifier literal symbol piece tokens_at terminal_of name_of literal_text_of number_of read_many read_tails nesting read_name read_other_name read_new_name read_dotted_name read_column read_number read_literal read_operand read_operator read_negation read_next_literal read_literals read_value_list read_predicate read_flat read_factor read_next_factor read_factors read_term read_next_term read_terms read_cond read_inside read_test read_within read_condition read_source read_join read_joins read_part read_next_part read_parts read_dotted_out read_out read_next_out read_listed_outs read_outs read_condition_after_where read_filter read_query index_of_name column_in entries from_offences in_scope entry_named column_without_alias resolve conditions name_offences all_kind_offences number_value number_offences conjuncts outs_of_entry query_of long_lists refusals query_or_refusal workers_query
 workers_conjoined = ap (λ (m : Meaning). m.members ++ []) both_mean
 
 workers_meant : query_or_refusal worker_schema workers_query workers_tree ≡ Ok by_manager
-unfolding query_answer nested_answer syntax_tree_of tokens_of chars is_utf8 utf8_valid_len lib.Utf8.encode closed identifier literal symbol piece tokens_at terminal_of name_of literal_of number_of read_many read_tails nesting read_name read_other_name read_new_name read_dotted_name read_column read_number read_literal read_operand read_operator read_negation read_next_literal read_literals read_value_list read_predicate read_flat read_factor read_next_factor read_factors read_term read_next_term read_terms read_cond read_inside read_test read_within read_condition read_source read_join read_joins read_part read_next_part read_parts read_dotted_out read_out read_next_out read_listed_outs read_outs read_condition_after_where read_filter read_query index_of_name column_in entries from_offences in_scope entry_named column_alone resolve conditions name_offences all_kind_offences number_value number_offences outs_of_entry query_of long_lists refusals query_or_refusal workers_query
+unfolding query_answer nested_answer syntax_tree_of tokens_of chars is_utf8 utf8_valid_len lib.Utf8.encode closing_length identifier literal symbol piece tokens_at terminal_of name_of literal_text_of number_of read_many read_tails nesting read_name read_other_name read_new_name read_dotted_name read_column read_number read_literal read_operand read_operator read_negation read_next_literal read_literals read_value_list read_predicate read_flat read_factor read_next_factor read_factors read_term read_next_term read_terms read_cond read_inside read_test read_within read_condition read_source read_join read_joins read_part read_next_part read_parts read_dotted_out read_out read_next_out read_listed_outs read_outs read_condition_after_where read_filter read_query index_of_name column_in entries from_offences in_scope entry_named column_without_alias resolve conditions name_offences all_kind_offences number_value number_offences outs_of_entry query_of long_lists refusals query_or_refusal workers_query
 workers_meant = rw (tests_and both_tests, tests_test is_boss, tests_test is_of_region, workers_conjoined) refl
 
 pub workers_query_read : query_answer worker_schema workers_query ≡ Ok by_manager

@@ -26,7 +26,7 @@ use Rattle.sql_meaning.specs.Answers.{conjuncts_of, selected}
 use Rattle.sql_meaning.specs.Choices.{choices}
 use Rattle.sql_meaning.specs.Levels.{all_hold, row_in}
 use Rattle.table_files.specs.Examples.{two_tables}
-use Rattle.safebound_words.specs.Answer.{command_of, kind_of, parts_from, reading_of}
+use Rattle.safebound_words.specs.Answer.{command_of, kind_of_word, parts_from, reading_of}
 use Rattle.safebound_words.specs.Commands.{over_query}
 use Rattle.safebound_words.specs.Numbers.{number_of}
 use Rattle.safebound_words.specs.Table.{over_files}
@@ -35,11 +35,11 @@ use Rattle.safebound_words.specs.declared.command.ListSource.TheVariants as sour
 use Rattle.safebound_words.specs.declared.command.OutText.TheVariants as out_text
 use Rattle.safebound_words.specs.declared.command.PlanWork.{PlanWork}
 use Rattle.safebound_words.specs.declared.command.Shape.TheVariants as shapes
-use Rattle.safebound_words.specs.declared.command.Work.TheVariants as works
+use Rattle.safebound_words.specs.declared.command.QueryTask.TheVariants as works
 use Rattle.prepared_runs.specs.Limits.{within_limit}
 use Rattle.prepared_runs.specs.RunOutcome.{Planned}
 use Rattle.prepared_runs.specs.Shapes.{answer_of, planned_by, shape_bytes}
-use Rattle.prepared_runs.specs.Sources.{sets_by, lists_by, scans_by, sourced}
+use Rattle.prepared_runs.specs.Sources.{sets_by, lists_by, scans_by, bounds_and_lists_by}
 use Rattle.prepared_runs.specs.Verdict.{command_stage, plan_stage, run_asked, verdict}
 use Rattle.prepared_runs.specs.declared.shapes.AnyPlan.{AnyPlan}
 use Rattle.prepared_runs.specs.declared.shapes.AnyPlan.TheVariants as shaped
@@ -87,7 +87,7 @@ as_order answer = mapped (λ plan. shaped.OrderPlan plan) answer
 pub plan_over : (found : List ℕ) → found ≡ 1 ∷ 3 ∷ 2 ∷ 6 ∷ [] → answer_of shapes.Order found (list_sizes pair reduced_lists) 1000000 ≡ Ok (shaped.OrderPlan plan)
 plan_over found are = ap (λ (bounds : List ℕ). answer_of shapes.Order bounds (3 ∷ 2 ∷ []) 1000000) are ∙ ap as_order chosen
 
-plan_found : planned_by shapes.Order (sourced sources.Reduced two_tables pair T) 1 1000000 ≡ Ok (shaped.OrderPlan plan)
+plan_found : planned_by shapes.Order (bounds_and_lists_by sources.Reduced two_tables pair T) 1 1000000 ≡ Ok (shaped.OrderPlan plan)
 unfolding planned_by sets_by scans_by
 plan_found =
     ap (λ (lists : List (List ℕ)). answer_of shapes.Order (bounds_in_sets (in_every_set (entry_bounds_over T lists 1)) (equalities_of pair) 2) (list_sizes pair lists) 1000000) kept
@@ -106,7 +106,7 @@ with_lists source is = ap (λ (lists : List (List ℕ)). record {
 }) is
 
 pub plan_made : (source : ListSource) → lists_by source pair T ≡ reduced_lists
-    → planned_by shapes.Order (sourced source two_tables pair T) 1 1000000 ≡ Ok (shaped.OrderPlan plan)
+    → planned_by shapes.Order (bounds_and_lists_by source two_tables pair T) 1 1000000 ≡ Ok (shaped.OrderPlan plan)
     → plan_stage (task source) two_tables pair small_rows ≡ Ok (Planned (two_tables_reduced source))
 unfolding plan_stage
 plan_made source lists found =
@@ -117,7 +117,7 @@ plan_made source lists found =
 -- ---- the verdict
 
 asked : command_stage reduced_words ≡ Ok (over_query None (codes "schema.sql") (codes "query.sql") (works.Plan (task sources.Reduced)))
-unfolding command_of reading_of over_files parts_from kind_of number_of
+unfolding command_of reading_of over_files parts_from kind_of_word number_of
 asked = refl
 
 pub reduced_verdict : verdict reduced_words small_files ≡ Ok (Planned (two_tables_reduced sources.Reduced))

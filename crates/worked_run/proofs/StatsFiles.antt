@@ -37,14 +37,14 @@ use Rattle.stats_file.specs.declared.types.TableStats.{TableStats}
 use Rattle.table_files.specs.EntryTables.{tables_in}
 use Rattle.table_files.specs.Examples.{numbers_table, two_tables}
 use Rattle.table_files.specs.TableFile.{read, rows_in}
-use Rattle.safebound_words.specs.Answer.{command_of, kind_of, parts_from, reading_of}
-use Rattle.safebound_words.specs.Commands.{over_query, terms_by, with_rows}
+use Rattle.safebound_words.specs.Answer.{command_of, kind_of_word, parts_from, reading_of}
+use Rattle.safebound_words.specs.Commands.{over_query, terms_by, append_command}
 use Rattle.safebound_words.specs.Numbers.{number_of}
 use Rattle.safebound_words.specs.Table.{over_files}
-use Rattle.safebound_words.specs.declared.command.Aim.TheVariants as aims
+use Rattle.safebound_words.specs.declared.command.SchemaTask.TheVariants as aims
 use Rattle.safebound_words.specs.declared.command.NewRows.{NewRows}
 use Rattle.safebound_words.specs.declared.command.OutText.TheVariants as out_texts
-use Rattle.safebound_words.specs.declared.command.Work.TheVariants as works
+use Rattle.safebound_words.specs.declared.command.QueryTask.TheVariants as works
 use Rattle.prepared_runs.specs.Appending.{append_run, grown_stage, rows_run, section_stage, stats_run}
 use Rattle.prepared_runs.specs.StatsFiles.{stats_stage, stats_file_of_tables}
 use Rattle.prepared_runs.specs.RunOutcome.{StatsMade}
@@ -66,15 +66,15 @@ new_rows = record { stats_file = codes "rs.stats"; table = codes "R"; rows_file 
 -- ---- the words are read
 
 stats_asked : command_stage stats_words ≡ Ok (over_query None (codes "schema.sql") (codes "query.sql") (works.WriteStats 1))
-unfolding command_of reading_of over_files parts_from kind_of number_of
+unfolding command_of reading_of over_files parts_from kind_of_word number_of
 stats_asked = refl
 
 from_file_asked : command_stage from_file_words ≡ Ok (over_query None (codes "schema.sql") (codes "query.sql") (works.PlanFromStats (codes "rs.stats") (terms_by 1000000 false None)))
-unfolding command_of reading_of over_files parts_from kind_of number_of
+unfolding command_of reading_of over_files parts_from kind_of_word number_of
 from_file_asked = refl
 
-append_asked : command_stage append_words ≡ Ok (with_rows (codes "schema.sql") new_rows)
-unfolding command_of reading_of over_files parts_from kind_of number_of
+append_asked : command_stage append_words ≡ Ok (append_command (codes "schema.sql") new_rows)
+unfolding command_of reading_of over_files parts_from kind_of_word number_of
 append_asked = refl
 
 -- ---- the statistics file of both tables
@@ -155,7 +155,7 @@ few : grown_stage two_tables small_stats 0 6 (rows_of (1 ∷ 4 ∷ [])) ≡ Ok s
 unfolding grown_stage
 few = refl
 
-append_made : command_run (with_rows (codes "schema.sql") new_rows) small_files ≡ Ok small_appended
+append_made : command_run (append_command (codes "schema.sql") new_rows) small_files ≡ Ok small_appended
 unfolding command_run append_run stats_run rows_run
 append_made =
     ap (λ (schema : Result Schema Refusal). schema >>= λ s. aim_run (aims.Append new_rows) s small_files) schema_found
@@ -165,7 +165,7 @@ append_made =
     ∙ few
 
 pub append_verdict : verdict append_words small_files ≡ Ok small_appended
-append_verdict = asked_run append_words (with_rows (codes "schema.sql") new_rows) append_asked ∙ append_made
+append_verdict = asked_run append_words (append_command (codes "schema.sql") new_rows) append_asked ∙ append_made
 
 pub append_printed : out_text small_appended ≡ Some grown_text
 unfolding file_lines table_lines pair_lines runs_of digits cuts list_of_node rest r_cuts grown_r_stats s_stats grown_text

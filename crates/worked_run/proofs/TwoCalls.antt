@@ -9,13 +9,13 @@ use Rattle.safebound_laws.specs.FilePlans.{PlanHolds}
 use Rattle.outcomes.specs.declared.status.Status.TheVariants as status
 use Rattle.schema_types.specs.Texts.{IsSchemaOf}
 use Rattle.table_files.specs.Examples.{two_tables}
-use Rattle.safebound_words.specs.Answer.{command_of, kind_of, parts_from, reading_of}
+use Rattle.safebound_words.specs.Answer.{command_of, kind_of_word, parts_from, reading_of}
 use Rattle.safebound_words.specs.CommandLines.{AskFor}
 use Rattle.safebound_words.specs.Commands.{over_query, terms_by}
 use Rattle.safebound_words.specs.Numbers.{number_of}
 use Rattle.safebound_words.specs.Table.{over_files}
 use Rattle.safebound_words.specs.declared.command.Command.{Command}
-use Rattle.safebound_words.specs.declared.command.Work.TheVariants as works
+use Rattle.safebound_words.specs.declared.command.QueryTask.TheVariants as works
 use Rattle.safebound_words.proofs.Readings.{computed_asked}
 use Rattle.safebound_top.proofs.Promises.{declares}
 use Rattle.safebound_top.specs.Call.{Call}
@@ -32,11 +32,11 @@ abbrev plan_command : Command
 plan_command = over_query None (codes "schema.sql") (codes "query.sql") (works.PlanFromStats (codes "rs.stats") (terms_by 1000000 false None))
 
 stats_asked : command_of stats_words ≡ Some stats_command
-unfolding command_of reading_of over_files parts_from kind_of number_of
+unfolding command_of reading_of over_files parts_from kind_of_word number_of
 stats_asked = refl
 
 plan_asked : command_of from_file_words ≡ Some plan_command
-unfolding command_of reading_of over_files parts_from kind_of number_of
+unfolding command_of reading_of over_files parts_from kind_of_word number_of
 plan_asked = refl
 
 asks : (words these : List (List ℕ)) (command : Command) → words ≡ these → command_of these ≡ Some command → AskFor words command

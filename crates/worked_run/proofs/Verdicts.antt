@@ -11,7 +11,7 @@ use Rattle.query_bounds.specs.Examples.{pair}
 use Rattle.query_types.specs.declared.types.Query.{Query}
 use Rattle.schema_types.specs.declared.types.Schema.{Schema}
 use Rattle.planning.specs.Examples.{r_column, s_column}
-use Rattle.safebound_words.specs.Answer.{command_of, kind_of, parts_from, reading_of}
+use Rattle.safebound_words.specs.Answer.{command_of, kind_of_word, parts_from, reading_of}
 use Rattle.safebound_words.specs.Numbers.{number_of}
 use Rattle.safebound_words.specs.Table.{over_files}
 use Rattle.table_files.specs.Examples.{numbers_table, two_tables}
@@ -21,8 +21,8 @@ use Rattle.table_files.specs.TableFile.{file_rows}
 use Rattle.prepared_runs.specs.AcceptedQuery.{AcceptedQuery}
 use Rattle.safebound_words.specs.Commands.{over_query}
 use Rattle.safebound_words.specs.declared.command.Command.{Command}
-use Rattle.safebound_words.specs.declared.command.Aim.TheVariants as aims
-use Rattle.safebound_words.specs.declared.command.Work.TheVariants as works
+use Rattle.safebound_words.specs.declared.command.SchemaTask.TheVariants as aims
+use Rattle.safebound_words.specs.declared.command.QueryTask.TheVariants as works
 use Rattle.prepared_runs.specs.Limits.{within_limit}
 use Rattle.prepared_runs.specs.RunOutcome.{Planned}
 use Rattle.prepared_runs.specs.Shapes.{shape_bytes}
@@ -42,7 +42,7 @@ use Rattle.worked_run.proofs.Queries.{query_read}
 use Rattle.worked_run.proofs.Rows.{r_read, s_read}
 use Rattle.worked_run.proofs.Schemas.{schema_read}
 
--- the work of a plan with this text for `out`, as an order or a tree, within a budget, and with a limit of memory if there is one
+-- the work of a plan as an order or a tree, with this text for `out`, a budget, and a limit of memory if there is one
 abbrev task : OutText → Shape → ℕ → Option ℕ → PlanWork
 task out shape budget memory = record { terms = record { budget = budget; shape = shape; memory = memory }; accuracy = 1; source = sources.Columns; out = out }
 
@@ -52,27 +52,27 @@ ask out shape budget memory = over_query None (codes "schema.sql") (codes "query
 -- ---- the words are read
 
 run_is_asked : command_stage run_words ≡ Ok (ask out_text.Rows shapes.Order 1000000 None)
-unfolding command_of reading_of over_files parts_from kind_of number_of
+unfolding command_of reading_of over_files parts_from kind_of_word number_of
 run_is_asked = refl
 
 audit_asked : command_stage audit_words ≡ Ok (ask out_text.Audit shapes.Order 1000000 None)
-unfolding command_of reading_of over_files parts_from kind_of number_of
+unfolding command_of reading_of over_files parts_from kind_of_word number_of
 audit_asked = refl
 
 tree_asked : command_stage tree_words ≡ Ok (ask out_text.Audit shapes.Tree 1000000 None)
-unfolding command_of reading_of over_files parts_from kind_of number_of
+unfolding command_of reading_of over_files parts_from kind_of_word number_of
 tree_asked = refl
 
 thrifty_asked : command_stage small_budget_words ≡ Ok (ask out_text.Rows shapes.Order 11 None)
-unfolding command_of reading_of over_files parts_from kind_of number_of
+unfolding command_of reading_of over_files parts_from kind_of_word number_of
 thrifty_asked = refl
 
-limited_asked : command_stage limited_words ≡ Ok (ask out_text.Rows shapes.Order 1000000 (Some 556))
-unfolding command_of reading_of over_files parts_from kind_of number_of
+limited_asked : command_stage limited_words ≡ Ok (ask out_text.Rows shapes.Order 1000000 (Some 531))
+unfolding command_of reading_of over_files parts_from kind_of_word number_of
 limited_asked = refl
 
-narrow_asked : command_stage small_memory_words ≡ Ok (ask out_text.Rows shapes.Order 1000000 (Some 555))
-unfolding command_of reading_of over_files parts_from kind_of number_of
+narrow_asked : command_stage small_memory_words ≡ Ok (ask out_text.Rows shapes.Order 1000000 (Some 530))
+unfolding command_of reading_of over_files parts_from kind_of_word number_of
 narrow_asked = refl
 
 -- ---- the files are read
@@ -129,10 +129,10 @@ made out shape memory plan is =
 
 -- the plan as an order, tested against the limit of memory if there is one
 plan_within : (out : OutText) (memory : Option ℕ)
-    → plan_stage (task out shapes.Order 1000000 memory) two_tables pair small_rows ≡ within_limit memory 556 (Planned (two_tables_run out memory))
+    → plan_stage (task out shapes.Order 1000000 memory) two_tables pair small_rows ≡ within_limit memory 531 (Planned (two_tables_run out memory))
 plan_within out memory =
     let plan : AnyPlan = (two_tables_run out memory).plan in
-    made out shapes.Order memory plan plan_found ∙ ap (λ (run : AcceptedQuery). within_limit memory 556 (Planned run)) (found out shapes.Order memory plan)
+    made out shapes.Order memory plan plan_found ∙ ap (λ (run : AcceptedQuery). within_limit memory 531 (Planned run)) (found out shapes.Order memory plan)
 
 plan_made : (out : OutText) → plan_stage (task out shapes.Order 1000000 None) two_tables pair small_rows ≡ Ok (Planned (two_tables_run out None))
 plan_made out = plan_within out None
@@ -181,8 +181,8 @@ tree_verdict = of_words tree_words (task out_text.Audit shapes.Tree 1000000 None
 pub thrifty_verdict : verdict small_budget_words small_files ≡ Err (refusal.Budget 12)
 thrifty_verdict = of_words small_budget_words (task out_text.Rows shapes.Order 11 None) thrifty_asked ∙ plan_too_dear
 
-pub limited_verdict : verdict limited_words small_files ≡ Ok (Planned (two_tables_run out_text.Rows (Some 556)))
-limited_verdict = of_words limited_words (task out_text.Rows shapes.Order 1000000 (Some 556)) limited_asked ∙ plan_within out_text.Rows (Some 556)
+pub limited_verdict : verdict limited_words small_files ≡ Ok (Planned (two_tables_run out_text.Rows (Some 531)))
+limited_verdict = of_words limited_words (task out_text.Rows shapes.Order 1000000 (Some 531)) limited_asked ∙ plan_within out_text.Rows (Some 531)
 
-pub narrow_verdict : verdict small_memory_words small_files ≡ Err (refusal.MemoryLimit 556)
-narrow_verdict = of_words small_memory_words (task out_text.Rows shapes.Order 1000000 (Some 555)) narrow_asked ∙ plan_within out_text.Rows (Some 555)
+pub narrow_verdict : verdict small_memory_words small_files ≡ Err (refusal.MemoryLimit 531)
+narrow_verdict = of_words small_memory_words (task out_text.Rows shapes.Order 1000000 (Some 530)) narrow_asked ∙ plan_within out_text.Rows (Some 530)

@@ -13,14 +13,14 @@ pub record IsFaultless (call : Call) : Type 0 where
   pub out : FaultsRose call.out → ⊥
   pub notes : FaultsRose call.notes → ⊥
 
--- the call has status `s`, its notes grew by exactly `note_text`, and its `out` by exactly `out_text`; a stream without a text took nothing
+-- The call has status `s`. Its notes grew by exactly `note_text`, and its `out` by exactly `out_text`; a stream without a text took nothing
 pub record Ended (call : Call) (s : Status) (note_text out_text : Option (List ℕ)) : Type 0 where
   pub status : call.status ≡ s
   pub notes : GrewWhole call.notes note_text
   pub out : GrewWhole call.out out_text
 
--- Each call with these words ends in this way, or memory was lacking. The call is over a store that tells these files, the headline theorem holds of
--- the call, and none of its devices failed
+-- Take any call with these words, over a store that tells these files. Suppose that the headline theorem holds for it, and no device failed. Then it
+-- ends with this status and these texts, or memory ran out
 abbrev pub EachCallEnds : Files → List (List ℕ) → Status → Option (List ℕ) → Option (List ℕ) → Type 0
 EachCallEnds files words s note_text out_text = (call : Call) → Headline call → call.words ≡ words → call.store.files ≡ Some files
     → IsFaultless call → Ended call s note_text out_text ⊎ (call.status ≡ status.NoMemory)

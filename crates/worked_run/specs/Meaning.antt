@@ -32,7 +32,7 @@ small_rows = rows_of r_column ∷ rows_of s_column ∷ []
 abbrev pub small_lists : List (List ℕ)
 small_lists = (0 ∷ 1 ∷ 2 ∷ 3 ∷ 4 ∷ 5 ∷ []) ∷ (0 ∷ 1 ∷ 2 ∷ 3 ∷ 4 ∷ []) ∷ []
 
--- the accepted query with a plan in the order S, R; the scans have bounds 6 and 5, the levels 5 and 12. `memory` is the limit of memory, if there is
+-- The accepted query with a plan in the order S, R. The scans have bounds 6 and 5, the levels 5 and 12. `memory` is the limit of memory, if there is
 -- one
 abbrev pub two_tables_run : OutText → Option ℕ → AcceptedQuery
 two_tables_run out memory = record {
@@ -61,7 +61,7 @@ two_tables_tree out memory = record {
 abbrev pub reduced_lists : List (List ℕ)
 reduced_lists = (0 ∷ 1 ∷ 2 ∷ []) ∷ (0 ∷ 1 ∷ []) ∷ []
 
--- the accepted query over the rows that remain after semi-joins, in the order S, R; the scans have bounds 3 and 2, the levels 2 and 6. Degree lists
+-- The accepted query over the rows that remain after semi-joins, in the order S, R. The scans have bounds 3 and 2, the levels 2 and 6. Degree lists
 -- and counting give the same bounds
 abbrev pub two_tables_reduced : ListSource → AcceptedQuery
 two_tables_reduced source = record {

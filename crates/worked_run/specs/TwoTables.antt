@@ -26,8 +26,8 @@ new_text = codes "X\r\n1\r\n4\r\n"
 abbrev pub times : ℕ → List ℕ → List ℕ
 times count line = concat (replicate count line)
 
--- the sections of R and S in the file. Each ends with 32 cuts, and after them the nodes with 1 leaf, those with 2 leaves, and so on up to the node
--- with 32
+-- The sections of R and S in the file. Each ends with 32 cuts and then the nodes. The nodes with 1 leaf come first, then those with 2 leaves, and so
+-- on up to the node with 32
 unfoldable pub r_cuts : List ℕ
 r_cuts = times 16 (codes "cut 1\n") ++ times 11 (codes "cut 2\n") ++ times 5 (codes "cut 3\n")
 
@@ -51,7 +51,7 @@ s_stats = codes "table x53 5\npair x58 x58\nwhole 2*2 1*1\nfrequent 1 2*1\nfrequ
 unfoldable pub stats_text : List ℕ
 stats_text = codes "safebound-stats 1 1\n" ++ r_stats ++ s_stats ++ codes "end\n"
 
--- The section of R after two rows are added. Value 1 is frequent, so its list grows. Value 4 isn't frequent, so it is counted in the rest list; it is
+-- The section of R after two rows are added. Value 1 is frequent, so its list grows. Value 4 isn't frequent, so it is counted in the rest list. It is
 -- above the last cut, so it is counted in the last leaf
 unfoldable pub grown_r_stats : List ℕ
 grown_r_stats = codes "table x52 8\npair x58 x58\nwhole 4*2\nfrequent 1 4*1\nfrequent 2 2*1\nfrequent 3 1*1\nrest 1*1\n" ++ r_cuts
@@ -85,12 +85,12 @@ tree_words = codes "audit" ∷ codes "schema.sql" ∷ codes "query.sql" ∷ code
 
 -- `run` with a limit of memory that is just enough, and with one that is a byte too small
 abbrev pub limited_words : List (List ℕ)
-limited_words = codes "run" ∷ codes "schema.sql" ∷ codes "query.sql" ∷ codes "--memory" ∷ codes "556" ∷ []
+limited_words = codes "run" ∷ codes "schema.sql" ∷ codes "query.sql" ∷ codes "--memory" ∷ codes "531" ∷ []
 
 abbrev pub small_memory_words : List (List ℕ)
-small_memory_words = codes "run" ∷ codes "schema.sql" ∷ codes "query.sql" ∷ codes "--memory" ∷ codes "555" ∷ []
+small_memory_words = codes "run" ∷ codes "schema.sql" ∷ codes "query.sql" ∷ codes "--memory" ∷ codes "530" ∷ []
 
--- `run` with a budget that is one too small
+-- `run` with a budget that is one row too small
 abbrev pub small_budget_words : List (List ℕ)
 small_budget_words = codes "run" ∷ codes "schema.sql" ∷ codes "query.sql" ∷ codes "--budget" ∷ codes "11" ∷ []
 

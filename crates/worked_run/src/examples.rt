@@ -30,7 +30,7 @@ pub fn audited()
 {}
 
 /// `audit schema.sql query.sql --bushy`: the only inner node joins R and S. It has 6 rows, half of its bound.
-pub fn joined_by_a_tree()
+pub fn audited_as_a_tree()
     ensures verdict { verdict tree_words small_files ≡ Ok (Planned (two_tables_tree out_text.Audit None)) }
     ensures out { out_text_of (two_tables_tree out_text.Audit None) ≡ Some (codes "node 2 0 1 12 6\n") }
     ensures call { EachCallEnds small_files tree_words status.Done (Some (codes "scan R 6\nscan S 5\nnode 2 0 1 12\n")) (Some (codes "node 2 0 1 12 6\n")) }
@@ -42,18 +42,18 @@ pub fn refused()
     ensures call { EachCallEnds small_files small_budget_words (status.Refused (refusal.Budget 12)) (Some (codes "error budget 12\n")) None }
 {}
 
-/// `run schema.sql query.sql --memory 556`: the plan's buffers take exactly 556 bytes, and the last line of the plan's text says so.
+/// `run schema.sql query.sql --memory 531`: the plan's buffers take exactly 531 bytes, and the last line of the plan's text says so.
 pub fn joined_within_a_limit()
-    ensures verdict { verdict limited_words small_files ≡ Ok (Planned (two_tables_run out_text.Rows (Some 556))) }
-    ensures notes { plan_text (two_tables_run out_text.Rows (Some 556)) ≡ codes "scan R 6\nscan S 5\nlevel 1 S 5\nlevel 2 R 12\nmemory 556\n" }
-    ensures call { EachCallEnds small_files limited_words status.Done (Some (codes "scan R 6\nscan S 5\nlevel 1 S 5\nlevel 2 R 12\nmemory 556\n"))
+    ensures verdict { verdict limited_words small_files ≡ Ok (Planned (two_tables_run out_text.Rows (Some 531))) }
+    ensures notes { plan_text (two_tables_run out_text.Rows (Some 531)) ≡ codes "scan R 6\nscan S 5\nlevel 1 S 5\nlevel 2 R 12\nmemory 531\n" }
+    ensures call { EachCallEnds small_files limited_words status.Done (Some (codes "scan R 6\nscan S 5\nlevel 1 S 5\nlevel 2 R 12\nmemory 531\n"))
         (Some (codes "X\r\n1\r\n1\r\n1\r\n1\r\n1\r\n1\r\n")) }
 {}
 
-/// `run schema.sql query.sql --memory 555`: the query is refused, since the plan's buffers take one byte more.
+/// `run schema.sql query.sql --memory 530`: the query is refused, since the plan's buffers take one byte more.
 pub fn above_its_limit()
-    ensures verdict { verdict small_memory_words small_files ≡ Err (refusal.MemoryLimit 556) }
-    ensures call { EachCallEnds small_files small_memory_words (status.Refused (refusal.MemoryLimit 556)) (Some (codes "error memory-limit 556\n")) None }
+    ensures verdict { verdict small_memory_words small_files ≡ Err (refusal.MemoryLimit 531) }
+    ensures call { EachCallEnds small_files small_memory_words (status.Refused (refusal.MemoryLimit 531)) (Some (codes "error memory-limit 531\n")) None }
 {}
 
 /// `run schema.sql query.sql --reduce`: three rows of R and two of S have a partner. Both orders cost 6, and S, R has the smaller sum of bounds. Both

@@ -1,9 +1,9 @@
-//! Twelve calls over small tables, as theorems that are proved by computation: they lead from the words and the bytes of the files to the bytes of
-//! both streams. `examples` has the calls of `run` and `audit`. Some plan an order or a join tree, over reduced scans or by
-//! counting over these. Others have a budget that is one too small, or a limit of memory that is just enough or a byte too small. `statistics` has
+//! Twelve calls over small tables, as theorems that are proved by computation. They lead from the words and the bytes of the files to the bytes of
+//! both streams. `examples` has the calls of `run` and `audit`. Some plan an order or a join tree. Some use reduced scans, or count over them.
+//! One has a budget that is one row too small. Two have a limit of memory: just enough, and a byte too small. `statistics` has
 //! `stats`, `plan --stats` and `append`, and `keys` has `plan --keys`.
 //!
-//! The files of all these calls but `plan --keys` are
+//! All these calls, except `plan --keys`, have the files
 //!
 //! ```text
 //! schema.sql   CREATE TABLE R (X INTEGER NOT NULL); CREATE TABLE S (X INTEGER NOT NULL);
@@ -33,7 +33,7 @@ mod keys;
 mod statistics;
 
 pub use examples::{
-    above_its_limit, audited, joined, joined_by_a_tree, joined_over_reduced_scans,
+    above_its_limit, audited, audited_as_a_tree, joined, joined_over_reduced_scans,
     joined_within_a_limit, refused,
 };
 pub use keys::planned_by_keys;

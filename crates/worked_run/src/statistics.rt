@@ -23,7 +23,7 @@ pub fn statistics_written()
     ensures call { EachCallEnds small_files stats_words status.Done None (Some stats_text) }
 {}
 
-/// `plan schema.sql query.sql --stats rs.stats`: if the file has the bytes that `stats` writes, the plan is the one over the tables.
+/// `plan schema.sql query.sql --stats rs.stats`: if the file has the bytes that `stats` writes, the plan is the plan over the tables.
 pub fn planned_from_a_file()
     ensures printed { mapped printed (verdict from_file_words small_files)
         ≡ Ok (Some (codes "scan R 6\nscan S 5\nlevel 1 S 5\nlevel 2 R 12\n"), None) }
@@ -38,8 +38,8 @@ pub fn appended()
 {}
 
 /// The bytes alone connect two calls. Suppose that a call of `stats` over the small tables ends in Done, and its `out` took the bytes of the
-/// statistics file. Suppose that a call of `plan --stats` ends in Done, over any files in which the schema is the same and the statistics file
-/// has these bytes. Then the plan of whatever query this call reads holds over the small tables.
+/// statistics file. Suppose that a call of `plan --stats`, over any files, ends in Done. Suppose that these files have the same schema, and the
+/// statistics file among them has these bytes. Whatever query this call reads, its plan holds over the small tables.
 pub fn plans_from_these_bytes_hold()
     ensures { (made planned : Call) (files : Files) → Headline made → made.words ≡ stats_words → made.status ≡ status.Done
         → made.store.files ≡ Some small_files → Took made.out stats_text

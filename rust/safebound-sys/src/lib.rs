@@ -16,10 +16,15 @@ mod command;
 #[cfg(feature = "command")]
 pub use command::*;
 
-/// The most entries of a query.
-pub const SAFEBOUND_MOST_ENTRIES: usize = 12;
+// Limits. tools/limits takes their numbers from the crate limits.
+/// The most entries of a query, for bounds and plans.
+pub const SAFEBOUND_MOST_ENTRIES: usize = 16;
+/// The most entries of a plan of which SafeBound's own engine tells the bytes.
+pub const SAFEBOUND_ENGINE_ENTRIES: usize = 12;
 /// The most equalities of a query.
 pub const SAFEBOUND_MOST_EQUALITIES: usize = 256;
+/// In how many turns a set is looked at, at most.
+pub const SAFEBOUND_MOST_TURNS: usize = 16;
 /// The greatest accuracy.
 pub const SAFEBOUND_MOST_ACCURACY: u64 = 64;
 /// The most rows of an entry, keys of a column, and rows of a list.

@@ -261,7 +261,12 @@ impl fmt::Display for Error {
             Error::BadRun { place, column: Some(column), why } => why.write(f, &format!("{column}: "), *place),
             Error::BadOtherRun { place, why } => why.write(f, "second list: ", *place),
             Error::BadSum { sum } => write!(f, "what both lists make has {sum} rows, more than 2^48"),
-            Error::BadEntries { count } => write!(f, "a query has 1 to 12 entries, not {count}"),
+            Error::BadEntries { count } => write!(
+                f,
+                "a query has 1 to {} entries, or 1 to {} for the bytes of its plan, not {count}",
+                sys::SAFEBOUND_MOST_ENTRIES,
+                sys::SAFEBOUND_ENGINE_ENTRIES
+            ),
             Error::RepeatedEntry { entry } => write!(f, "entry {entry} comes twice"),
             Error::UnknownEntry { entry } => write!(f, "there is no entry {entry}"),
             Error::BadRows { entry, rows } => {

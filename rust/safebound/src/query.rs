@@ -11,7 +11,7 @@ use std::collections::HashMap;
 /// The number for an entry that isn't there. The library refuses it, after what its checks find before.
 const NO_ENTRY: u32 = u32::MAX;
 
-/// A query of up to twelve entries, by what is known of their rows: the entries with their row bounds, the equalities, and a
+/// A query of up to sixteen entries, by what is known of their rows: the entries with their row bounds, the equalities, and a
 /// list for each column that an equality names.
 ///
 /// Other conditions aren't given. A condition on one entry shows in its row bound and its lists, and a condition that is left

@@ -22,8 +22,8 @@ fn memory(of: &Bounds, plans: &Bounds) -> Result<(Result<u64, Error>, Result<u64
 #[test]
 fn of_other_bounds() -> Result<(), Error> {
     let own = joined([("r", 6), ("s", 5)], 3).bounds()?;
-    assert_eq!(memory(&own, &own)?, (Ok(556), Ok(507)));
-    assert_eq!(memory(&own, &joined([("r", 6), ("s", 5)], 3).bounds()?)?, (Ok(556), Ok(507)));
+    assert_eq!(memory(&own, &own)?, (Ok(531), Ok(507)));
+    assert_eq!(memory(&own, &joined([("r", 6), ("s", 5)], 3).bounds()?)?, (Ok(531), Ok(507)));
     let others = [
         joined([("r", 60), ("s", 5)], 3),
         joined([("s", 5), ("r", 6)], 3),

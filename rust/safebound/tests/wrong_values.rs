@@ -88,7 +88,7 @@ fn runs_of_lists() {
 
 #[test]
 fn entries() {
-    for count in [0, 13, 64, 300] {
+    for count in [0, 17, 64, 300] {
         let mut query = Query::new();
         for entry in 0..count {
             query = query.entry(format!("e{entry}"), 1);

@@ -1,48 +1,53 @@
-use Rattle.std.proofs.Common.{◌≡◌, ℕ, ◌≤◌, [], ◌∷◌, List, ap, sym, ◌∙◌, subst, arith}
-use Rattle.std.specs.Prelude.{All}
+use Rattle.std.proofs.Common.{◌≡◌, ℕ, List, ◌++◌, length, take, drop, ap, sym, ◌∙◌, subst, arith}
 use Rattle.std.specs.List.{AllZip}
 use Rattle.std.proofs.lemmas.List.{take_at}
-use Rattle.reserve_plan.specs.Rooms.{rooms, HasRooms, IsRoomFor}
+use Rattle.row_buf.specs.Rows.{Rows}
+use Rattle.reserve_plan.specs.Rooms.{IsRoomFor}
 use Rattle.sql_meaning.specs.Tables.{tables_of}
 use Rattle.join_steps.specs.Lists.{list_sizes, lists_of, scans_of, AreOfScans}
 use Rattle.join_steps.proofs.WholeScans.{whole_of_scans}
-use Rattle.hash_join.specs.Levels.{list_level_sizes}
-use Rattle.bench_joins.proofs.TwoTables.{two_fit, two_lists, two_order, two_rooms, two_small}
+use Rattle.tree_plans.specs.declared.bushy.BushyPlan.{BushyPlan}
+use Rattle.tree_rows.specs.Trees.{entries_at, node_count}
+use Rattle.bushy_join.specs.Trees.{IsTreePlanOf}
+use Rattle.bushy_join.proofs.Scans.{leaf_rooms}
+use Rattle.bench_joins.proofs.TwoTables.{two_fit, two_planned}
 use Rattle.bench_joins.proofs.execution.Goals as goal
 
 pub scan_all-requires-clause-database : goal.scan_all-requires-clause-database
-scan_all-requires-clause-database g c = two_fit c.args.sizes.left c.args.sizes.right c.args.sizes.times c.args.values c.args.query.now c.args.db.now c.requires.query c.requires.db c.requires.some c.requires.right c.requires.left
+scan_all-requires-clause-database g c = two_fit c.args.plan.now c.args.query.now c.args.db.now c.requires.join
 
 pub scan_all-requires-clause-room : goal.scan_all-requires-clause-room
 scan_all-requires-clause-room g c =
-    subst (AllZip IsRoomFor (list_sizes c.args.query.now (scans_of c.args.query.now (tables_of c.args.db.now)))) (sym c.as_mut_slice.ensures.value)
-    (two_lists c.args.sizes.left c.args.sizes.right c.args.sizes.times c.args.values c.args.query.now c.args.db.now c.requires.query c.requires.db c.requires.some c.requires.right c.requires.left c.args.lists.items c.requires.lists)
-
-pub execute-executed-requires-clause-database : goal.execute-executed-requires-clause-database
-execute-executed-requires-clause-database g c = two_fit c.args.sizes.left c.args.sizes.right c.args.sizes.times c.args.values c.args.query.now c.args.db.now c.requires.query c.requires.db c.requires.some c.requires.right c.requires.left
-
-pub execute-executed-requires-clause-lists : goal.execute-executed-requires-clause-lists
-execute-executed-requires-clause-lists g c =
     let query = c.args.query.now in
     let tables = tables_of c.args.db.now in
-    let same : c.as_slice.result.now ≡ c.scan_all.new.lists = c.as_slice.ensures.value ∙ take_at c.scan_all.new.lists _ c.args.lists.len (omega (arith, c.scan_all.auto.lists, c.as_mut_slice.ensures.len)) in
-    subst (AreOfScans query tables) (sym (ap lists_of same ∙ c.scan_all.ensures.rows)) (whole_of_scans query tables)
+    subst (AllZip IsRoomFor (list_sizes query (scans_of query tables))) (sym c.as_mut_slice.ensures.value)
+    (leaf_rooms query tables c.args.plan.now (two_planned c.args.plan.now query c.args.db.now c.requires.join) c.args.lists.items c.requires.lists)
 
-pub execute-executed-requires-clause-order : goal.execute-executed-requires-clause-order
-execute-executed-requires-clause-order g c = two_order c.args.sizes.left c.args.sizes.right c.args.sizes.times c.args.values c.args.query.now c.args.db.now c.requires.query c.requires.db c.requires.some c.requires.right c.requires.left
+pub execute_bushy-done-requires-clause-database : goal.execute_bushy-done-requires-clause-database
+execute_bushy-done-requires-clause-database g c = two_fit c.args.plan.now c.args.query.now c.args.db.now c.requires.join
 
-pub execute-executed-requires-clause-small : goal.execute-executed-requires-clause-small
-execute-executed-requires-clause-small g c =
+pub execute_bushy-done-requires-clause-lists : goal.execute_bushy-done-requires-clause-lists
+execute_bushy-done-requires-clause-lists g c =
     let query = c.args.query.now in
     let tables = tables_of c.args.db.now in
-    let same : c.as_slice.result.now ≡ c.scan_all.new.lists = c.as_slice.ensures.value ∙ take_at c.scan_all.new.lists _ c.args.lists.len (omega (arith, c.scan_all.auto.lists, c.as_mut_slice.ensures.len)) in
-    subst (λ (lists : List (List ℕ)). All (λ rows. rows ≤ 20000000) (list_level_sizes query tables lists (0 ∷ 1 ∷ []))) (sym (ap lists_of same ∙ c.scan_all.ensures.rows))
-    (two_small c.args.sizes.left c.args.sizes.right c.args.sizes.times c.args.values c.args.query.now c.args.db.now c.requires.query c.requires.db c.requires.some c.requires.right c.requires.left c.requires.joined)
+    let scanned : List (Rows ℕ) = take c.args.lists.len (c.scan_all.new.lists ++ drop (length c.scan_all.new.lists) c.args.lists.items) in
+    let same : lists_of scanned ≡ scans_of query tables =
+    ap lists_of (take_at c.scan_all.new.lists _ c.args.lists.len (omega (arith, c.scan_all.auto.lists, c.as_mut_slice.ensures.len))) ∙ c.scan_all.ensures.rows in
+    subst (AreOfScans query tables) (sym same) (whole_of_scans query tables)
 
-pub execute-executed-requires-clause-rooms : goal.execute-executed-requires-clause-rooms
-execute-executed-requires-clause-rooms g c =
+pub execute_bushy-done-requires-clause-plan : goal.execute_bushy-done-requires-clause-plan
+execute_bushy-done-requires-clause-plan g c =
     let query = c.args.query.now in
     let tables = tables_of c.args.db.now in
-    let same : c.as_slice.result.now ≡ c.scan_all.new.lists = c.as_slice.ensures.value ∙ take_at c.scan_all.new.lists _ c.args.lists.len (omega (arith, c.scan_all.auto.lists, c.as_mut_slice.ensures.len)) in
-    subst (λ (lists : List (List ℕ)). HasRooms (rooms (0 ∷ 1 ∷ []) (list_sizes query lists) (list_level_sizes query tables lists (0 ∷ 1 ∷ []))) c.args.reserved) (sym (ap lists_of same ∙ c.scan_all.ensures.rows))
-    (two_rooms c.args.sizes.left c.args.sizes.right c.args.sizes.times c.args.values c.args.query.now c.args.db.now c.requires.query c.requires.db c.requires.some c.requires.right c.requires.left c.args.reserved c.requires.rooms)
+    let scanned : List (Rows ℕ) = take c.args.lists.len (c.scan_all.new.lists ++ drop (length c.scan_all.new.lists) c.args.lists.items) in
+    let same : lists_of scanned ≡ scans_of query tables =
+    ap lists_of (take_at c.scan_all.new.lists _ c.args.lists.len (omega (arith, c.scan_all.auto.lists, c.as_mut_slice.ensures.len))) ∙ c.scan_all.ensures.rows in
+    subst (λ (lists : List (List ℕ)). IsTreePlanOf query tables lists c.args.plan.now) (sym same) (two_planned c.args.plan.now query c.args.db.now c.requires.join)
+
+pub summed-rows-requires-clause-nodes : goal.summed-rows-requires-clause-nodes
+summed-rows-requires-clause-nodes g c = c.execute_bushy-done.ensures.count ∙ ap node_count c.requires.join.is_plan
+
+pub summed-rows-requires-clause-entries : goal.summed-rows-requires-clause-entries
+summed-rows-requires-clause-entries g c =
+    let many : node_count c.args.plan.now ≡ 3 = ap node_count c.requires.join.is_plan in
+    c.execute_bushy-done.ensures.entries 2 (omega (arith, many)) ∙ ap (λ (plan : BushyPlan). entries_at plan 2) c.requires.join.is_plan

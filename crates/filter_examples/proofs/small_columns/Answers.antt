@@ -20,9 +20,9 @@ pub returns-clause-absent_among_three : goal.returns-clause-absent_among_three
 unfolding cuts rest list_of_value list_of_node
 returns-clause-absent_among_three c = worked.one (lists_of (1 ∷ 2 ∷ 3 ∷ [])) op.Eq column_x (number 99) refl
 
-pub returns-clause-crossed : goal.returns-clause-crossed
+pub returns-clause-ends_swapped : goal.returns-clause-ends_swapped
 unfolding cuts rest list_of_value list_of_node
-returns-clause-crossed c = worked.crossed (lists_of (range_with_len 1 32))
+returns-clause-ends_swapped c = worked.ends_swapped (lists_of (range_with_len 1 32))
 
 pub returns-clause-thrice : goal.returns-clause-thrice
 unfolding cuts rest list_of_value list_of_node

@@ -53,11 +53,11 @@ replace-requires c =
 pub loop-i-preserved : goal.loop-i-preserved
 loop-i-preserved c =
     one_changed (with_new_rows (value_of_cell c.args.pool.now c.args.kind) c.args.accuracy (zip c.args.cells.now c.args.joined.now)) c.args.frequent c.loop-i.grown
-    c.replace-value.new.self c.replace-in-loop-i-2.new.self c.loop-i.i c.replace-value.result _ _ (omega (arith, c.loop-i-test.true, c.len-i-end.ensures)) c.loop-i.invariant
+    c.replace-value.new.self c.replace.new.self c.loop-i.i c.replace-value.result _ _ (omega (arith, c.loop-i-test.true, c.len-i-end.ensures)) c.loop-i.invariant
     c.replace-value.ensures.old c.replace-value.ensures.new
     (grown_made (value_of_cell c.args.pool.now c.args.kind) c.args.accuracy (zip c.args.cells.now c.args.joined.now) c.loop-i.grown c.loop-i.i c.replace-value.result c.get.result.now
     c.get-in-loop-i.result.now c.in_ok-more.more c.in_ok-list.list c.replace-value.ensures.old c.get.ensures c.get-in-loop-i.ensures c.in_ok-more.ensures.list c.in_ok-list.ensures)
-    c.replace-in-loop-i-2.ensures.new
+    c.replace.ensures.new
 
 pub returns : goal.returns
 returns c =

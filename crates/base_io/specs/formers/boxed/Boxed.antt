@@ -29,7 +29,7 @@ the_former g = g
 abbrev pub the_weighed : {g : Former {0}} → Weighed g → Weighed (the_former g)
 the_weighed w = w
 
--- the fields: where the value lies, and the value
+-- the fields: a pointer with its allocator, and the value
 abbrev place : Type 0
 place = Ptr × Global
 

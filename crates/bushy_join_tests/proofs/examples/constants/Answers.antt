@@ -1,6 +1,6 @@
 use Rattle.std.proofs.Common.{ℕ, [], ◌∷◌, List, map, ap}
-use Rattle.hash_join.specs.Examples.{one_is_two, three_rows_two_entries}
-use Rattle.hash_join.proofs.Worked.{level_is, scan_is}
+use Rattle.bushy_join_tests.specs.SmallQueries.{one_is_two, three_rows_two_entries}
+use Rattle.bushy_join_tests.proofs.Worked.{level_is, scan_is}
 use Rattle.bushy_join_tests.specs.Examples.{three}
 use Rattle.bushy_join_tests.proofs.TreePlansOf.{alone_planned, twice_planned}
 use Rattle.bushy_join_tests.proofs.examples.constants.Goals as goal

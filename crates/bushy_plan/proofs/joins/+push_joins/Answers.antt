@@ -4,10 +4,10 @@ use Rattle.bushy_plan.proofs.Found.{few_numbers, read_leaf, read_node, room_behi
 use Rattle.bushy_plan.proofs.ReadingOff.{Light, first_of_sides, light_sides}
 use Rattle.bushy_plan.proofs.joins.+push_joins.Goals as goal
 
-pub returns-then-behind-eq0 : goal.returns-then-behind-eq0
-returns-then-behind-eq0 t c =
+pub returns-then-all_but_first-eq0 : goal.returns-then-all_but_first-eq0
+returns-then-all_but_first-eq0 t c =
     read_leaf (weight.SumOfBoundsUpTo c.args.most) c.args.bounds.now c.args.count c.args.set c.first_entry.result c.args.joins.now.items c.first_entry.ensures
-    c.without_first-behind.result c.without_first-behind.ensures c.if-behind-eq0.true
+    c.without_first-all_but_first.result c.without_first-all_but_first.ensures c.if-all_but_first-eq0.true
 
 pub push_joins-requires : goal.push_joins-requires
 push_joins-requires t c =

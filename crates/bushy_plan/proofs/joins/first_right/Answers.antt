@@ -4,20 +4,20 @@ use Rattle.bushy_plan.proofs.Parts.{next_less}
 use Rattle.bushy_plan.proofs.joins.first_right.Goals as goal
 
 pub splits-init : goal.splits-init
-splits-init c = looked_none c.args.weight c.args.bounds.now c.args.table.now c.args.set c.args.behind c.requires.more
+splits-init c = looked_none c.args.weight c.args.bounds.now c.args.table.now c.args.set c.args.all_but_first c.requires.more
 
 pub weight_through-requires-clause-part : goal.weight_through-requires-clause-part
-weight_through-requires-clause-part c = looked_within c.args.weight c.args.bounds.now c.args.table.now c.args.set c.args.behind c.splits.right c.requires.behind c.splits.invariant
+weight_through-requires-clause-part c = looked_within c.args.weight c.args.bounds.now c.args.table.now c.args.set c.args.all_but_first c.splits.right c.requires.all_but_first c.splits.invariant
 
 pub splits-preserved : goal.splits-preserved
 splits-preserved c =
-    looked_more c.args.weight c.args.bounds.now c.args.table.now c.args.set (length c.args.bounds.now) c.args.behind c.splits.right
-    c.requires.behind c.requires.more c.requires.set c.requires.table c.splits.invariant (λ same. c.splits-test.true (c.weight_through.ensures ∙ same))
+    looked_more c.args.weight c.args.bounds.now c.args.table.now c.args.set (length c.args.bounds.now) c.args.all_but_first c.splits.right
+    c.requires.all_but_first c.requires.more c.requires.set c.requires.table c.splits.invariant (λ same. c.splits-test.true (c.weight_through.ensures ∙ same))
 
 pub splits-smaller : goal.splits-smaller
-splits-smaller c = next_less c.splits.right c.args.behind c.splits.invariant.some
+splits-smaller c = next_less c.splits.right c.args.all_but_first c.splits.invariant.some
 
 pub returns : goal.returns
 returns c =
-    looked_all c.args.weight c.args.bounds.now c.args.table.now c.args.set c.args.behind c.splits.right c.requires.behind c.splits.invariant
+    looked_all c.args.weight c.args.bounds.now c.args.table.now c.args.set c.args.all_but_first c.splits.right c.requires.all_but_first c.splits.invariant
     (sym c.weight_through.ensures ∙ c.splits-test.false)

@@ -12,8 +12,8 @@ pub returns-clause-within : goal.returns-clause-within
 returns-clause-within c = omega arith
 
 pub returns-clause-plan : goal.returns-clause-plan
-returns-clause-plan c =
-    plan_from c.args.bounds.now c.args.scans.now _ c.requires.few (returns-clause-scans c) (returns-clause-best c)
+returns-clause-plan c few =
+    plan_from c.args.bounds.now c.args.scans.now _ few (returns-clause-scans c) (returns-clause-best c)
 
 pub returns-clause-joins : goal.returns-clause-joins
 returns-clause-joins c = joins_within c.args.bounds.now _ _ c.args.budget _ (returns-clause-best c) (returns-clause-within c)

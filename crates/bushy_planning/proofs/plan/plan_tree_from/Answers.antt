@@ -5,7 +5,7 @@ pub returns : goal.returns
 returns c =
     only c.args.known.now.sets c.args.known.now.scans c.args.budget c.choose_bushy.result c.requires.some c.requires.budget
     (record {
-      plan = c.choose_bushy.ensures.plan;
+      plan = c.choose_bushy.ensures.plan c.requires.few;
       best = c.choose_bushy.ensures.best;
       within = c.choose_bushy.ensures.within;
       scans_kept = c.choose_bushy.ensures.scans;

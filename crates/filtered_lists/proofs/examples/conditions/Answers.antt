@@ -1,8 +1,8 @@
-use Rattle.filtered_lists.proofs.Worked.{crossed, greatest_low, between, two_columns, literals, nested, not_and}
+use Rattle.filtered_lists.proofs.Worked.{ends_swapped, greatest_low, between, two_columns, literals, nested, not_and}
 use Rattle.filtered_lists.proofs.examples.conditions.Goals as goal
 
-pub returns-clause-crossed : goal.returns-clause-crossed
-returns-clause-crossed c = crossed
+pub returns-clause-ends_swapped : goal.returns-clause-ends_swapped
+returns-clause-ends_swapped c = ends_swapped
 
 pub returns-clause-greatest_low : goal.returns-clause-greatest_low
 returns-clause-greatest_low c = greatest_low

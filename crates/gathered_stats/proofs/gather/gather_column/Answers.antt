@@ -5,7 +5,7 @@ use Rattle.sql_meaning.specs.Databases.{AreCells}
 use Rattle.gathered_stats.specs.Columns.{keys_in}
 use Rattle.gathered_stats.specs.ShownCells.{shown_cells}
 use Rattle.gathered_stats.proofs.Entries.{column_made, keys_high, keys_made, keys_there}
-use Rattle.gathered_stats.proofs.Seeing.{whole_seen}
+use Rattle.gathered_stats.proofs.ShownCells.{whole_seen}
 use Rattle.gathered_stats.proofs.gather.gather_column.Goals as goal
 
 pub list_steps-requires-clause-keys : goal.list_steps-requires-clause-keys

@@ -4,7 +4,7 @@ use Rattle.table_stats.proofs.Summing.{lists_sum}
 use Rattle.sql_meaning.specs.Tables.{tables_of}
 use Rattle.gathered_stats.specs.Asked.{AreGathered}
 use Rattle.gathered_stats.proofs.Entries.{one_gathered}
-use Rattle.gathered_stats.proofs.Telling.{all_told, their_lists}
+use Rattle.gathered_stats.proofs.StatisticsOfTables.{all_told, their_lists}
 use Rattle.gathered_stats.proofs.gather.gather_query.Goals as goal
 
 pub loop-entry-preserved : goal.loop-entry-preserved

@@ -10,7 +10,7 @@ use Rattle.gathered_stats.specs.ShownCells.{shown_cells}
 use Rattle.gathered_stats.proofs.Asking.{as_many}
 use Rattle.gathered_stats.proofs.Entries.{keys_there}
 use Rattle.gathered_stats.proofs.Picking.{all_picked, column_beside, rows_read}
-use Rattle.gathered_stats.proofs.Seeing.{rows_seen}
+use Rattle.gathered_stats.proofs.ShownCells.{rows_seen}
 use Rattle.gathered_stats.proofs.WholeLists.{whole_small}
 use Rattle.gathered_stats.proofs.paired_rows.gather_other.Goals as goal
 

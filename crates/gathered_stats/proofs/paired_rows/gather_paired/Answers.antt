@@ -7,8 +7,8 @@ use Rattle.gathered_stats.specs.ShownCells.{AreRowNumbersOf}
 use Rattle.gathered_stats.proofs.Entries.{cells_sound, own_read, steps_sound}
 use Rattle.gathered_stats.proofs.Joined.{columns_exist}
 use Rattle.gathered_stats.proofs.Picking.{beside_gathered, serve_each}
-use Rattle.gathered_stats.proofs.Seeing.{are_cells_at}
-use Rattle.gathered_stats.proofs.Telling.{columns_have, their_lists}
+use Rattle.gathered_stats.proofs.ShownCells.{are_cells_at}
+use Rattle.gathered_stats.proofs.StatisticsOfTables.{columns_have, their_lists}
 use Rattle.gathered_stats.proofs.paired_rows.gather_paired.Goals as goal
 
 pub cells_in_entry-cells-requires-clause-cells : goal.cells_in_entry-cells-requires-clause-cells

@@ -8,6 +8,6 @@ use Rattle.joined_texts.proofs.audit.put_levels.Given as goal
 abbrev pub invariant-levels : goal.invariant-levels
 invariant-levels g l = record {
   done : List ℕ;
-  left : done ++ level_audits (l.i + 1) l.sources (drop l.i l.order) (drop l.i l.bounds) (drop l.i (level_counts l.executed)) ≡ level_audits 1 l.sources l.order l.bounds (level_counts l.executed);
+  left : done ++ level_audits (l.i + 1) l.sources (drop l.i l.order) (drop l.i l.bounds) (drop l.i (level_counts l.constants l.order l.fn.done.nodes)) ≡ level_audits 1 l.sources l.order l.bounds (level_counts l.constants l.order l.fn.done.nodes);
   put : WroteBuffered (growth g.N.Sink.taken g.N.Sink.faults l.initial.sink l.sink) l.initial.buffer l.buffer done (Ok tt);
 }

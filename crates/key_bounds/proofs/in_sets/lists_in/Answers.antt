@@ -3,13 +3,13 @@ use Rattle.berge_tree.specs.declared.edges.Edge.{Edge}
 use Rattle.bound_fold.specs.Sets.{HaveLists}
 use Rattle.bound_fold.proofs.TestedSets.{edge_more}
 use Rattle.query_bounds.proofs.Holding.{no_edge, pair_at}
-use Rattle.key_bounds.specs.InSets.{known_by_keys}
+use Rattle.key_bounds.specs.InSets.{bounds_with_carried}
 use Rattle.key_bounds.proofs.Made.{carried_at, part_first}
 use Rattle.key_bounds.proofs.in_sets.lists_in.Goals as goal
 
 pub equalities-init : goal.equalities-init
 equalities-init c = record {
-  part = part_first (known_by_keys c.args.keys.now c.args.subset) c.args.keys.now.count c.in_ok-made.made c.in_ok-made.ensures.rows c.in_ok-made.ensures.lists;
+  part = part_first (bounds_with_carried c.args.keys.now c.args.subset) c.args.keys.now.count c.in_ok-made.made c.in_ok-made.ensures.rows c.in_ok-made.ensures.lists;
   joined = λ k d low. absurd (omega (arith, low));
 }
 

@@ -12,7 +12,7 @@ pub nonzero_div-whole : goal.nonzero_div-whole
 nonzero_div-whole c = rw c.ahead-block.ensures (block_positive c.pieces-blocks.result.now c.loop-at.at.at c.loop-at.at.used c.pieces-blocks.ensures.whole.falls c.loop-at-test.true)
 
 pub loop-at-init : goal.loop-at-init
-loop-at-init c = rw c.empty-list.ensures (grouped_start c.pieces-blocks.result.now c.pieces-rows.result.now c.pieces-blocks.ensures.whole c.pieces-rows.ensures.whole)
+loop-at-init c = rw c.in_ok-list.ensures (grouped_start c.pieces-blocks.result.now c.pieces-rows.result.now c.pieces-blocks.ensures.whole c.pieces-rows.ensures.whole)
 
 -- these goals are about a block over several runs of rows
 

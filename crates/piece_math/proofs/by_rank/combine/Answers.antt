@@ -2,7 +2,7 @@ use Rattle.piece_math.proofs.Combining.{combine_start, combine_falls, combine_fi
 use Rattle.piece_math.proofs.by_rank.combine.Goals as goal
 
 pub loop-places-init : goal.loop-places-init
-loop-places-init c = rw c.empty-list.ensures (combine_start c.args.how c.pieces-a.result.now c.pieces-b.result.now c.pieces-a.ensures.whole c.pieces-b.ensures.whole)
+loop-places-init c = rw c.in_ok-list.ensures (combine_start c.args.how c.pieces-a.result.now c.pieces-b.result.now c.pieces-a.ensures.whole c.pieces-b.ensures.whole)
 
 pub put-requires-clause-falls : goal.put-requires-clause-falls
 put-requires-clause-falls c pos some =

@@ -1,15 +1,18 @@
-use Rattle.std.proofs.Common.{sum, ap, ◌∙◌, subst}
+use Rattle.std.proofs.Common.{◌<◌, length, sum, ap, sym, ◌∙◌}
 use Rattle.piece_math.specs.declared.weights.Child.{Child}
-use Rattle.piece_math.specs.Expanded.{IsAppended}
-use Rattle.piece_math.proofs.Weighing.{weights_start, weights_step}
+use Rattle.piece_math.proofs.Weighing.{some_children, weights_first, weights_step}
 use Rattle.piece_math.proofs.weights.row_weights.Goals as goal
 
-pub loop-child-init : goal.loop-child-init
-loop-child-init c = weights_start c.args.children.now c.args.rows (subst (λ s. IsAppended s c.put.new.self 1 c.args.rows) c.empty-weights.ensures c.in_ok-put.ensures)
+pub loop-i-init : goal.loop-i-init
+loop-i-init c =
+    let some : 0 < length c.args.children.now = some_children c.args.children.now (sym c.is_empty.ensures ∙ c.if-is_empty.false) in
+    weights_first c.args.children.now c.args.rows c.in_ok-weights.weights c.index-children-0.result some c.index-children-0.is
+    (ap (λ (child : Child). sum child.column) c.index-children-0.is ∙ c.requires.columns 0 c.index-children-0.result some)
+    c.spread.ensures.lists c.in_ok-weights.ensures.value c.in_ok-weights.ensures.fits c.in_ok-weights.ensures.few_pieces
 
-pub loop-child-preserved : goal.loop-child-preserved
-loop-child-preserved c =
-    weights_step c.args.children.now c.args.rows c.loop-child.child-index c.loop-child.weights c.in_ok-own.own c.in_ok-weights.weights c.child-item.result
-    c.loop-child-test.true c.child-item.is
-    (ap (λ (child : Child). sum child.column) c.child-item.is ∙ c.requires.columns c.loop-child.child-index c.child-item.result c.loop-child-test.true)
-    c.spread.ensures.lists c.in_ok-own.ensures.value c.in_ok-own.ensures.few_pieces c.in_ok-weights.ensures.value c.in_ok-weights.ensures.few_pieces c.loop-child.invariant
+pub loop-i-preserved : goal.loop-i-preserved
+loop-i-preserved c =
+    weights_step c.args.children.now c.args.rows c.loop-i.i c.loop-i.weights c.in_ok-own.own c.in_ok-weights-2.weights c.index-children-i.result
+    c.loop-i-test.true c.index-children-i.is
+    (ap (λ (child : Child). sum child.column) c.index-children-i.is ∙ c.requires.columns c.loop-i.i c.index-children-i.result c.loop-i-test.true)
+    c.spread-in-loop-i.ensures.lists c.in_ok-own.ensures.value c.in_ok-own.ensures.few_pieces c.in_ok-weights-2.ensures.value c.in_ok-weights-2.ensures.few_pieces c.loop-i.invariant

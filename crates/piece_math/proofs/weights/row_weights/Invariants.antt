@@ -1,5 +1,5 @@
 use Rattle.piece_math.proofs.Weighing.{WeightsSoFar}
 use Rattle.piece_math.proofs.weights.row_weights.Given as goal
 
-abbrev pub invariant-loop-child : goal.invariant-loop-child
-invariant-loop-child l = WeightsSoFar l.children l.rows l.child-index l.weights
+abbrev pub invariant-loop-i : goal.invariant-loop-i
+invariant-loop-i l = WeightsSoFar l.children l.rows l.i l.weights

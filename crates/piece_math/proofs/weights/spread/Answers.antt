@@ -7,7 +7,7 @@ use Rattle.piece_math.proofs.Spreading.{spread_start, spread_falls, spread_short
 use Rattle.piece_math.proofs.weights.spread.Goals as goal
 
 pub loop-places-init : goal.loop-places-init
-loop-places-init c = rw c.empty-list.ensures (spread_start c.pieces-column.result.now c.pieces-class.result.now c.pieces-column.ensures.whole c.pieces-class.ensures.whole)
+loop-places-init c = rw c.in_ok-list.ensures (spread_start c.pieces-column.result.now c.pieces-class.result.now c.pieces-column.ensures.whole c.pieces-class.ensures.whole)
 
 pub overflow_mul-rows : goal.overflow_mul-rows
 overflow_mul-rows c = rw c.from.ensures (omega (arith, rows_fit c.pieces-column.ensures.whole c.pieces-class.ensures.whole c.loop-places.invariant c.next_stretch-stretch.ensures, ap sum c.pieces-column.ensures.stands_for, c.requires))

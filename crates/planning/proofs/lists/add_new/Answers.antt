@@ -8,7 +8,7 @@ use Rattle.join_steps.specs.Lists.{list_at, lists_of}
 use Rattle.join_steps.proofs.WholeScans.{length-lists_of}
 use Rattle.reduced_scans.proofs.OfQuery.{read_list, read_short}
 use Rattle.query_bounds.proofs.Holding.{is_some_of}
-use Rattle.planning.proofs.Knowing.{kept_there, known_more}
+use Rattle.planning.proofs.CollectedBounds.{kept_there, known_more}
 use Rattle.planning.proofs.lists.add_new.Goals as goal
 
 pub column_list-requires-clause-rows : goal.column_list-requires-clause-rows

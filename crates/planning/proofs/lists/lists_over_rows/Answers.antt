@@ -5,7 +5,7 @@ use Rattle.bound_fold.proofs.TestedSets.{edge_more}
 use Rattle.join_steps.specs.Lists.{lists_of}
 use Rattle.join_steps.proofs.WholeScans.{length-lists_of}
 use Rattle.query_bounds.proofs.Holding.{no_edge}
-use Rattle.planning.proofs.Knowing.{known_first}
+use Rattle.planning.proofs.CollectedBounds.{known_first}
 use Rattle.planning.proofs.lists.lists_over_rows.Goals as goal
 
 pub equalities-init : goal.equalities-init

@@ -1,7 +1,7 @@
 use Rattle.std.proofs.Common.{◌<◌, ℕ, List, length, ap, ◌∙◌, arith}
 use Rattle.join_steps.specs.Lists.{lists_of}
 use Rattle.reduced_scans.proofs.OfQuery.{read_list}
-use Rattle.planning.proofs.Knowing.{rows_more, rows_none}
+use Rattle.planning.proofs.CollectedBounds.{rows_more, rows_none}
 use Rattle.planning.proofs.rows.row_bounds.Goals as goal
 
 pub lists-init : goal.lists-init

@@ -7,7 +7,7 @@ use Rattle.join_steps.proofs.WholeScans.{length-lists_of}
 use Rattle.reduced_scans.specs.Lists.{JoinsColumns}
 use Rattle.reduced_scans.proofs.OfQuery.{joins_columns}
 use Rattle.planning.proofs.Giving.{each_has_bounds, one_each, rows_give}
-use Rattle.planning.proofs.Knowing.{all_have_bounds}
+use Rattle.planning.proofs.CollectedBounds.{all_have_bounds}
 use Rattle.planning.proofs.sources.from_rows.Goals as goal
 
 pub lists_over_rows-requires-clause-columns : goal.lists_over_rows-requires-clause-columns

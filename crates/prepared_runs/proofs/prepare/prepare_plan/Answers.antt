@@ -6,7 +6,7 @@ use Rattle.prepared_runs.specs.Limits.{IsWithinLimit}
 use Rattle.prepared_runs.specs.RunOutcome.{Planned}
 use Rattle.prepared_runs.specs.PreparedQuery.{AreOverLists, HoldsBytes, pending_text}
 use Rattle.prepared_runs.specs.Shapes.{IsPlanOver, IsShapedPlan, shape_bytes}
-use Rattle.prepared_runs.specs.Sources.{lists_by, sourced}
+use Rattle.prepared_runs.specs.Sources.{lists_by, bounds_and_lists_by}
 use Rattle.prepared_runs.specs.Standing.{LoseNoRow}
 use Rattle.prepared_runs.specs.declared.shapes.AnyPlan.{AnyPlan}
 use Rattle.safebound_words.specs.declared.command.OutText.{OutText}
@@ -31,7 +31,7 @@ memory_of-bytes-requires c =
       length query.from,
       omega (arith, c.requires.database.some),
       c.requires.database.few,
-      (plan_fits query tables (sourced task.source c.args.schema.now query tables)
+      (plan_fits query tables (bounds_and_lists_by task.source c.args.schema.now query tables)
           (stand query tables c.args.schema.now task.source (needs_met task.source c.args.schema.now query tables c.requires.keys)) task.accuracy task.terms.budget (omega (arith, c.requires.database.some))
           c.requires.database.few task.terms.shape planned.plan c.in_ok-planned.ensures.planned c.requires.ranges.budget).plan,
     )
@@ -54,7 +54,7 @@ make_room-requires-clause-plan c =
     let tables = tables_of c.args.db in
     let planned = c.in_ok-planned.planned in
     subst (λ (l : List (List ℕ)). IsPlanOver query tables l planned.plan) (sym c.in_ok-planned.ensures.lists)
-    (plan_over query tables (sourced task.source c.args.schema.now query tables)
+    (plan_over query tables (bounds_and_lists_by task.source c.args.schema.now query tables)
     (stand query tables c.args.schema.now task.source (needs_met task.source c.args.schema.now query tables c.requires.keys)) task.accuracy task.terms.budget (omega (arith, c.requires.database.some)) c.requires.database.few
     task.terms.shape planned.plan c.in_ok-planned.ensures.planned c.requires.ranges.budget c.requires.database.few_rows)
 
@@ -73,7 +73,7 @@ returns-clause-ready c =
     record {
       database = c.requires.database;
       plan = subst (IsShapedPlan _) (sym c.in_ok-rest.ensures.plan)
-          (plan_fits query tables (sourced task.source c.args.schema.now query tables)
+          (plan_fits query tables (bounds_and_lists_by task.source c.args.schema.now query tables)
           (stand query tables c.args.schema.now task.source (needs_met task.source c.args.schema.now query tables c.requires.keys)) task.accuracy task.terms.budget (omega (arith, c.requires.database.some))
           c.requires.database.few task.terms.shape planned.plan c.in_ok-planned.ensures.planned c.requires.ranges.budget).plan;
       bytes = c.memory_of-bytes.ensures ∙ ap (λ (plan : AnyPlan). shape_bytes plan) (sym c.in_ok-rest.ensures.plan);

@@ -1,6 +1,6 @@
 use Rattle.std.proofs.Common.{Ok, Err, ap, sym, ◌∙◌}
 use Rattle.std.proofs.lemmas.Result.{err_from_is_err_and}
-use Rattle.safebound_words.specs.declared.command.Work.TheVariants as works
+use Rattle.safebound_words.specs.declared.command.QueryTask.TheVariants as works
 use Rattle.prepared_runs.specs.PreparedRun.{file_from, plan_from, planned_outcome}
 use Rattle.prepared_runs.proofs.Stages.{work_done}
 use Rattle.prepared_runs.proofs.prepare.prepare_query.Goals as goal

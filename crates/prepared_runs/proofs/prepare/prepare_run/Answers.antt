@@ -1,7 +1,7 @@
 use Rattle.std.proofs.Common.{Err, Ok, ap}
 use Rattle.std.proofs.lemmas.Result.{err_from_is_err_and}
 use Rattle.outcomes.specs.Reads.{mapped}
-use Rattle.safebound_words.specs.declared.command.Aim.TheVariants as aims
+use Rattle.safebound_words.specs.declared.command.SchemaTask.TheVariants as aims
 use Rattle.prepared_runs.specs.PreparedRun.{appended_from, outcome_of}
 use Rattle.prepared_runs.proofs.Stages.{aim_done}
 use Rattle.prepared_runs.proofs.prepare.prepare_run.Goals as goal

@@ -6,7 +6,7 @@ use Rattle.base_io.specs.Devices.{growth}
 use Rattle.base_io.specs.Writes.{WroteBuffered}
 use Rattle.base_io.proofs.WriteFacts.{flushed, put_as, put_failed, put_failed_next, put_err, put_then, wrote_err}
 use Rattle.printed_texts.specs.Faults.{after_blank, error_line}
-use Rattle.printed_texts.specs.Words.{file_text}
+use Rattle.printed_texts.specs.Words.{file_word_text}
 use Rattle.printed_texts.proofs.ErrorLines.{line_is, words_now, word_parts, words_are}
 use Rattle.printed_texts.proofs.lines.write_error_line.Goals as goal
 

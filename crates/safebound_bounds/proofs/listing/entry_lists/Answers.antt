@@ -2,9 +2,9 @@ use Rattle.std.proofs.Common.{List, length, take, get_or, ap, sym, ◌∙◌, su
 use Rattle.std.specs.Prelude.{Some}
 use Rattle.std.proofs.lemmas.List.{take_all, take_more}
 use Rattle.safebound_lists.specs.declared.runs.Run.{Run}
-use Rattle.safebound_lists.specs.Runs.{AreRight, list_of}
+use Rattle.safebound_lists.specs.Runs.{AreValid, list_of}
 use Rattle.safebound_bounds.specs.declared.arguments.ColumnList.{ColumnList}
-use Rattle.safebound_bounds.specs.Arguments.{IsListRightAt, list_at, default_list}
+use Rattle.safebound_bounds.specs.Arguments.{IsListValidAt, list_at, default_list}
 use Rattle.safebound_bounds.specs.Listed.{HoldsListed}
 use Rattle.safebound_bounds.specs.Meaning.{fitted}
 use Rattle.safebound_bounds.proofs.Holding.{list_more, not_held, rows_there, without_lists}
@@ -21,15 +21,15 @@ bounds-rows-list c = (c.requires.lists c.loop-list.list-index c.loop-list-test.t
 
 pub fitted-requires : goal.fitted-requires
 fitted-requires c =
-    let right : IsListRightAt (length c.args.rows.now) (length c.args.runs.now) c.args.lists.now c.loop-list.list-index = c.requires.lists c.loop-list.list-index c.loop-list-test.true in
+    let right : IsListValidAt (length c.args.rows.now) (length c.args.runs.now) c.args.lists.now c.loop-list.list-index = c.requires.lists c.loop-list.list-index c.loop-list-test.true in
     record {
       rows = c.requires.rows (list_at c.args.lists.now c.loop-list.list-index).entry right.entry;
-      right = subst AreRight (sym c.own_runs-own.ensures) (c.requires.runs c.loop-list.list-index c.loop-list-test.true);
+      right = subst AreValid (sym c.own_runs-own.ensures) (c.requires.runs c.loop-list.list-index c.loop-list-test.true);
     }
 
 pub add-requires : goal.add-requires
 add-requires c =
-    let right : IsListRightAt (length c.args.rows.now) (length c.args.runs.now) c.args.lists.now c.loop-list.list-index = c.requires.lists c.loop-list.list-index c.loop-list-test.true in
+    let right : IsListValidAt (length c.args.rows.now) (length c.args.runs.now) c.args.lists.now c.loop-list.list-index = c.requires.lists c.loop-list.list-index c.loop-list-test.true in
     record {
       total = rows_there c.args.rows.now (length c.args.rows.now) (take c.loop-list.list-index c.args.lists.now) c.args.runs.now c.loop-list.known c.loop-list.invariant
           (list_at c.args.lists.now c.loop-list.list-index).entry right.entry ∙ ap Some (sym c.in_ok-fitting.ensures.total);
@@ -39,7 +39,7 @@ add-requires c =
 
 pub loop-list-preserved : goal.loop-list-preserved
 loop-list-preserved c =
-    let right : IsListRightAt (length c.args.rows.now) (length c.args.runs.now) c.args.lists.now c.loop-list.list-index = c.requires.lists c.loop-list.list-index c.loop-list-test.true in
+    let right : IsListValidAt (length c.args.rows.now) (length c.args.runs.now) c.args.lists.now c.loop-list.list-index = c.requires.lists c.loop-list.list-index c.loop-list-test.true in
     subst (λ (s : List ColumnList). HoldsListed c.args.rows.now (length c.args.rows.now) s c.args.runs.now c.add.new.self)
     (sym (take_more c.args.lists.now c.loop-list.list-index default_list c.loop-list-test.true))
     (list_more c.args.rows.now (length c.args.rows.now) (take c.loop-list.list-index c.args.lists.now) c.args.runs.now (list_at c.args.lists.now c.loop-list.list-index)

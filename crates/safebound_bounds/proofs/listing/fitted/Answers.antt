@@ -6,7 +6,7 @@ use Rattle.degree_sequences.specs.RunningSums.{cut_at}
 use Rattle.safebound_lists.specs.Runs.{list_of}
 use Rattle.piece_math.proofs.Cutting.{positive-cut_at}
 use Rattle.safebound_bounds.specs.Meaning.{fitted}
-use Rattle.safebound_bounds.proofs.Fitting.{cut_sum, fitted_sum, made_full, made_longer, no_longer, one_or_more, right_falls}
+use Rattle.safebound_bounds.proofs.Fitting.{cut_sum, fitted_sum, made_full, made_longer, length_at_most_sum, one_or_more, valid_runs_descend}
 use Rattle.safebound_bounds.proofs.listing.fitted.Goals as goal
 use Rattle.safebound_bounds.proofs.listing.fitted.Goals.{then-total-rows+in_ok-push_run, else-total-rows}
 
@@ -15,17 +15,17 @@ overflow_cast-total c = omega (arith, c.total-total.ensures, ap sum c.in_ok-cut.
 
 pub push_run-requires-clause-falls : goal.push_run-requires-clause-falls
 push_run-requires-clause-falls c =
-    let falls : IsDescending c.in_ok-list.list = subst IsDescending (sym c.in_ok-list.ensures.pieces) (right_falls c.args.runs.now c.requires.right) in
+    let falls : IsDescending c.in_ok-list.list = subst IsDescending (sym c.in_ok-list.ensures.pieces) (valid_runs_descend c.args.runs.now c.requires.right) in
     subst (All (λ x. 1 ≤ x)) (sym c.in_ok-cut.ensures.value)
     (All-from_recursion (λ x. 1 ≤ x) (cut_at c.in_ok-list.list c.args.rows) (one_or_more (cut_at c.in_ok-list.list c.args.rows) (positive-cut_at c.in_ok-list.list c.args.rows falls)))
 
 pub push_run-requires-clause-room : goal.push_run-requires-clause-room
 push_run-requires-clause-room c =
-    let falls : IsDescending c.in_ok-list.list = subst IsDescending (sym c.in_ok-list.ensures.pieces) (right_falls c.args.runs.now c.requires.right) in
+    let falls : IsDescending c.in_ok-list.list = subst IsDescending (sym c.in_ok-list.ensures.pieces) (valid_runs_descend c.args.runs.now c.requires.right) in
     omega (
       arith,
       ap length c.in_ok-cut.ensures.value,
-      no_longer (cut_at c.in_ok-list.list c.args.rows) (positive-cut_at c.in_ok-list.list c.args.rows falls),
+      length_at_most_sum (cut_at c.in_ok-list.list c.args.rows) (positive-cut_at c.in_ok-list.list c.args.rows falls),
       cut_sum c.in_ok-list.list c.args.rows,
       c.requires.rows,
     )

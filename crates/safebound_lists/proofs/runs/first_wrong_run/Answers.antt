@@ -1,6 +1,6 @@
 use Rattle.std.proofs.Common.{length, arith}
 use Rattle.safebound_lists.specs.First.{IsFirstWrong}
-use Rattle.safebound_lists.specs.Runs.{IsRightAt}
+use Rattle.safebound_lists.specs.Runs.{IsValidAt}
 use Rattle.safebound_lists.proofs.Following.{none_tested, one_more_tested, exceeds, rises}
 use Rattle.safebound_lists.proofs.runs.first_wrong_run.Goals as goal
 use Rattle.safebound_lists.proofs.runs.first_wrong_run.Goals.{then-run-eq0-via-then-run-eq0, then-run-eq0-via-else-run-eq0+then-run-eq0-2, then-run-eq0-via-else-run-eq0+else-run-eq0-2+then-run-least, then-run-eq0-via-else-run-eq0+else-run-eq0-2+else-run-least+then-run-remaining}
@@ -24,5 +24,5 @@ returns-then-run-eq0 c = elim c.then-run-eq0.branch [
       (omega (arith, w.if-run-eq0.false)) w.if-run-remaining.true)
 ]
   where
-    wrong : (IsRightAt c.args.runs.now c.loop-place.place → ⊥) → IsFirstWrong (IsRightAt c.args.runs.now) (length c.args.runs.now) c.loop-place.place
+    wrong : (IsValidAt c.args.runs.now c.loop-place.place → ⊥) → IsFirstWrong (IsValidAt c.args.runs.now) (length c.args.runs.now) c.loop-place.place
     wrong bad = record { within = c.loop-place-test.true; wrong = bad; before = c.loop-place.invariant.right }

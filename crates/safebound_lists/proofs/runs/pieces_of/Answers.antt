@@ -1,7 +1,7 @@
 use Rattle.std.proofs.Common.{◌≤◌, ◌^◌, ℕ, List, sum, ap, sym, ◌∙◌, subst, arith}
 use Rattle.std.proofs.lemmas.List.{take_all}
 use Rattle.safebound_lists.specs.Runs.{list_of}
-use Rattle.safebound_lists.proofs.Following.{next_falls, next_list, next_room, right_sum}
+use Rattle.safebound_lists.proofs.Following.{next_falls, next_list, next_room, valid_sum}
 use Rattle.safebound_lists.proofs.runs.pieces_of.Goals as goal
 
 pub push_run-requires-clause-falls : goal.push_run-requires-clause-falls
@@ -22,4 +22,4 @@ returns-clause-pieces c = c.loop-run.invariant ∙ ap list_of (take_all c.loop-r
 
 pub returns-clause-small : goal.returns-clause-small
 returns-clause-small c =
-    subst (λ (s : List ℕ). sum s ≤ 2 ^ 48) (sym (c.loop-run.invariant ∙ ap list_of (take_all c.loop-run.run-index c.args.runs.now (omega arith)))) (right_sum c.args.runs.now c.requires)
+    subst (λ (s : List ℕ). sum s ≤ 2 ^ 48) (sym (c.loop-run.invariant ∙ ap list_of (take_all c.loop-run.run-index c.args.runs.now (omega arith)))) (valid_sum c.args.runs.now c.requires)

@@ -1,5 +1,6 @@
 use Rattle.std.proofs.Common.{◌<◌, ◌^◌, length, ap, sym, ◌∙◌, arith}
 use Rattle.std.proofs.lemmas.List.{length-map}
+use Rattle.bushy_plan.proofs.Whole.{joins_counted}
 use Rattle.order_search.specs.declared.refusal.PlanError.TheVariants as plan_error
 use Rattle.safebound_plans.specs.Bits.{in_128_bits}
 use Rattle.safebound_plans.proofs.Best.{best_tree, tree_cause, tree_fits}
@@ -14,13 +15,16 @@ choose_bushy-requires c = record {
 }
 
 pub write_joins-requires : goal.write_joins-requires
-write_joins-requires c = omega (arith, ap length c.as_slice.ensures, c.in-Ok.ensures.plan.joins, c.in_ok-scans.ensures)
+write_joins-requires c =
+    let joins = joins_counted c.in_ok-wide.wide (length c.in_ok-scans.scans) c.in-Ok.plan.cost c.in-Ok.plan.joins c.in-Ok.ensures.best in
+    omega (arith, ap length c.as_slice.ensures, joins, c.in_ok-scans.ensures)
 
 pub returns-in-Ok-clause-done : goal.returns-in-Ok-clause-done
 returns-in-Ok-clause-done c =
     best_tree c.args.bounds.now c.in_ok-wide.wide c.in-Some.entries (length c.in_ok-scans.scans) c.args.budget c.in_ok-wide.ensures c.in_ok-scans.ensures
     c.in-Ok.plan.joins c.as_slice.result.now c.in-Ok.plan.cost _ c.args.into.now c.write_joins.new.into (record { sets = c.in-Some.ensures; within = omega arith })
-    c.in-Ok.ensures.best c.in-Ok.ensures.within c.in-Ok.ensures.plan.joins c.as_slice.ensures c.len.ensures c.write_joins.ensures
+    c.in-Ok.ensures.best c.in-Ok.ensures.within
+    (joins_counted c.in_ok-wide.wide (length c.in_ok-scans.scans) c.in-Ok.plan.cost c.in-Ok.plan.joins c.in-Ok.ensures.best) c.as_slice.ensures c.len.ensures c.write_joins.ensures
 
 pub overflow_cast-result : goal.overflow_cast-result
 overflow_cast-result c =

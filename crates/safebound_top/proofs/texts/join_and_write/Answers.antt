@@ -25,7 +25,7 @@ returns-in-Rows-clause-text g c =
 pub returns-in-Rows-clause-kept : goal.returns-in-Rows-clause-kept
 returns-in-Rows-clause-kept g c =
     let done = c.join-joined in
-    rw c.in-Rows.is (are_done c.args.query.now c.args.db.now c.in-Rows.joins done.result done.ensures.plan done.ensures.joined done.ensures.bytes)
+    rw c.in-Rows.is (are_done c.args.query.now c.args.db.now c.in-Rows.joins done.result c.requires.database done.ensures.plan done.ensures.joined done.ensures.bytes)
 
 pub join-joined-requires-in-Audit-clause-joins : goal.join-joined-requires-in-Audit-clause-joins
 join-joined-requires-in-Audit-clause-joins g c = rw c.in-Audit.is at c.requires.room
@@ -33,7 +33,10 @@ join-joined-requires-in-Audit-clause-joins g c = rw c.in-Audit.is at c.requires.
 pub write_audit_text-result-requires : goal.write_audit_text-result-requires
 write_audit_text-result-requires g c =
     let done = c.join-joined-in-Audit in
-    rw c.as_slice.ensures (has_parts c.args.query.now c.args.db.now (lists_of c.in-Audit.joins.lists.items) done.result done.ensures.joined)
+    record {
+      database = c.requires.database;
+      parts = has_parts c.args.query.now c.args.db.now (lists_of c.in-Audit.joins.lists.items) c.requires.database done.result done.ensures.joined;
+    }
 
 pub returns-in-Audit-clause-text : goal.returns-in-Audit-clause-text
 returns-in-Audit-clause-text g c =
@@ -41,11 +44,11 @@ returns-in-Audit-clause-text g c =
     let db = c.args.db.now in
     let lists = lists_of c.in-Audit.joins.lists.items in
     let done = c.join-joined-in-Audit in
-    rw c.in-Audit.is (wrote_as _ (ap (λ (counts : List ℕ). shape_audits query.from (plan_joined done.result) counts) (counts_are query db lists done.result done.ensures.joined)
+    rw c.in-Audit.is (wrote_as _ (ap (λ (counts : List ℕ). shape_audits query.from (plan_joined done.result) counts) (counts_are query db lists c.requires.database done.result done.ensures.joined)
     ∙ ap (λ (plan : AnyPlan). shape_audits query.from plan (part_sizes query (tables_of db) lists plan)) done.ensures.plan)
-    (rw c.as_slice.ensures at c.write_audit_text-result.ensures))
+    c.write_audit_text-result.ensures)
 
 pub returns-in-Audit-clause-kept : goal.returns-in-Audit-clause-kept
 returns-in-Audit-clause-kept g c =
     let done = c.join-joined-in-Audit in
-    rw c.in-Audit.is (are_done c.args.query.now c.args.db.now c.in-Audit.joins done.result done.ensures.plan done.ensures.joined done.ensures.bytes)
+    rw c.in-Audit.is (are_done c.args.query.now c.args.db.now c.in-Audit.joins done.result c.requires.database done.ensures.plan done.ensures.joined done.ensures.bytes)

@@ -2,7 +2,7 @@ use Rattle.std.proofs.Common.{Result, refl, sym, ◌∙◌, subst}
 use Rattle.std.specs.Prelude.{IsOkAnd}
 use Rattle.outcomes.specs.declared.refusal.Refusal.{Refusal}
 use Rattle.outcomes.proofs.StatusFacts.{ended_not_done}
-use Rattle.safebound_top.specs.Course.{EndedEarly, RanToEnd}
+use Rattle.safebound_top.specs.CallHistory.{EndedEarly, RanToEnd}
 use Rattle.prepared_runs.specs.KeptBuffers.{HasBuffersOf}
 use Rattle.prepared_runs.specs.RunOutcome.{RunOutcome}
 use Rattle.prepared_runs.specs.PreparedRun.{outcome_of}

@@ -1,6 +1,6 @@
 use Rattle.std.proofs.Common.{◌≡◌, ◌∙◌, sym, refl}
 use Rattle.outcomes.specs.declared.status.Status.TheVariants as status
-use Rattle.safebound_top.specs.Course.{Done}
+use Rattle.safebound_top.specs.CallHistory.{Done}
 use Rattle.prepared_runs.specs.PreparedRun.{outcome_of}
 use Rattle.safebound_top.proofs.TextSteps.{ended_cut}
 use Rattle.safebound_top.proofs.top_call.write_or_report.Goals as goal

@@ -1,4 +1,4 @@
--- The binder knows this schema, this text and these entries, so its first refusal is the first refusal of the tree.
+-- The binder has the schema, the text and the entries of the tree. So its first refusal is the first refusal of the tree.
 use Rattle.std.proofs.Common.{refl}
 use Rattle.sql_parse.proofs.TreeFacts.{behind_errs}
 use Rattle.sql_parse.proofs.binding.bind_after_from.Goals as goal

@@ -1,4 +1,4 @@
--- If no kind is wrong, the first limit that is passed is the refusal. If no limit is passed, all outputs were built.
+-- If no kind is wrong, the refusal is the first exceeded limit. If no limit is exceeded, all outputs were built.
 use Rattle.std.proofs.Common.{◌≡◌, ◌≤◌, ◌++◌, None, length, ap, sym, ◌∙◌, arith}
 use Rattle.limits.specs.Profile.{most_outputs}
 use Rattle.query_names.specs.Answers.{first}

@@ -23,8 +23,8 @@ new-requires-clause-rows c =
       c.row_count-rows.type_inv,
     )
 
-pub pair_of-requires-clause-sorted : goal.pair_of-requires-clause-sorted
-pair_of-requires-clause-sorted c =
+pub pair_stats_of-requires-clause-sorted : goal.pair_stats_of-requires-clause-sorted
+pair_stats_of-requires-clause-sorted c =
     column_in c.args.pool.now c.args.cells.now c.requires.cells c.args.filter c.requires.filter c.in_ok-sorted.sorted c.get-kind.result.now c.as_slice.result.now
     (its_kind c.args.pool.now c.args.cells.now c.requires.cells c.args.filter c.requires.filter c.get-kind.result.now c.get-kind.ensures)
     (its_cells c.args.pool.now c.args.cells.now c.requires.cells c.args.filter c.requires.filter c.get.result.now c.as_slice.result.now c.get.ensures c.as_slice.ensures)
@@ -33,4 +33,4 @@ pair_of-requires-clause-sorted c =
 pub loop-column-preserved : goal.loop-column-preserved
 loop-column-preserved c =
     one_pair_more (pair_in_cells c.args.pool.now c.args.cells.now c.args.accuracy c.args.filter) c.args.joined.now c.loop-column.column-index 0 c.args.pairs.now c.loop-column.pairs
-    c.push.new.self c.loop-column-test.true c.loop-column.invariant (c.in_ok-push.ensures.ok ∙ ap (λ p. c.loop-column.pairs ++ p ∷ []) c.in_ok-pair_of.ensures)
+    c.push.new.self c.loop-column-test.true c.loop-column.invariant (c.in_ok-push.ensures.ok ∙ ap (λ p. c.loop-column.pairs ++ p ∷ []) c.in_ok-pair_stats_of.ensures)

@@ -21,8 +21,8 @@ new-requires-clause-rows c =
       c.row_count-rows.type_inv,
     )
 
-pub pair_of-requires-clause-sorted : goal.pair_of-requires-clause-sorted
-pair_of-requires-clause-sorted c =
+pub pair_stats_of-requires-clause-sorted : goal.pair_stats_of-requires-clause-sorted
+pair_stats_of-requires-clause-sorted c =
     column_in c.args.pool.now c.args.cells.now c.requires.cells c.args.filter c.requires.filter c.in_ok-sorted.sorted c.get-kind.result.now c.as_slice-values.result.now
     (its_kind c.args.pool.now c.args.cells.now c.requires.cells c.args.filter c.requires.filter c.get-kind.result.now c.get-kind.ensures)
     (its_cells c.args.pool.now c.args.cells.now c.requires.cells c.args.filter c.requires.filter c.get.result.now c.as_slice-values.result.now c.get.ensures c.as_slice-values.ensures)

@@ -1,6 +1,6 @@
 use Rattle.std.proofs.Common.{subst, sym, Err}
 use Rattle.stats_file.specs.declared.types.StatsError.{StatsError}
-use Rattle.stats_file.specs.Answers.{Answers as FileAnswers}
+use Rattle.stats_file.specs.Answers.{IsAllowedResult as FileAnswers}
 use Rattle.stats_reading.proofs.Reading.{all_read, read_more, refused, too_early}
 use Rattle.stats_reading.proofs.read.read_stats.Goals as goal
 

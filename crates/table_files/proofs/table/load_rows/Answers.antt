@@ -19,7 +19,7 @@ returns-in-Ok-clause-few g c = cells_are_few c.args.table.now c.as_slice.result.
 pub returns-in-Ok-clause-file : goal.returns-in-Ok-clause-file
 returns-in-Ok-clause-file g c = (c.as_slice.result.now, c.in-Ok.ensures.rows)
 
-pub returns-clause-reads : goal.returns-clause-reads
-returns-clause-reads g c =
+pub returns-in-Err-clause-reads : goal.returns-in-Err-clause-reads
+returns-in-Err-clause-reads g c =
     rw c.table_failure.ensures (rows_refused c.args.number c.args.table.now c.args.name.now _ c.as_slice.result.now c.in-Err.error c.as_slice.ensures
     c.in-Err.ensures.refused c.in_ok-bytes.ensures.reads)

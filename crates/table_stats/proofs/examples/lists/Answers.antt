@@ -19,9 +19,9 @@ pub returns-clause-ranges : goal.returns-clause-ranges
 unfolding cuts rest list_of_value list_of_node
 returns-clause-ranges c = refl
 
-pub returns-clause-crossed : goal.returns-clause-crossed
+pub returns-clause-ends_swapped : goal.returns-clause-ends_swapped
 unfolding cuts rest list_of_value list_of_node
-returns-clause-crossed c = refl
+returns-clause-ends_swapped c = refl
 
 pub returns-clause-no_rows : goal.returns-clause-no_rows
 unfolding cuts rest list_of_value list_of_node

@@ -16,6 +16,6 @@ pub returns-clause-notes : goal.returns-clause-notes
 returns-clause-notes c = limited_notes
 
 pub returns-clause-call : goal.returns-clause-call
-returns-clause-call c = answers_done small_files limited_words (Planned (two_tables_run out_text.Rows (Some 556)))
-    (Some (codes "scan R 6\nscan S 5\nlevel 1 S 5\nlevel 2 R 12\nmemory 556\n")) (Some (codes "X\r\n1\r\n1\r\n1\r\n1\r\n1\r\n1\r\n"))
-    limited_verdict (ap (λ (t : List ℕ). Some t) limited_notes) (rows_printed (Some 556))
+returns-clause-call c = answers_done small_files limited_words (Planned (two_tables_run out_text.Rows (Some 531)))
+    (Some (codes "scan R 6\nscan S 5\nlevel 1 S 5\nlevel 2 R 12\nmemory 531\n")) (Some (codes "X\r\n1\r\n1\r\n1\r\n1\r\n1\r\n1\r\n"))
+    limited_verdict (ap (λ (t : List ℕ). Some t) limited_notes) (rows_printed (Some 531))

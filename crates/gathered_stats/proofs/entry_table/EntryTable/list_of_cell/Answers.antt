@@ -5,7 +5,7 @@ use Rattle.cond_stats.specs.Lists.{list_of_value}
 use Rattle.gathered_stats.specs.ShownCells.{shown_cells}
 use Rattle.gathered_stats.specs.Rests.{rest_in}
 use Rattle.gathered_stats.proofs.Asking.{as_high}
-use Rattle.gathered_stats.proofs.Kept.{all_kept, rest_of_value}
+use Rattle.gathered_stats.proofs.RestLists.{all_kept, rest_of_value}
 use Rattle.gathered_stats.proofs.entry_table.EntryTable.list_of_cell.Goals as goal
 
 pub list_of_value-requires : goal.list_of_value-requires

@@ -13,7 +13,7 @@ use Rattle.gathered_stats.specs.Columns.{HaveLists}
 use Rattle.gathered_stats.specs.ShownCells.{shown_cells}
 use Rattle.gathered_stats.specs.Filters.{IsColumnIn, IsFilterOf}
 use Rattle.gathered_stats.proofs.Asking.{literal_list, literal_small}
-use Rattle.gathered_stats.proofs.Seeing.{seen_kinds}
+use Rattle.gathered_stats.proofs.ShownCells.{seen_kinds}
 use Rattle.gathered_stats.proofs.entry_table.EntryTable.list_of_literal.Goals as goal
 
 pub get-kind-requires : goal.get-kind-requires

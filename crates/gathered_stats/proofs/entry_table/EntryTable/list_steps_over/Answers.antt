@@ -3,14 +3,14 @@ use Rattle.std.proofs.lemmas.List.{take_all}
 use Rattle.std.proofs.lemmas.List.Folds.{list_any_at}
 use Rattle.predicate_bounds.specs.ListRuns.{with_list}
 use Rattle.predicate_bounds.specs.declared.steps.Step.{Step}
-use Rattle.gathered_stats.specs.Asked.{is_whole}
+use Rattle.gathered_stats.specs.Asked.{asks_for_all_rows}
 use Rattle.gathered_stats.proofs.Asking.{one_listed}
 use Rattle.gathered_stats.proofs.entry_table.EntryTable.list_steps_over.Goals as goal
 
 pub list_step-requires-clause-whole : goal.list_step-requires-clause-whole
 list_step-requires-clause-whole c = λ asks.
     c.requires.whole
-    (list_any_at is_whole c.args.steps.now c.loop-step.step-index c.step-item.result c.loop-step-test.true (sym (ap is_whole c.step-item.is) ∙ asks))
+    (list_any_at asks_for_all_rows c.args.steps.now c.loop-step.step-index c.step-item.result c.loop-step-test.true (sym (ap asks_for_all_rows c.step-item.is) ∙ asks))
 
 pub loop-step-preserved : goal.loop-step-preserved
 loop-step-preserved c = (

@@ -3,7 +3,7 @@ use Rattle.gathered_stats.specs.declared.rests.RestList.{RestList}
 use Rattle.gathered_stats.specs.ShownCells.{shown_cells}
 use Rattle.gathered_stats.specs.Rests.{is_kept}
 use Rattle.gathered_stats.proofs.Asking.{as_high}
-use Rattle.gathered_stats.proofs.Kept.{one_kept}
+use Rattle.gathered_stats.proofs.RestLists.{one_kept}
 use Rattle.gathered_stats.proofs.entry_table.EntryTable.rest_of.Goals as goal
 
 pub rest-requires : goal.rest-requires

@@ -5,7 +5,7 @@ use Rattle.berge_tree.specs.declared.edges.Edge.{Edge}
 use Rattle.bound_fold.specs.Lists.{bounds_of}
 use Rattle.bound_fold.specs.Sets.{HaveLists}
 use Rattle.set_bounds.specs.AllSets.{bound_in_128_bits}
-use Rattle.key_bounds.specs.InSets.{CarriesLists, known_by_keys}
+use Rattle.key_bounds.specs.InSets.{CarriesLists, bounds_with_carried}
 use Rattle.key_bounds.proofs.Made.{none_known, set_listed, told_same}
 use Rattle.key_bounds.proofs.in_sets.KeyListsKnownInSets.folded.Goals as goal
 
@@ -14,13 +14,13 @@ lists_in-requires-clause-carried c = subst (λ (es : List Edge). All (CarriesLis
 
 pub folded_bound-requires-clause-listed : goal.folded_bound-requires-clause-listed
 folded_bound-requires-clause-listed c =
-    set_listed (known_by_keys c.args.self.now c.args.subset) c.args.self.now.count c.in_ok-lists.lists c.in_ok-lists.ensures.part (none_known c.args.self.now c.args.subset)
+    set_listed (bounds_with_carried c.args.self.now c.args.subset) c.args.self.now.count c.in_ok-lists.lists c.in_ok-lists.ensures.part (none_known c.args.self.now c.args.subset)
     c.args.parts.now.equalities (subst (λ (es : List Edge). All (HaveLists c.in_ok-lists.lists) es) c.as_slice.ensures c.in_ok-lists.ensures.lists) c.args.subset c.requires.listed.fits
 
 pub returns : goal.returns
 returns c =
     IfOk-weaker c.folded_bound.result (λ n. n ≡ bound_in_128_bits (bounds_of c.in_ok-lists.lists) c.args.parts.now.equalities c.args.subset)
-    (λ n. n ≡ bound_in_128_bits (known_by_keys c.args.self.now c.args.subset) c.args.parts.now.equalities c.args.subset)
-    (λ n is. is ∙ told_same (known_by_keys c.args.self.now c.args.subset) c.args.self.now.count c.in_ok-lists.lists c.in_ok-lists.ensures.part (none_known c.args.self.now c.args.subset)
+    (λ n. n ≡ bound_in_128_bits (bounds_with_carried c.args.self.now c.args.subset) c.args.parts.now.equalities c.args.subset)
+    (λ n is. is ∙ told_same (bounds_with_carried c.args.self.now c.args.subset) c.args.self.now.count c.in_ok-lists.lists c.in_ok-lists.ensures.part (none_known c.args.self.now c.args.subset)
     c.args.parts.now.equalities (subst (λ (es : List Edge). All (HaveLists c.in_ok-lists.lists) es) c.as_slice.ensures c.in_ok-lists.ensures.lists) c.args.subset c.requires.listed.fits)
     c.folded_bound.ensures

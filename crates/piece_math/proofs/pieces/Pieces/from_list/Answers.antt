@@ -1,8 +1,17 @@
-use Rattle.std.proofs.Common.{◌≤◌, get_or, sym, subst}
+use Rattle.std.proofs.Common.{◌≤◌, get_or, take, sym, subst}
 use Rattle.std.specs.List.{All}
 use Rattle.piece_math.proofs.Falling.{at_least_next}
+use Rattle.piece_math.proofs.FallingRuns.{one_run_more}
 use Rattle.piece_math.proofs.pieces.Pieces.from_list.Goals as goal
 
 pub push_run-requires-clause-falls : goal.push_run-requires-clause-falls
 push_run-requires-clause-falls c =
-    rw c.from.ensures (subst (All (λ x. get_or c.args.list.now c.loop-x.x-index 0 ≤ x)) (sym c.loop-x.invariant) (at_least_next c.args.list.now c.requires.falls c.loop-x.x-index))
+    let above : All (λ x. get_or c.args.list.now c.runs.start 0 ≤ x) (take c.runs.start c.args.list.now) = at_least_next c.args.list.now c.requires.falls c.runs.start in
+    rw c.from.ensures (subst (All (λ x. get_or c.args.list.now c.runs.start 0 ≤ x)) (sym c.runs.invariant.so_far) above)
+
+pub runs-preserved : goal.runs-preserved
+runs-preserved c = record {
+  within = c.run_length-count.ensures.within;
+  so_far = one_run_more c.args.list.now c.runs.pieces c.push_run.new.self c.runs.start c.run_length-count.result c.from.result c.run_length-count.ensures.within
+      c.run_length-count.ensures.equal (c.requires.positive c.runs.start 0 c.runs-test.true) c.runs.invariant.so_far c.from.ensures c.in_ok-push_run.ensures.ok;
+}

@@ -7,7 +7,7 @@ use Rattle.piece_math.proofs.Expansion.{runs-expanded, IsDescending-expanded, po
 use Rattle.piece_math.proofs.pieces.Pieces.pieces.Goals as goal
 
 pub returns-clause-one_per_run : goal.returns-clause-one_per_run
-returns-clause-one_per_run c = rw (c.as_slice.ensures, ← c.self.view_is) (runs-expanded c.self.inside.parts.items c.self.invariant.falls)
+returns-clause-one_per_run c = rw (c.as_slice.ensures.value, ← c.self.view_is) (runs-expanded c.self.inside.parts.items c.self.invariant.falls)
 
 pub returns-clause-list_falls : goal.returns-clause-list_falls
 returns-clause-list_falls c = subst IsDescending c.self.view_is (IsDescending-expanded c.self.inside.parts.items c.self.invariant.falls)

@@ -2,19 +2,19 @@ use Rattle.std.proofs.Common.{All, rules, refl, ap, sym, subst, ◌∙◌}
 use Rattle.std.proofs.lemmas.Result.{err_from_is_err_and}
 use Rattle.std.specs.List.{flat_map}
 use Rattle.sql_tokens.specs.Words.{IsLexemeOf}
-use Rattle.query_grammar.specs.Lexemes.{IsCondOf}
+use Rattle.query_grammar.specs.Lexemes.{IsCondWith}
 use Rattle.query_grammar.specs.declared.tree.CondNode.TheViews.{the_lemmas}
 use Rattle.query_names.specs.Scopes.{tests}
 use Rattle.query_names.specs.Answers.{IsNameError}
 use Rattle.query_names.specs.Binding.{test_offences_of, members_by}
 use Rattle.query_names.proofs.Meanings.{tokens_of_and, tokens_of_test, members_and, members_test, if_ok_map}
-use Rattle.query_names.proofs.CheckSteps.{looked_of_equal, looked_all, wrong_in}
-use Rattle.query_names.proofs.CondFacts.{of_and, looked_at, wrong_at, one_test, one_member}
+use Rattle.query_names.proofs.CheckSteps.{checked_of_equal, checked_all, wrong_in}
+use Rattle.query_names.proofs.CondFacts.{of_and, checked_at, wrong_at, one_test, one_member}
 use Rattle.query_names.proofs.binder.Binder.+add_members.Goals as goal
 
 pub add_members-requires : goal.add_members-requires
 add_members-requires t c =
-    let told : All (IsCondOf (IsLexemeOf c.args.self.now.text.now)) c.as_slice-member-items.result.now =
+    let told : All (IsCondWith (IsLexemeOf c.args.self.now.text.now)) c.as_slice-member-items.result.now =
     tokens_of_and (IsLexemeOf c.args.self.now.text.now) c.args.condition.now c.in-And.members c.as_slice-member-items.result.now c.in-And.is c.as_slice-member-items.ensures c.requires.tokens in
     search (rules, the_lemmas, told)
 
@@ -31,9 +31,9 @@ returns-in_err-add_members-in-And-clause-err t c =
 
 pub returns-after-all-clause-ok : goal.returns-after-all-clause-ok
 returns-after-all-clause-ok t c =
-    looked_at c.args.self.now c.args.visible.now.scope (of_and c.in-And.is c.as_slice-member-items.ensures)
-    (looked_of_equal refl refl refl (λ _. ap (flat_map (members_by c.args.self.now c.args.visible.now.scope)) c.as_slice-member-items.ensures ∙ sym (ap (members_by c.args.self.now c.args.visible.now.scope) c.in-And.is ∙ members_and c.args.self.now c.args.visible.now.scope c.in-And.members))
-    (looked_all c.args.self.now c.args.visible.now.scope c.as_slice-member-items.result.now (flat_map (members_by c.args.self.now c.args.visible.now.scope)) c.all-test.false c.all.invariant))
+    checked_at c.args.self.now c.args.visible.now.scope (of_and c.in-And.is c.as_slice-member-items.ensures)
+    (checked_of_equal refl refl refl (λ _. ap (flat_map (members_by c.args.self.now c.args.visible.now.scope)) c.as_slice-member-items.ensures ∙ sym (ap (members_by c.args.self.now c.args.visible.now.scope) c.in-And.is ∙ members_and c.args.self.now c.args.visible.now.scope c.in-And.members))
+    (checked_all c.args.self.now c.args.visible.now.scope c.as_slice-member-items.result.now (flat_map (members_by c.args.self.now c.args.visible.now.scope)) c.all-test.false c.all.invariant))
 
 pub returns-in-Test-clause-ok : goal.returns-in-Test-clause-ok
 returns-in-Test-clause-ok t c =
@@ -42,4 +42,4 @@ returns-in-Test-clause-ok t c =
 
 pub returns-in-Or-clause-ok : goal.returns-in-Or-clause-ok
 returns-in-Or-clause-ok t c =
-    if_ok_map _ _ c.add_value.result c.add_value.ensures.ok (λ _ l. looked_of_equal refl refl refl (λ _. one_member c.args.self.now c.args.visible.now.scope c.in-Or.is) l)
+    if_ok_map _ _ c.add_value.result c.add_value.ensures.ok (λ _ l. checked_of_equal refl refl refl (λ _. one_member c.args.self.now c.args.visible.now.scope c.in-Or.is) l)

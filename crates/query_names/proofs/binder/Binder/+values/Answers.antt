@@ -7,29 +7,29 @@ use Rattle.sql_tokens.specs.Words.{IsLexemeOf}
 use Rattle.query_names.specs.Scopes.{tests}
 use Rattle.query_names.specs.Answers.{IsNameError}
 use Rattle.query_names.specs.Binding.{test_offences_of, value_by}
-use Rattle.query_grammar.specs.Lexemes.{IsCondOf}
+use Rattle.query_grammar.specs.Lexemes.{IsCondWith}
 use Rattle.query_grammar.specs.declared.tree.CondNode.TheViews.{the_lemmas}
 use Rattle.query_names.proofs.Meanings.{tokens_of_and, tokens_of_or, tokens_of_not, tokens_of_test, one_of, if_ok_map, value_test}
 use Rattle.query_names.proofs.CheckSteps.{wrong_in}
-use Rattle.query_names.proofs.CondFacts.{of_and, of_or, wrong_at, one_test, and_looked, or_looked, not_looked, not_empty}
+use Rattle.query_names.proofs.CondFacts.{of_and, of_or, wrong_at, one_test, and_checked, or_checked, not_checked, not_empty}
 use Rattle.query_names.proofs.binder.Binder.+values.Goals as goal
 use Rattle.query_names.proofs.binder.Binder.+values.Goals.{add_value-in-Some+in_ok-new-in-Not+in_ok-push-in-Not, add_value-in_default}
 
 pub add_value-values-requires : goal.add_value-values-requires
 add_value-values-requires t c =
-    let told : All (IsCondOf (IsLexemeOf c.args.self.now.text.now)) c.as_slice.result.now =
+    let told : All (IsCondWith (IsLexemeOf c.args.self.now.text.now)) c.as_slice.result.now =
     tokens_of_and (IsLexemeOf c.args.self.now.text.now) c.args.condition.now c.in-And.members c.as_slice.result.now c.in-And.is c.as_slice.ensures c.requires.tokens in
     search (rules, the_lemmas, told)
 
 pub add_value-values-requires-in-Or : goal.add_value-values-requires-in-Or
 add_value-values-requires-in-Or t c =
-    let told : All (IsCondOf (IsLexemeOf c.args.self.now.text.now)) c.as_slice-in-Or.result.now =
+    let told : All (IsCondWith (IsLexemeOf c.args.self.now.text.now)) c.as_slice-in-Or.result.now =
     tokens_of_or (IsLexemeOf c.args.self.now.text.now) c.args.condition.now c.in-Or.members c.as_slice-in-Or.result.now c.in-Or.is c.as_slice-in-Or.ensures c.requires.tokens in
     search (rules, the_lemmas, told)
 
 pub add_value-add_value-requires : goal.add_value-add_value-requires
 add_value-add_value-requires t c =
-    let told : IsCondOf (IsLexemeOf c.args.self.now.text.now) c.get.result.now =
+    let told : IsCondWith (IsLexemeOf c.args.self.now.text.now) c.get.result.now =
     tokens_of_not (IsLexemeOf c.args.self.now.text.now) c.args.condition.now c.in-Not.member c.get.result.now c.in-Not.is c.get.ensures c.requires.tokens in
     search (rules, the_lemmas, told)
 
@@ -55,31 +55,31 @@ add_value-returns-in_err-parts-in-Or-clause-err t c =
 
 pub add_value-returns-in_ok-push-in-And-clause-ok : goal.add_value-returns-in_ok-push-in-And-clause-ok
 add_value-returns-in_ok-push-in-And-clause-ok t c =
-    and_looked c.args.self.now c.args.visible.now.scope c.in-And.members c.in-And.is c.as_slice.ensures c.in_ok-parts-in-And.ensures.ok (λ _ _. c.in_ok-push-in-And.ensures.ok)
+    and_checked c.args.self.now c.args.visible.now.scope c.in-And.members c.in-And.is c.as_slice.ensures c.in_ok-parts-in-And.ensures.ok (λ _ _. c.in_ok-push-in-And.ensures.ok)
 
 pub add_value-returns-else-builds-clause-ok : goal.add_value-returns-else-builds-clause-ok
 add_value-returns-else-builds-clause-ok t c =
-    and_looked c.args.self.now c.args.visible.now.scope c.in-And.members c.in-And.is c.as_slice.ensures c.in_ok-parts-in-And.ensures.ok
+    and_checked c.args.self.now c.args.visible.now.scope c.in-And.members c.in-And.is c.as_slice.ensures c.in_ok-parts-in-And.ensures.ok
     (λ few none. absurd (false≢true (sym c.if-builds.false ∙ c.builds.ensures.within few none)))
 
 pub add_value-returns-in_ok-push-in-Or-clause-ok : goal.add_value-returns-in_ok-push-in-Or-clause-ok
 add_value-returns-in_ok-push-in-Or-clause-ok t c =
-    or_looked c.args.self.now c.args.visible.now.scope c.in-Or.members c.in-Or.is c.as_slice-in-Or.ensures c.in_ok-parts-in-Or.ensures.ok (λ _ _. c.in_ok-push-in-Or.ensures.ok)
+    or_checked c.args.self.now c.args.visible.now.scope c.in-Or.members c.in-Or.is c.as_slice-in-Or.ensures c.in_ok-parts-in-Or.ensures.ok (λ _ _. c.in_ok-push-in-Or.ensures.ok)
 
 pub add_value-returns-else-builds-2-clause-ok : goal.add_value-returns-else-builds-2-clause-ok
 add_value-returns-else-builds-2-clause-ok t c =
-    or_looked c.args.self.now c.args.visible.now.scope c.in-Or.members c.in-Or.is c.as_slice-in-Or.ensures c.in_ok-parts-in-Or.ensures.ok
+    or_checked c.args.self.now c.args.visible.now.scope c.in-Or.members c.in-Or.is c.as_slice-in-Or.ensures c.in_ok-parts-in-Or.ensures.ok
     (λ few none. absurd (false≢true (sym c.if-builds-2.false ∙ c.builds-in-Or.ensures.within few none)))
 
 pub add_value-returns-after-pop-clause-ok : goal.add_value-returns-after-pop-clause-ok
 add_value-returns-after-pop-clause-ok t c =
     elim c.match-pop.branch [
       | add_value-in-Some+in_ok-new-in-Not+in_ok-push-in-Not w ↦
-          not_looked c.args.self.now c.args.visible.now.scope c.in-Not.member c.in-Not.is c.get.ensures c.new-parts.ensures c.in_ok-add_value-in-Not.ensures.ok (λ one is.
+          not_checked c.args.self.now c.args.visible.now.scope c.in-Not.member c.in-Not.is c.get.ensures c.new-parts.ensures c.in_ok-add_value-in-Not.ensures.ok (λ one is.
           w.found-is ∙ w.in_ok-push-in-Not.ensures.ok
           ∙ ap (λ part. c.args.found.now ++ cond.Not part ∷ []) (w.in_ok-new-in-Not.ensures ∙ one_of (one ∷ []) c.pop.new.self w.in-Some.part refl (sym is ∙ w.in-Some.ensures)))
       | add_value-in_default w ↦
-          not_looked c.args.self.now c.args.visible.now.scope c.in-Not.member c.in-Not.is c.get.ensures c.new-parts.ensures c.in_ok-add_value-in-Not.ensures.ok
+          not_checked c.args.self.now c.args.visible.now.scope c.in-Not.member c.in-Not.is c.get.ensures c.new-parts.ensures c.in_ok-add_value-in-Not.ensures.ok
           (λ one is. absurd (not_empty one w.in_default.ensures.0 is))
     ]
 

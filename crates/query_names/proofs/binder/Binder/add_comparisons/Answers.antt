@@ -1,7 +1,7 @@
 use Rattle.std.proofs.Common.{[], ◌∷◌, ap}
 use Rattle.std.proofs.lemmas.Result.{err_from_is_err_and}
 use Rattle.query_names.specs.Offences.{others_of}
-use Rattle.query_names.proofs.BoundFacts.{wrong_left, wrong_other, wrong_second, compare_looked, between_looked, in_looked}
+use Rattle.query_names.proofs.BoundFacts.{wrong_left, wrong_other, wrong_second, compare_checked, between_checked, in_checked}
 use Rattle.query_names.proofs.binder.Binder.add_comparisons.Goals as goal
 
 pub returns-in_err-left-clause-err : goal.returns-in_err-left-clause-err
@@ -29,13 +29,13 @@ returns-in_err-high-in-Between-clause-err c =
 
 pub returns-in-Compare-clause-ok : goal.returns-in-Compare-clause-ok
 returns-in-Compare-clause-ok c =
-    compare_looked c.in-Compare.op c.in-Compare.is c.left_of.ensures c.in_ok-left.ensures.ok c.in_ok-right-in-Compare.ensures.ok c.in_ok-compare-in-Compare.ensures
+    compare_checked c.in-Compare.op c.in-Compare.is c.left_of.ensures c.in_ok-left.ensures.ok c.in_ok-right-in-Compare.ensures.ok c.in_ok-compare-in-Compare.ensures
 
 pub returns-in-Between-clause-ok : goal.returns-in-Between-clause-ok
 returns-in-Between-clause-ok c =
-    between_looked c.in-Between.negated c.in-Between.is c.left_of.ensures c.in_ok-left.ensures.ok c.in_ok-low-in-Between.ensures.ok c.in_ok-high-in-Between.ensures.ok
+    between_checked c.in-Between.negated c.in-Between.is c.left_of.ensures c.in_ok-left.ensures.ok c.in_ok-low-in-Between.ensures.ok c.in_ok-high-in-Between.ensures.ok
     c.in_ok-compare-in-Between.ensures c.in_ok-compare-in-Between-2.ensures
 
 pub returns-clause-ok : goal.returns-clause-ok
 returns-clause-ok c =
-    in_looked c.in-In.negated c.in-In.is c.as_slice.ensures c.left_of.ensures c.in_ok-left.ensures.ok c.note_list.ensures.list c.note_list.ensures.kind c.in_ok-add_equalities-in-In.ensures
+    in_checked c.in-In.negated c.in-In.is c.as_slice.ensures c.left_of.ensures c.in_ok-left.ensures.ok c.note_list.ensures.list c.note_list.ensures.kind c.in_ok-add_equalities-in-In.ensures

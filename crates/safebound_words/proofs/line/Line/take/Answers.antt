@@ -1,17 +1,17 @@
 use Rattle.safebound_words.proofs.Steps.{anyway, behind_refused, after_dashes_step, value_refused, value_step}
 use Rattle.safebound_words.proofs.line.Line.take.Goals as goal
 
-pub returns-in_ok-add_place-in-Positional-clause-ok : goal.returns-in_ok-add_place-in-Positional-clause-ok
-returns-in_ok-add_place-in-Positional-clause-ok c =
+pub returns-in_ok-add_positional-in-Positional-clause-ok : goal.returns-in_ok-add_positional-in-Positional-clause-ok
+returns-in_ok-add_positional-in-Positional-clause-ok c =
     let next = c.in-Positional.is in
-    rw next (after_dashes_step c.args.name c.add_place.new.self c.args.self.now c.args.word.now
-    c.in_ok-add_place-in-Positional.ensures.ok
-    (record { values = c.in_ok-add_place-in-Positional.ensures.given; times = c.in_ok-add_place-in-Positional.ensures.times }))
+    rw next (after_dashes_step c.args.name c.add_positional.new.self c.args.self.now c.args.word.now
+    c.in_ok-add_positional-in-Positional.ensures.ok
+    (record { values = c.in_ok-add_positional-in-Positional.ensures.given; times = c.in_ok-add_positional-in-Positional.ensures.times }))
 
-pub returns-in_err-add_place-in-Positional-clause-err : goal.returns-in_err-add_place-in-Positional-clause-err
-returns-in_err-add_place-in-Positional-clause-err c =
+pub returns-in_err-add_positional-in-Positional-clause-err : goal.returns-in_err-add_positional-in-Positional-clause-err
+returns-in_err-add_positional-in-Positional-clause-err c =
     anyway c.from_residual.result
-    (let next = c.in-Positional.is in rw next (behind_refused c.args.name c.args.self.now c.args.word.now c.in_err-add_place-in-Positional.ensures.full))
+    (let next = c.in-Positional.is in rw next (behind_refused c.args.name c.args.self.now c.args.word.now c.in_err-add_positional-in-Positional.ensures.full))
 
 pub returns-in_ok-add_value-in-Value-clause-ok : goal.returns-in_ok-add_value-in-Value-clause-ok
 returns-in_ok-add_value-in-Value-clause-ok c =

@@ -4,16 +4,16 @@ use Rattle.safebound_words.proofs.line.Line.take_item.Goals as goal
 pub returns-in-End-clause-ok : goal.returns-in-End-clause-ok
 returns-in-End-clause-ok c = end_step c.args.name c.args.self.now c.args.word.now c.in-End.ensures
 
-pub returns-in_ok-add_place-in-Positional-clause-ok : goal.returns-in_ok-add_place-in-Positional-clause-ok
-returns-in_ok-add_place-in-Positional-clause-ok c =
-    place_step c.args.name c.add_place.new.self c.args.self.now c.args.word.now c.in-Positional.ensures
-    c.in_ok-add_place-in-Positional.ensures.ok
-    (record { values = c.in_ok-add_place-in-Positional.ensures.given; times = c.in_ok-add_place-in-Positional.ensures.times })
+pub returns-in_ok-add_positional-in-Positional-clause-ok : goal.returns-in_ok-add_positional-in-Positional-clause-ok
+returns-in_ok-add_positional-in-Positional-clause-ok c =
+    place_step c.args.name c.add_positional.new.self c.args.self.now c.args.word.now c.in-Positional.ensures
+    c.in_ok-add_positional-in-Positional.ensures.ok
+    (record { values = c.in_ok-add_positional-in-Positional.ensures.given; times = c.in_ok-add_positional-in-Positional.ensures.times })
 
-pub returns-in_err-add_place-in-Positional-clause-err : goal.returns-in_err-add_place-in-Positional-clause-err
-returns-in_err-add_place-in-Positional-clause-err c =
+pub returns-in_err-add_positional-in-Positional-clause-err : goal.returns-in_err-add_positional-in-Positional-clause-err
+returns-in_err-add_positional-in-Positional-clause-err c =
     anyway c.from_residual.result
-    (place_refused c.args.name c.args.self.now c.args.word.now c.in-Positional.ensures c.in_err-add_place-in-Positional.ensures.full)
+    (place_refused c.args.name c.args.self.now c.args.word.now c.in-Positional.ensures c.in_err-add_positional-in-Positional.ensures.full)
 
 pub returns-in_ok-add_flag-in-Flag-clause-ok : goal.returns-in_ok-add_flag-in-Flag-clause-ok
 returns-in_ok-add_flag-in-Flag-clause-ok c =

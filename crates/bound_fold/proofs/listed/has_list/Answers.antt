@@ -1,5 +1,0 @@
-use Rattle.bound_fold.proofs.TestedSets.{copied_or_not}
-use Rattle.bound_fold.proofs.listed.has_list.Goals as goal
-
-pub returns : goal.returns
-returns c = copied_or_not c.list.result _ c.is_some.result c.list.ensures c.is_some.ensures

@@ -1,6 +1,0 @@
-use Rattle.std.proofs.Common.{◌≡◌, eqb, drop}
-use Rattle.std.specs.Prelude.{find}
-use Rattle.column_stats.proofs.stats.ColumnStats.for_equal.Given as goal
-
-abbrev pub invariant-loop-frequent : goal.invariant-loop-frequent
-invariant-loop-frequent l = find (λ found. eqb found.cell l.value) l.self.frequent ≡ find (λ found. eqb found.cell l.value) (drop l.frequent-index l.frequent-items)

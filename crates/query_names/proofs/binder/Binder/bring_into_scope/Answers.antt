@@ -1,0 +1,13 @@
+use Rattle.query_names.proofs.ScopeFacts.{pushed_shows, kept_shows}
+use Rattle.query_names.proofs.binder.Binder.bring_into_scope.Goals as goal
+use Rattle.query_names.proofs.binder.Binder.bring_into_scope.Goals.{then-count_of-lt2+in_ok-push, else-count_of-lt2}
+
+pub returns-clause-shows : goal.returns-clause-shows
+returns-clause-shows c =
+    elim c.if-count_of-lt2.branch [
+      | then-count_of-lt2+in_ok-push w ↦
+          pushed_shows c.args.self.now c.args.visible.now c.index-as_slice-number.result c.as_slice.ensures c.requires.shows c.requires.begins c.requires.ends w.visible-is w.in_ok-push.ensures.ok
+      | else-count_of-lt2 w ↦
+          kept_shows c.args.self.now c.args.visible.now c.index-as_slice-number.result _ c.as_slice.ensures c.requires.shows c.requires.begins c.requires.ends w.visible-is
+          w.if-count_of-lt2.false c.as_slice-2.ensures c.count_of.ensures
+    ]

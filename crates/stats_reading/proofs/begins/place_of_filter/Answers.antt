@@ -1,7 +1,0 @@
-use Rattle.std.proofs.Common.{◌∙◌, length, sym}
-use Rattle.stats_reading.proofs.Ascending.{filled, no_place}
-use Rattle.stats_reading.proofs.begins.place_of_filter.Goals as goal
-
-pub returns-else-pairs-last : goal.returns-else-pairs-last
-returns-else-pairs-last c =
-    no_place c.args.pairs.now c.args.filter c.index-pairs-last.result (filled (length c.args.pairs.now) (sym c.is_empty.ensures ∙ c.if-is_empty.false)) c.requires.ascend c.requires.none_later c.if-pairs-last.false
